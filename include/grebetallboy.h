@@ -2,11 +2,12 @@
  *
  * A call has no requirement but that each pointer has so many elements behind it as its count says, that no two tables of a call
  * overlap, and that there is stack enough. It answers 0 where it accepts, else the number that README.md explains, and tells its
- * numbers in `counts`, which has room for three (a shorter table is left alone). Document 01 says what each table holds afterwards.
+ * numbers in `counts`, which has room for three (a shorter table is left alone). Document 01 says what each table holds afterwards,
+ * and for comparing docs/DECISIONS.md does.
  *
  * Stack: what a call takes at most is given below, by what it is lent. Reading and expanding take less than 8 MiB for every input;
- * writing takes as much as its words are many, since each may open a part of the term inside the one before: 32,000 words may take
- * 8 MiB. A call with less stack than it takes overruns it. docs/BENCHMARKS.md has what the deepest inputs take.
+ * writing and comparing take as much as their words are many, since each may open a part of the term inside the one before: 32,000
+ * words may take 8 MiB. A call with less stack than it takes overruns it. docs/BENCHMARKS.md has what the deepest inputs take.
  */
 #ifndef GREBETALLBOY_H
 #define GREBETALLBOY_H
@@ -18,7 +19,7 @@
 extern "C" {
 #endif
 
-/* What to lend for reading: words of the item table, bytes of the name table. */
+/* What to lend for reading, and for the text of a comparison: words of the item table, bytes of the name table. */
 #define GREBETALLBOY_ITEM_WORDS 12288
 #define GREBETALLBOY_NAME_BYTES 65536
 
@@ -30,10 +31,11 @@ extern "C" {
 #define GREBETALLBOY_TEXT_BYTES(words) (57 * (size_t)(words))
 
 /* Bytes of stack that a call takes at most: reading; expanding so many items (at most 4,096) with so much fuel (at most 8,192);
- * writing so many words. */
+ * writing so many words; comparing a text with so many words. */
 #define GREBETALLBOY_READ_STACK ((size_t)16384)
 #define GREBETALLBOY_EXPAND_STACK(items, fuel) (262144 + 512 * ((size_t)(items) + (size_t)(fuel)))
 #define GREBETALLBOY_WRITE_STACK(words) (49152 + 256 * (size_t)(words))
+#define GREBETALLBOY_COMPARE_STACK(words) (131072 + 256 * (size_t)(words))
 
 /* Reads a recipe text of at most 65,535 bytes. Accepted: counts has the items (three words each) and the names, then 0.
  * An item's first word is its kind: 0 empty list, 1 integer, 2 boolean, 3 name, 4 pair, 5 decimal (its value without the dot, and
@@ -54,6 +56,15 @@ uint32_t grebetallboy_expand(const uint32_t *items, size_t items_count, uint32_t
  * where a term has more than 6,144 variables, each of its names is looked for in the words, and the time is no longer linear. Accepted: counts has its length, then 0, 0. */
 uint32_t grebetallboy_write(const uint32_t *words, size_t words_count, uint32_t operations, const uint8_t *names,
                             size_t names_count, uint8_t *out, size_t out_count, uint64_t *counts, size_t counts_count);
+
+/* Holds a supplier's text, one element, against a core term: whether it is that term up to the choice of bound names, other names by
+ * spelling. Items and names are those of the recipe whose term the words are; operations are spelled out in the text. The text is read
+ * into two tables of its own, as a recipe is. Accepted: counts has 1 for yes, 0 for no, then 0, 0, and the two tables the text's
+ * items and names, zeros behind them. Refused by 3 to 6, 21 or 22: both are zero; by 7, 10, 19, 1 or 2: as they were. */
+uint32_t grebetallboy_compare(const uint32_t *items, size_t items_count, const uint8_t *names, size_t names_count,
+                              const uint32_t *words, size_t words_count, const uint8_t *text, size_t text_count,
+                              uint32_t *text_items, size_t text_items_count, uint8_t *text_names, size_t text_names_count,
+                              uint64_t *counts, size_t counts_count);
 
 #ifdef __cplusplus
 }

@@ -35,7 +35,7 @@ fn size(n: u8) -> usize
 }
 
 // A name below 1,024, whose slot exists with length 1 to 63 where a table is lent.
-fn name_good(n: usize, names: &[u8], tabled: bool) -> bool
+pub fn name_good(n: usize, names: &[u8], tabled: bool) -> bool
     ensures { λ r. ⌜ r ≡ goodName tabled (now (names .entry)) n ⌝ }
 {
     if n >= NAMES {

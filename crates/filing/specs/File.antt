@@ -4,7 +4,7 @@ use mathlib.Core.Bool.{true}
 use mathlib.Core.List.{List, [], _∷_, _++_}
 use mathlib.Core.Option.{some}
 use Prim.Native.Nat.{ℕ, _+_, _≤_, _<_}
-use lib.ListN.{length, drop}
+use lib.ListN.{length}
 use Rattle.words.specs.Limits.{operationsMost}
 use Rattle.datum.specs.NameTable.{hasName}
 use Rattle.core_term.specs.Check.{termOf}
@@ -23,11 +23,6 @@ pub record Accepted (words names : List ℕ) (steps sum : ℕ) : Type 0 where
   pub term : List ℕ
   pub written : textOf words operationsMost names ≡ some term
   pub whole : acceptance names steps sum (termOf operationsMost (hasName names) words) ≡ header steps sum ++ (term ++ (10 ∷ []))
-
--- what is to be printed stands at the beginning of the output, before what was there
-pub record Printed (x out out′ : List ℕ) (n : ℕ) : Type 0 where
-  pub size : n ≡ length x
-  pub bytes : out′ ≡ x ++ drop (length x) out
 
 -- bytes that hold any output of the filing program
 abbrev pub outputMost : ℕ

@@ -4,7 +4,7 @@ use mathlib.Core.List.{List, [], _∷_, _++_}
 use mathlib.Core.Option.{Option, none, some}
 use Prim.Native.Nat.{ℕ, _≤_, _<_}
 use native.Mathlib.Omega.{arith}
-use lib.ListN.{length, drop, length-append}
+use lib.ListN.{length, length-append}
 use Rattle.words.specs.Limits.{itemWordsLeast, nameBytesLeast, operationsMost, filingFuel, filingWork, filingCore}
 use Rattle.datum.specs.NameTable.{nameAt, hasName}
 use Rattle.reading.specs.Elements.{Answer, got, refusedFor}
@@ -24,8 +24,8 @@ use Rattle.writer.specs.declared.Writing.{Writing}
 use Rattle.writer.specs.declared.Writing.the-variants.{Written, NoTerm, NoRoom}
 use Rattle.writer.specs.Wrote.{Wrote}
 use Rattle.writer.specs.WroteLaws.{written-is, no-room-is, not-no-term}
-use Rattle.filing.specs.File.{Printed, outputMost}
-use Rattle.filing.specs.RunLaws.{front}
+use Rattle.program_laws.specs.Printed.{Printed}
+use Rattle.filing.specs.File.{outputMost}
 use Rattle.filing.specs.Lines.{countsText, refusal-laid, header-laid}
 
 -- ---- lines
@@ -121,6 +121,3 @@ module _ (txt out out′ : List ℕ) (r : Writing) (items names work core : ℕ)
 
   pub output-fits : r ≡ NoRoom → ⊥
   output-fits e = omega (arith, fits, no-room-is whole out out′ (subst (Wrote (some whole) out out′) e told) .0)
-
-pub printed-within : {x out out′ : List ℕ} {n : ℕ} → Printed x out out′ n → n ≤ length out′
-printed-within {x} {out} {out′} {n} p = front x (drop (length x) out) out′ n (p .bytes) (p .size) .0

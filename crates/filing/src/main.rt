@@ -3,7 +3,8 @@ ghost use Prim.Native.Nat.{_≤_};
 ghost use lib.ListN.{length};
 ghost use Rattle.words.specs.Limits.{filingFuel};
 ghost use Rattle.output.specs.Output.{output};
-ghost use Rattle.filing.specs.File.{outputMost, Printed};
+ghost use Rattle.program_laws.specs.Printed.{Printed};
+ghost use Rattle.filing.specs.File.{outputMost};
 
 mod file; // the whole output of a text, in lent tables
 mod lines; // the line that opens it

@@ -6,7 +6,8 @@ use Prim.Native.Nat.{ℕ, _≤_, _<_}
 use native.Mathlib.Omega.{arith}
 use lib.ListN.{length, set}
 use borrow.Author.Tests.{lt-ltb, le-ltb}
-use Rattle.reading.specs.Read.{Numbers, read, readNumbers, itemsAfter, namesAfter}
+use Rattle.reading.specs.Elements.{Answer}
+use Rattle.reading.specs.Read.{Recipe, Numbers, readNumbers, itemsAfter, namesAfter}
 use Rattle.reader.specs.declared.Reading.{Reading}
 use Rattle.reader.specs.Served as R
 use Rattle.writer.specs.declared.Writing.{Writing}
@@ -15,7 +16,10 @@ use Rattle.writer.specs.Wrote.{Wrote}
 use Rattle.expansion.specs.Run.{run}
 use Rattle.expander.specs.declared.Expansion.{Expansion}
 use Rattle.expander.specs.Service as E
-use Rattle.grebetallboy.specs.Calls.{told, tellsRead, tellsRun}
+use Rattle.comparison.specs.Compare.{Verdict, itemsLeft, namesLeft}
+use Rattle.supplier.specs.declared.Comparison.{Comparison}
+use Rattle.supplier.specs.Service as C
+use Rattle.grebetallboy.specs.Calls.{told, tellsRead, tellsRun, tellsVerdict, verdictGround}
 
 module _ (a b c : ℕ) where
   pub told-short : (t : List ℕ) → length t < 3 → t ≡ told a b c t
@@ -30,12 +34,9 @@ module _ (a b c : ℕ) where
   told-long (x ∷ y ∷ z ∷ t) h = rw (le-ltb (length (x ∷ y ∷ z ∷ t)) 3 h)
 
 -- reading: ground, both tables, counts; q is the answer as it was taken apart
-module _ {text words words′ bytes bytes′ counts′ : List ℕ} {r q : Reading} (counts : List ℕ) where
-  pub read-told : R.Served text words words′ bytes bytes′ r → r ≡ q → counts′ ≡ tellsRead (R.numbersOf q) counts
-      → ((R.numbersOf q) .ground ≡ (readNumbers (read text (length words) (length bytes))) .ground)
-      × (words′ ≡ itemsAfter (read text (length words) (length bytes)) words)
-      × (bytes′ ≡ namesAfter (read text (length words) (length bytes)) bytes)
-      × (counts′ ≡ tellsRead (readNumbers (read text (length words) (length bytes))) counts)
+module _ {a : Answer Recipe} {words words′ bytes bytes′ counts′ : List ℕ} {r q : Reading} (counts : List ℕ) where
+  pub read-told : R.Gives a words words′ bytes bytes′ r → r ≡ q → counts′ ≡ tellsRead (R.numbersOf q) counts
+      → ((R.numbersOf q) .ground ≡ (readNumbers a) .ground) × (words′ ≡ itemsAfter a words) × (bytes′ ≡ namesAfter a bytes) × (counts′ ≡ tellsRead (readNumbers a) counts)
   read-told served e told-counts =
       let numbers = ap R.numbersOf (sym e) ∙ served .numbers in
       (ap (λ (n : Numbers). n .ground) numbers, served .items, served .names, told-counts ∙ ap (λ n. tellsRead n counts) numbers)
@@ -55,3 +56,11 @@ module _ {items work work′ core core′ counts′ : List ℕ} {fuel : ℕ} {r 
 module _ {x : Option (List ℕ)} {out out′ counts′ : List ℕ} {r q : Writing} (counts : List ℕ) where
   pub write-told : Wrote x out out′ r → r ≡ q → counts′ ≡ told (W.lengthOf q) 0 0 counts → (W.groundOf q ≡ W.ground out x) × (out′ ≡ W.after out x) × (counts′ ≡ told (W.size out x) 0 0 counts)
   write-told wrote e told-counts = (ap W.groundOf (sym e) ∙ wrote .number, wrote .left, told-counts ∙ ap (λ n. told n 0 0 counts) (ap W.lengthOf (sym e) ∙ wrote .value))
+
+-- comparing: ground, the text's two tables, answer
+module _ {v : Verdict} {a : Answer Recipe} {words words′ bytes bytes′ counts′ : List ℕ} {r q : Comparison} (counts : List ℕ) where
+  pub compare-told : C.Gives v a words words′ bytes bytes′ r → r ≡ q → counts′ ≡ tellsVerdict (C.verdictOf q) counts
+      → (verdictGround (C.verdictOf q) ≡ verdictGround v) × (words′ ≡ itemsLeft v a words) × (bytes′ ≡ namesLeft v a bytes) × (counts′ ≡ tellsVerdict v counts)
+  compare-told served e told-counts =
+      let verdict = ap C.verdictOf (sym e) ∙ served .verdict in
+      (ap verdictGround verdict, served .items, served .names, told-counts ∙ ap (λ w. tellsVerdict w counts) verdict)

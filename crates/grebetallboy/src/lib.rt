@@ -1,15 +1,18 @@
-// The services for C and Rust. Each call answers document 01's ground, 0 where it accepts, and tells its numbers in a lent table.
+// The services for C and Rust. Each call answers the ground of documents 01 and 02, 0 where it accepts, and tells its numbers in a lent
+// table.
 // No call has a requirement: it tests what it is lent. A slice passes as a pointer and a count of elements.
 
 ghost use mathlib.Core.Path.{_≡_};
 ghost use lib.ListN.{length};
-ghost use Rattle.reading.specs.Read.{read, readNumbers, itemsAfter, namesAfter};
+ghost use Rattle.reading.specs.Read.{read, readElements, readNumbers, itemsAfter, namesAfter};
 ghost use Rattle.writer.specs.Writing.{textOf, ground, size, after};
 ghost use Rattle.expansion.specs.Run.{run};
 ghost use Rattle.expander.specs.Service.{runNumbers, coreAfter, workAfter};
-ghost use Rattle.grebetallboy.specs.Calls.{told, tellsRead, tellsRun};
+ghost use Rattle.comparison.specs.Compare.{compare, itemsLeft, namesLeft};
+ghost use Rattle.grebetallboy.specs.Calls.{told, tellsRead, tellsRun, tellsVerdict, verdictGround};
 use expander::Expansion;
 use reader::Reading;
+use supplier::Comparison;
 use writer::Writing;
 
 // Three numbers, where the table has three words for them.
@@ -108,6 +111,38 @@ pub extern "C" fn grebetallboy_write(
         Writing::NoRoom => {
             tell(counts, 0, 0, 0);
             20
+        }
+    }
+}
+
+// Comparing: counts has 1 for yes and 0 for no, then 0 and 0.
+#[no_mangle]
+pub extern "C" fn grebetallboy_compare(
+    items: &[u32],
+    names: &[u8],
+    words: &[u32],
+    text: &[u8],
+    text_items: &mut [u32],
+    text_names: &mut [u8],
+    counts: &mut [u64],
+) -> u32
+    ensures { λ r. ⌜ (r ≡ verdictGround (compare (now (items .entry)) (now (names .entry)) (now (words .entry)) (now (text .entry)) (length (now («text_items» .entry))) (length (now («text_names» .entry)))))
+        × (now («text_items» .exit) ≡ itemsLeft (compare (now (items .entry)) (now (names .entry)) (now (words .entry)) (now (text .entry)) (length (now («text_items» .entry))) (length (now («text_names» .entry)))) (readElements 1 (now (text .entry)) (length (now («text_items» .entry))) (length (now («text_names» .entry)))) (now («text_items» .entry)))
+        × (now («text_names» .exit) ≡ namesLeft (compare (now (items .entry)) (now (names .entry)) (now (words .entry)) (now (text .entry)) (length (now («text_items» .entry))) (length (now («text_names» .entry)))) (readElements 1 (now (text .entry)) (length (now («text_items» .entry))) (length (now («text_names» .entry)))) (now («text_names» .entry)))
+        × (now (counts .exit) ≡ tellsVerdict (compare (now (items .entry)) (now (names .entry)) (now (words .entry)) (now (text .entry)) (length (now («text_items» .entry))) (length (now («text_names» .entry)))) (now (counts .entry))) ⌝ }
+{
+    match supplier::compare(items, names, words, text, text_items, text_names) {
+        Comparison::Yes => {
+            tell(counts, 1, 0, 0);
+            0
+        }
+        Comparison::No => {
+            tell(counts, 0, 0, 0);
+            0
+        }
+        Comparison::Refused(g) => {
+            tell(counts, 0, 0, 0);
+            g
         }
     }
 }

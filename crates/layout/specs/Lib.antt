@@ -7,3 +7,4 @@ pub mod Places
 pub mod Operations
 pub mod OperationItems
 pub mod Walk
+pub mod Listing

@@ -7,9 +7,9 @@ use crate::item::tail;
 ghost use mathlib.Core.Path.{_≡_};
 ghost use mathlib.Core.Bool.{true};
 ghost use mathlib.Core.List.{[]};
-ghost use Prim.Native.Nat.{_<_};
-ghost use lib.ListN.{length};
-ghost use Rattle.words.specs.Limits.{namesMost};
+ghost use Prim.Native.Nat.{_≤_, _<_};
+ghost use lib.ListN.{length, take};
+ghost use Rattle.words.specs.Limits.{namesMost, operationsMost};
 ghost use Rattle.recipe.specs.Table.{itemCount, treeOf, isLayout};
 ghost use Rattle.recipe.specs.TreeFrom.{treeFrom};
 ghost use Rattle.expansion.specs.Run.{operationNumbers, areOperations};
@@ -56,4 +56,20 @@ pub fn operations(table: &[u32], places: &mut [u16]) -> bool
         i = tail(table, i);
     }
     true
+}
+
+// The operations' numbers in the order of their places, of a table past grounds 7 and 10; how many they are.
+pub fn numbers(table: &[u32], list: &mut [u16]) -> usize
+    requires { ⌜ (isLayout (now table) ≡ true) × (areOperations (treeOf (now table)) ≡ true) × (operationsMost ≤ length (now list)) ⌝ }
+    ensures within { λ r. ⌜ r ≤ length (now (list .exit)) ⌝ }
+    ensures numbers { λ r. ⌜ take r (now (list .exit)) ≡ operationNumbers (treeOf (now (table .entry))) ⌝ }
+{
+    let mut i = head(table, 0);
+    let mut n = 0;
+    while kind(table, i) == PAIR {
+        list[n] = operation_number(table, head(table, i)) as u16;
+        n += 1;
+        i = tail(table, i);
+    }
+    n
 }

@@ -7,7 +7,7 @@ ghost use Rattle.reading.specs.Numbering.{baseNames};
 ghost use Rattle.reader.specs.Code.Index.{indexSize};
 ghost use Rattle.reader.specs.Code.Stored.{NameTable};
 ghost use Rattle.reader.specs.Code.Reached.{Ended};
-ghost use Rattle.reader.specs.Served.{Served};
+ghost use Rattle.reader.specs.Served.{ServedElements, Served};
 use crate::element::Move;
 use crate::element::advance;
 use crate::names::ENTRIES;
@@ -18,7 +18,7 @@ use words::tables::zero_bytes;
 use words::tables::zero_words;
 
 mod element; // one token after another
-mod names; // the name table and its index
+pub mod names; // the name table and its index
 mod place; // where reading stands
 
 // The answer: item and name counts, or the ground.
@@ -27,11 +27,17 @@ pub enum Reading {
     Refused(u32),
 }
 
-// All tokens, into items that are zero and names that are the eight, with their index.
-fn read_text(text: &[u8], items: &mut [u32], names: &mut [u8], index: &mut [u16]) -> Reading
+// All tokens of a text that has so many elements, into items that are zero and names that are the eight, with their index.
+fn read_text(
+    text: &[u8],
+    items: &mut [u32],
+    names: &mut [u8],
+    index: &mut [u16],
+    wanted: usize,
+) -> Reading
     requires { ⌜ (itemWordsLeast ≤ length (now items)) × (now items ≡ replicate (length (now items)) 0) ⌝ }
     requires { ⌜ NameTable baseNames (now names) (now index) ⌝ }
-    ensures { λ r. ⌜ Ended (now (text .entry)) (now (items .exit)) (now (names .exit)) r ⌝ }
+    ensures { λ r. ⌜ Ended wanted (now (text .entry)) (now (items .exit)) (now (names .exit)) r ⌝ }
 {
     let mut cursor = Cursor { at: 0 };
     let mut place = Place {
@@ -39,7 +45,7 @@ fn read_text(text: &[u8], items: &mut [u32], names: &mut [u8], index: &mut [u16]
         pair: 0,
         depth: 0,
         count: 0,
-        missing: 2,
+        missing: wanted,
         known: 8,
     };
     loop {
@@ -75,9 +81,9 @@ fn begin(items: &mut [u32], names: &mut [u8], index: &mut [u16])
     enter_base(names, index);
 }
 
-// Reads a text into an item table and a name table.
-pub fn read(text: &[u8], items: &mut [u32], names: &mut [u8]) -> Reading
-    ensures { λ r. ⌜ Served (now (text .entry)) (now (items .entry)) (now (items .exit)) (now (names .entry)) (now (names .exit)) r ⌝ }
+// Reads a text that has so many elements into an item table and a name table.
+pub fn read_elements(text: &[u8], items: &mut [u32], names: &mut [u8], wanted: usize) -> Reading
+    ensures { λ r. ⌜ ServedElements wanted (now (text .entry)) (now (items .entry)) (now (items .exit)) (now (names .entry)) (now (names .exit)) r ⌝ }
 {
     if items.len() < words::ITEM_WORDS {
         return Reading::Refused(1);
@@ -90,11 +96,18 @@ pub fn read(text: &[u8], items: &mut [u32], names: &mut [u8]) -> Reading
     }
     let mut index = [0u16; ENTRIES];
     begin(items, names, &mut index);
-    match read_text(text, items, names, &mut index) {
+    match read_text(text, items, names, &mut index, wanted) {
         Reading::Read { items: i, names: n } => Reading::Read { items: i, names: n },
         Reading::Refused(ground) => {
             clear(items, names);
             Reading::Refused(ground)
         }
     }
+}
+
+// Reads a recipe text.
+pub fn read(text: &[u8], items: &mut [u32], names: &mut [u8]) -> Reading
+    ensures { λ r. ⌜ Served (now (text .entry)) (now (items .entry)) (now (items .exit)) (now (names .entry)) (now (names .exit)) r ⌝ }
+{
+    read_elements(text, items, names, 2)
 }

@@ -1,4 +1,4 @@
--- What callers may rely on of an accepted text: N = 1 + 2 × e, at most 4,095 items, at most 1,024 names, and each name's number is its own.
+-- What callers may rely on of an accepted text, however many elements it is to have: N = 1 + 2 × e, at most 4,095 items, at most 1,024 names, and each name's number is its own.
 use mathlib.Core.Path.{_≡_, refl, sym, ap, _∙_}
 use mathlib.Core.List.{List, [], _∷_, _++_}
 use Prim.Native.Nat.{ℕ, zero, suc, _+_, _*_, _≤_, _<_}
@@ -13,7 +13,7 @@ use Rattle.words.specs.ListLaws.{either, equal-refl}
 use Rattle.datum.specs.Datum.{datumItems, dataItems}
 use Rattle.reading.specs.Numbering.{baseNames, numberOf, withName}
 use Rattle.reading.specs.Elements.{got}
-use Rattle.reading.specs.Read.{Recipe, read}
+use Rattle.reading.specs.Read.{Recipe, readElements}
 use Rattle.reading.specs.RecipeText.{
   Element,
   Elements,
@@ -28,10 +28,9 @@ use Rattle.reading.specs.RecipeText.{
   namesOfAll,
   numbered,
   numberedAll,
-  both,
-  recipe,
+  saidBy,
 }
-use Rattle.reading.specs.Accepts.{Accepted, accepted-only}
+use Rattle.reading.specs.Accepts.{AcceptedElements, accepted-elements}
 
 -- ---- items
 
@@ -119,29 +118,29 @@ own-base (suc (suc (suc (suc (suc (suc (suc (suc n)))))))) h = absurd (omega ari
 
 -- ---- accepted texts
 
-module _ (text : List ℕ) (items names : ℕ) (r : Recipe) (h : read text items names ≡ got r) where
-  accepted : Accepted text items names r
-  accepted = accepted-only text items names r h
+module _ (n : ℕ) (text : List ℕ) (items names : ℕ) (r : Recipe) (h : readElements n text items names ≡ got r) where
+  accepted : AcceptedElements n text items names r
+  accepted = accepted-elements n text items names r h
 
   -- e, inner elements included
   pub elementCount : ℕ
-  elementCount = sizeAll (both (accepted .first) (accepted .second))
+  elementCount = sizeAll (accepted .elements)
 
   pub items-are : dataItems (r .elements) ≡ 1 + 2 * elementCount
-  unfolding recipe elementCount
-  items-are = ap (λ q. dataItems (q .elements)) (accepted .same) ∙ elements-items (both (accepted .first) (accepted .second)) baseNames
+  unfolding saidBy elementCount
+  items-are = ap (λ q. dataItems (q .elements)) (accepted .same) ∙ elements-items (accepted .elements) baseNames
 
   pub items-few : dataItems (r .elements) ≤ 4095
   unfolding elementCount
-  items-few = omega (arith, items-are, accepted .isRecipe .fewElements)
+  items-few = omega (arith, items-are, accepted .has .fewElements)
 
   pub names-few : length (r .names) ≤ namesMost
-  unfolding recipe
-  names-few = rw (accepted .same) (accepted .isRecipe .fewNames)
+  unfolding saidBy
+  names-few = rw (accepted .same) (accepted .has .fewNames)
 
   pub names-own : Own (r .names)
-  unfolding recipe
-  names-own = rw (accepted .same) (own-after-all (both (accepted .first) (accepted .second)) baseNames own-base)
+  unfolding saidBy
+  names-own = rw (accepted .same) (own-after-all (accepted .elements) baseNames own-base)
 
   -- no two names are equal
   pub names-distinct : (i j : ℕ) → i < length (r .names) → j < length (r .names) → getD (r .names) i [] ≡ getD (r .names) j [] → i ≡ j

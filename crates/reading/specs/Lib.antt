@@ -11,3 +11,5 @@ pub mod RecipeText
 pub mod Laws
 pub mod Accepts
 pub mod AcceptedLaws
+pub mod CoreText
+pub mod CoreAccepts

@@ -1,5 +1,5 @@
 -- The meaning of reading: for a text and the lengths of the lent tables the answer, and what both tables hold afterwards.
--- The interface is recipeOf, read, and the functions of read's answer below it; contracts are equations with these.
+-- The interface is recipeOf, readElements, read, and the functions of the call's answer below them; contracts are equations with these.
 use mathlib.Core.Bool.{_||_, cond}
 use mathlib.Core.List.{List, map}
 use Prim.Native.Nat.{ℕ}
@@ -14,7 +14,7 @@ use Rattle.reading.specs.Meaning.{meaningOf}
 use Rattle.reading.specs.Elements.{Answer, got, refusedFor, then, Reading, start, onto, isComplete, takesAll}
 use Rattle.reading.specs.Numbering.{baseNames, dataWords}
 
--- what a recipe text says: the list of its two elements, names by number, and the names
+-- what a text says: the list of its elements, two where it is a recipe's, names by number, and the names
 pub record Recipe : Type 0 where
   pub elements : Data
   pub names : List (List ℕ)
@@ -23,23 +23,33 @@ pub record Recipe : Type 0 where
 unfoldable pub finished : Reading → Answer Recipe
 finished r = cond (isComplete r) (got (record { elements = onto (r .here) noneD; names = r .known })) (refusedFor 5)
 
--- grounds 3 to 6, over the names that have numbers before the text
-unfoldable pub recipeOver : List (List ℕ) → List ℕ → Answer Recipe
+-- grounds 3 to 6 of a text that has so many elements, over the names that have numbers before it
+unfoldable pub recipeOver : List (List ℕ) → ℕ → List ℕ → Answer Recipe
 unfolding finished tokens meaningOf then start takesAll
-recipeOver names text = then (takesAll (map meaningOf (tokens text)) (start names 2)) finished
+recipeOver names wanted text = then (takesAll (map meaningOf (tokens text)) (start names wanted)) finished
 
 -- over names 0 to 7
-unfoldable pub recipeOf : List ℕ → Answer Recipe
+unfoldable pub elementsOf : ℕ → List ℕ → Answer Recipe
 unfolding recipeOver baseNames
-recipeOf text = recipeOver baseNames text
+elementsOf wanted text = recipeOver baseNames wanted text
 
--- the call: a text and the lengths of the two lent tables
-unfoldable pub read : List ℕ → ℕ → ℕ → Answer Recipe
-unfolding recipeOf
-read text items names =
+-- a recipe text has two
+unfoldable pub recipeOf : List ℕ → Answer Recipe
+unfolding elementsOf
+recipeOf text = elementsOf 2 text
+
+-- the call: how many elements a text has, the text and the lengths of the two lent tables
+unfoldable pub readElements : ℕ → List ℕ → ℕ → ℕ → Answer Recipe
+unfolding elementsOf
+readElements wanted text items names =
     cond (ltb items itemWordsLeast || ltb names nameBytesLeast) (refusedFor 1)
     (cond (ltb textBytesMost (length text)) (refusedFor 2)
-    (recipeOf text))
+    (elementsOf wanted text))
+
+-- the call for a recipe text
+unfoldable pub read : List ℕ → ℕ → ℕ → Answer Recipe
+unfolding readElements recipeOf
+read text items names = readElements 2 text items names
 
 -- ---- the numbers of the answer
 

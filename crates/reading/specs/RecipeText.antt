@@ -1,5 +1,5 @@
--- Which texts are recipe texts, said without the reader: a text has tokens, tokens have meanings, two elements are spelled by them.
--- That reading accepts exactly these texts stands in Accepts.
+-- Which texts are recipe texts, said without the reader: a text has tokens, tokens have meanings, elements are spelled by them, and a
+-- recipe text has two. That reading accepts exactly these texts stands in Accepts.
 use mathlib.Core.Path.{_≡_}
 use mathlib.Core.Bool.{true, false}
 use mathlib.Core.List.{List, [], _∷_, _++_}
@@ -131,22 +131,33 @@ unfoldable mutual
   numberedAll noneE names = noneD
   numberedAll (moreE x xs) names = moreD (numbered x names) (numberedAll xs (namesOf x names))
 
+-- ---- texts
+
+-- the text has exactly these elements, each token allowed, within the limits
+pub record HasElements (text : List ℕ) (xs : Elements) : Type 0 where
+  pub short : length text ≤ textBytesMost
+  pub tokens : List Token
+  pub hasTokens : HasTokens text tokens
+  pub allowed : Mean tokens (spelledAll xs)
+  pub fewElements : sizeAll xs ≤ elementsMost
+  pub fewNames : length (namesOfAll xs baseNames) ≤ namesMost
+  pub shallow : depthAll xs ≤ openListsMost
+
+-- what a text's elements give
+unfoldable pub saidBy : Elements → Recipe
+saidBy xs = record { elements = numberedAll xs baseNames; names = namesOfAll xs baseNames }
+
 -- ---- recipe texts
 
 -- a text's two elements
 unfoldable pub both : Element → Element → Elements
 both x y = moreE x (moreE y noneE)
 
--- the text has exactly two elements x and y, each token allowed, within the limits
-pub record RecipeText (text : List ℕ) (x y : Element) : Type 0 where
-  pub short : length text ≤ textBytesMost
-  pub tokens : List Token
-  pub hasTokens : HasTokens text tokens
-  pub allowed : Mean tokens (spelledAll (both x y))
-  pub fewElements : sizeAll (both x y) ≤ elementsMost
-  pub fewNames : length (namesOfAll (both x y) baseNames) ≤ namesMost
-  pub shallow : depthAll (both x y) ≤ openListsMost
+-- the text has exactly two elements x and y
+abbrev pub RecipeText : List ℕ → Element → Element → Type 0
+RecipeText text x y = HasElements text (both x y)
 
 -- what the two elements give
 unfoldable pub recipe : Element → Element → Recipe
-recipe x y = record { elements = numberedAll (both x y) baseNames; names = namesOfAll (both x y) baseNames }
+unfolding saidBy
+recipe x y = saidBy (both x y)

@@ -1,5 +1,5 @@
--- The bounds of an answer: names of at most 63 bytes, so that their slots are 64 bytes each, and grounds of at most 6.
-use mathlib.Core.Path.{_≡_, refl, subst}
+-- The bounds of an answer: names of at most 63 bytes, so that their slots are 64 bytes each, and grounds of 1 to 6.
+use mathlib.Core.Path.{_≡_, refl, sym, ap, subst, _∙_}
 use mathlib.Core.Bool.{Bool, true, false, _||_, not}
 use mathlib.Core.List.{List, [], _∷_, map}
 use Prim.Native.Nat.{ℕ, _*_, _≤_}
@@ -11,13 +11,15 @@ use Rattle.words.specs.Limits.{itemWordsLeast, nameBytesLeast, textBytesMost}
 use Rattle.words.specs.Lists.{within, allOf, equal}
 use Rattle.words.specs.TestLaws.{and-left, within-most}
 use Rattle.words.specs.ListLaws.{either, all-append}
-use Rattle.datum.specs.Datum.{Datum, constantD}
+use Rattle.datum.specs.Datum.{Datum, constantD, dataItems}
 use Rattle.datum.specs.NameTableLaws.{isShort, length-slots}
 use Rattle.reading.specs.Token.{Token, open′, close′, bad, flag, run, tokens}
 use Rattle.reading.specs.Meaning.{Meaning, begins, ends, constant, name, refused, isNegative, unsigned, isNumeral, fraction, isFraction, signed, numeralOf, isName, nameOf, meaningOf}
 use Rattle.reading.specs.Numbering.{baseNames, numberOf, withName}
 use Rattle.reading.specs.Elements.{Answer, got, refusedFor, then, Reading, start, isComplete, counted, put, named, opened, closed, isWithin, begin, takes, takesAll}
-use Rattle.reading.specs.Read.{Recipe, finished, recipeOver, recipeOf, read, nameBytes}
+use Rattle.reading.specs.Read.{Recipe, finished, recipeOver, elementsOf, readElements, read, Numbers, readNumbers, nameBytes}
+use Rattle.reading.specs.Laws.Grounds.{ground-high}
+use Rattle.reading_layout.specs.Items.{data-positive}
 
 -- a name or ground of a meaning, the names or the ground of an answer
 abbrev Short : Meaning → Type 0
@@ -110,18 +112,68 @@ finished-short (refusedFor g) h = h
 
 -- ---- texts
 
-recipe-short : (text : List ℕ) → ShortRecipe (recipeOf text)
-unfolding recipeOf recipeOver start baseNames allOf isShort
-recipe-short text = finished-short (takesAll (map meaningOf (tokens text)) (start baseNames 2)) (all-short (tokens text) (start baseNames 2) base)
+elements-short : (wanted : ℕ) (text : List ℕ) → ShortRecipe (elementsOf wanted text)
+unfolding elementsOf recipeOver start baseNames allOf isShort
+elements-short wanted text = finished-short (takesAll (map meaningOf (tokens text)) (start baseNames wanted)) (all-short (tokens text) (start baseNames wanted) base)
   where
     base : allOf isShort baseNames ≡ true
     base = refl
 
+elements-read-short : (wanted : ℕ) (text : List ℕ) (items names : ℕ) → ShortRecipe (readElements wanted text items names)
+unfolding readElements
+elements-read-short wanted text items names =
+    either (ltb items itemWordsLeast || ltb names nameBytesLeast) (λ e. rw e (omega arith))
+    (λ e. either (ltb textBytesMost (length text)) (λ l. rw (e, l) (omega arith)) (λ l. rw (e, l) (elements-short wanted text)))
+
+-- no name of an accepted text is longer than a slot holds
+pub names-short : (wanted : ℕ) (text : List ℕ) (items names : ℕ) (r : Recipe) → readElements wanted text items names ≡ got r → allOf isShort (r .names) ≡ true
+names-short wanted text items names r e = subst ShortRecipe e (elements-read-short wanted text items names)
+
+pub elements-ground : (wanted : ℕ) (text : List ℕ) (items names : ℕ) (g : ℕ) → readElements wanted text items names ≡ refusedFor g → g ≤ 6
+elements-ground wanted text items names g e = subst ShortRecipe e (elements-read-short wanted text items names)
+
+-- a ground is not 0, by which a call is accepted
+abbrev SomeAnswer : Answer Recipe → Type 0
+SomeAnswer (got r) = 0 ≤ 0
+SomeAnswer (refusedFor g) = 1 ≤ g
+
+elements-some : (wanted : ℕ) (text : List ℕ) (items names : ℕ) → SomeAnswer (readElements wanted text items names)
+unfolding readElements
+elements-some wanted text items names =
+    either (ltb items itemWordsLeast || ltb names nameBytesLeast) (λ e. rw e (omega arith))
+    (λ e. either (ltb textBytesMost (length text)) (λ l. rw (e, l) (omega arith)) (λ l. rw (e, l) (later (elementsOf wanted text) refl)))
+  where
+    later : (a : Answer Recipe) → elementsOf wanted text ≡ a → SomeAnswer a
+    later (got r) e = omega arith
+    later (refusedFor g) e = omega (arith, ground-high wanted text g e)
+
+ground-some : (wanted : ℕ) (text : List ℕ) (items names : ℕ) (g : ℕ) → readElements wanted text items names ≡ refusedFor g → 1 ≤ g
+ground-some wanted text items names g e = subst SomeAnswer e (elements-some wanted text items names)
+
+-- the recipe behind an answer, and the ground, by the answer's numbers
+module _ (wanted : ℕ) (text : List ℕ) (items names : ℕ) where
+  abbrev answer : Answer Recipe
+  answer = readElements wanted text items names
+
+  pub numbers-got : (i n : ℕ) → record { ground = 0; items = i; names = n } ≡ readNumbers answer → (x : Recipe) × (answer ≡ got x) × (i ≡ dataItems (x .elements)) × (n ≡ length (x .names))
+  unfolding readNumbers
+  numbers-got i n k = go answer refl k
+    where
+      go : (a : Answer Recipe) → answer ≡ a → record { ground = 0; items = i; names = n } ≡ readNumbers a → (x : Recipe) × (answer ≡ got x) × (i ≡ dataItems (x .elements)) × (n ≡ length (x .names))
+      go (got x) e k = (x, e, ap (λ (m : Numbers). m .items) k, ap (λ (m : Numbers). m .names) k)
+      go (refusedFor g) e k = absurd (omega (arith, ground-some wanted text items names g e, ap (λ (m : Numbers). m .ground) k))
+
+  pub numbers-refused : (g : ℕ) → record { ground = g; items = 0; names = 0 } ≡ readNumbers answer → answer ≡ refusedFor g
+  unfolding readNumbers
+  numbers-refused g k = go answer refl k
+    where
+      go : (a : Answer Recipe) → answer ≡ a → record { ground = g; items = 0; names = 0 } ≡ readNumbers a → answer ≡ refusedFor g
+      go (got x) e k = absurd (omega (arith, data-positive (x .elements), ap (λ (m : Numbers). m .items) k))
+      go (refusedFor j) e k = e ∙ ap refusedFor (sym (ap (λ (m : Numbers). m .ground) k))
+
 read-short : (text : List ℕ) (items names : ℕ) → ShortRecipe (read text items names)
 unfolding read
-read-short text items names =
-    either (ltb items itemWordsLeast || ltb names nameBytesLeast) (λ e. rw e (omega arith))
-    (λ e. either (ltb textBytesMost (length text)) (λ l. rw (e, l) (omega arith)) (λ l. rw (e, l) (recipe-short text)))
+read-short = elements-read-short 2
 
 pub read-slots : (text : List ℕ) (items names : ℕ) (r : Recipe) → read text items names ≡ got r → length (nameBytes r) ≡ 64 * length (r .names)
 unfolding nameBytes

@@ -22,7 +22,7 @@ use Rattle.reading.specs.AcceptedLaws.{items-few}
 use Rattle.reading_layout.specs.Items.{fits, fitAll, data-length, datum-positive, items-are}
 use Rattle.reading_layout.specs.Places.{data-referred}
 use Rattle.reading_layout.specs.Good.{data-good}
-use Rattle.reading_layout.specs.Fit.{recipe-fits}
+use Rattle.reading_layout.specs.Fit.{text-fits}
 use Rattle.reading_layout.specs.Root.{isListDatum, isListData, is-two, first-list}
 
 -- the last of six tests decides where the others pass
@@ -70,13 +70,13 @@ module _ (x y : Datum) where
 -- ---- accepted readings
 
 pub accepted-layout : (text : List ℕ) (items names : ℕ) (r : Recipe) → read text items names ≡ got r → isLayout (itemWords r) ≡ isListData (r .elements)
-unfolding itemWords isListData recipe both numberedAll
+unfolding itemWords isListData read recipe both numberedAll
 accepted-layout text items names r h =
     let a = accepted-only text items names r h in
     let x = numbered (a .first) baseNames in
     let y = numbered (a .second) (namesOf (a .first) baseNames) in
     let e : r .elements ≡ moreD x (moreD y noneD) = ap (λ q. q .elements) (a .same) in
-    let few : dataItems (moreD x (moreD y noneD)) ≤ 4095 = rw e at (items-few text items names r h) in
+    let few : dataItems (moreD x (moreD y noneD)) ≤ 4095 = rw e at (items-few 2 text items names r h) in
     ap (λ ds. isLayout (dataWords 0 ds)) e
-    ∙ two-layout x y (recipe-fits text (a .first) (a .second) (a .isRecipe)) (omega (arith, few))
+    ∙ two-layout x y (text-fits text (both (a .first) (a .second)) (a .isRecipe)) (omega (arith, few))
     ∙ ap isListData (sym e)

@@ -19,7 +19,8 @@ use Rattle.reading.specs.Laws.Elements.{names-grow-all}
 use Rattle.reading.specs.Laws.Meanings.{fraction-places}
 use Rattle.reading.specs.AcceptedLaws.{number-most}
 use Rattle.reading.specs.RecipeText as R
-use Rattle.reading.specs.RecipeText.{HasTokens, Means, Mean, Element, Elements, constantE, nameE, listE, noneE, moreE, spelled, spelledAll, namesOf, namesOfAll, numbered, numberedAll, both, RecipeText, recipe}
+use Rattle.reading.specs.CoreText.{one, CoreText, coreElement}
+use Rattle.reading.specs.RecipeText.{HasTokens, Means, Mean, Element, Elements, constantE, nameE, listE, noneE, moreE, spelled, spelledAll, namesOf, namesOfAll, numbered, numberedAll, HasElements}
 use Rattle.reading_layout.specs.Items.{fits, fitAll}
 
 -- ---- tokens and meanings
@@ -96,8 +97,11 @@ mutual
       let p = and-parts (allOf isMeant (spelled x)) _ (subst (λ b. b ≡ true) (all-append isMeant (spelled x) (spelledAll xs)) h) in
       and-both _ _ (element-fits x names (p .0) (omega (arith, l, names-grow-all xs (namesOf x names)))) (elements-fit xs (namesOf x names) (p .1) l)
 
--- ---- recipe texts
+-- ---- texts
 
-pub recipe-fits : (text : List ℕ) (x y : Element) → RecipeText text x y → fitAll (recipe x y .elements) ≡ true
-unfolding recipe
-recipe-fits text x y t = elements-fit (both x y) baseNames (mean-good (t .allowed) (tokens-good (t .hasTokens))) (t .fewNames)
+pub text-fits : (text : List ℕ) (xs : Elements) → HasElements text xs → fitAll (numberedAll xs baseNames) ≡ true
+text-fits text xs t = elements-fit xs baseNames (mean-good (t .allowed) (tokens-good (t .hasTokens))) (t .fewNames)
+
+pub core-fits : (text : List ℕ) (x : Element) → CoreText text x → fitAll (coreElement x .elements) ≡ true
+unfolding coreElement
+core-fits text x t = text-fits text (one x) t

@@ -159,3 +159,23 @@ pub fn inputs() -> Vec<(&'static str, Vec<u32>, u32, usize)> {
         ("names with many marks", many_marks(10, "(lambda (x) (lambda (y) (f x y)))"), 8_192, 160),
     ]
 }
+
+/// The item table of `() 5`.
+pub const NO_OPERATIONS: [u32; 15] = [4, 1, 2, 0, 0, 0, 4, 3, 4, 1, 5, 0, 0, 0, 0];
+
+/// A supplier's texts as deep as reading allows: how many lists stand inside one another, the text, and the words of the term that it is.
+pub fn texts() -> Vec<(&'static str, usize, String, Vec<u32>)> {
+    let text = |name, begin: &str, opening: &str, words: &[u32]| {
+        let opened = |s: &str| s.matches('(').count();
+        let lists = 65 - opened(begin) - opened(opening);
+        let text = format!("{begin}{}5{}", opening.repeat(lists), ")".repeat(opened(begin) + lists));
+        (name, lists, text, [&words.repeat(lists), &[2, 5][..]].concat())
+    };
+    vec![
+        text("a text of nested if", "", "(if 1 2 ", &[6, 2, 1, 2, 2]),
+        text("a text of nested quoted lists", "(quote ", "(", &[5, 1]),
+        text("a text of nested lambdas", "", "(lambda () ", &[7, 0, 0]),
+        text("a text of nested applications", "", "(", &[8, 0]),
+        text("a text of nested operands", "", "(1 ", &[8, 1, 2, 1]),
+    ]
+}

@@ -1,6 +1,6 @@
-//! The three services one after another, as the filing program runs them.
+//! The services one after another, as the programs run them.
 
-use grebetallboy::{expand, read, write, Error, Refused, ITEM_WORDS, NAME_BYTES, TEXT_RATE};
+use grebetallboy::{compare, expand, read, write, Error, Expanded, Refused, ITEM_WORDS, NAME_BYTES, TEXT_RATE};
 
 /// The tables that the filing program lends, with any fuel.
 pub struct Tables {
@@ -9,18 +9,38 @@ pub struct Tables {
     work: Vec<u32>,
     core: Vec<u32>,
     pub out: Vec<u8>,
+    text_items: Vec<u32>,
+    text_names: Vec<u8>,
 }
 
 impl Tables {
     pub fn new(work: usize, core: usize) -> Tables {
         let (items, names, out) = (vec![0; ITEM_WORDS], vec![0; NAME_BYTES], vec![0; TEXT_RATE * core]);
-        Tables { items, names, work: vec![0; work], core: vec![0; core], out }
+        let (text_items, text_names) = (items.clone(), names.clone());
+        Tables { items, names, work: vec![0; work], core: vec![0; core], out, text_items, text_names }
+    }
+
+    /// Reads and expands; answers the items and what expansion says.
+    pub fn expand(&mut self, text: &[u8], fuel: u32) -> Result<(usize, Expanded), Error> {
+        let recipe = read(text, &mut self.items, &mut self.names)?;
+        Ok((recipe.items, expand(&self.items[..3 * recipe.items], fuel, &mut self.work, &mut self.core)?))
+    }
+
+    /// Reads and expands a recipe, and holds a supplier's text against its term.
+    pub fn compare(&mut self, recipe: &[u8], text: &[u8], fuel: u32) -> Result<bool, Error> {
+        let (items, term) = self.expand(recipe, fuel)?;
+        self.held(items, term.length, text)
+    }
+
+    /// Holds a text against the term of the recipe that was expanded last, given its items and words.
+    pub fn held(&mut self, items: usize, words: usize, text: &[u8]) -> Result<bool, Error> {
+        let (items, words) = (&self.items[..3 * items], &self.core[..words]);
+        compare(items, &self.names, words, text, &mut self.text_items, &mut self.text_names)
     }
 
     /// Reads, expands and writes; answers steps, sum and the text's length.
     pub fn run(&mut self, text: &[u8], fuel: u32) -> Result<(u32, u32, usize), Error> {
-        let recipe = read(text, &mut self.items, &mut self.names)?;
-        let term = expand(&self.items[..3 * recipe.items], fuel, &mut self.work, &mut self.core)?;
+        let (_, term) = self.expand(text, fuel)?;
         let length = write(&self.core[..term.length], 256, &self.names, &mut self.out)?;
         Ok((term.steps, term.sum, length))
     }

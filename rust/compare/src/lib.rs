@@ -1,9 +1,10 @@
-//! What the comparisons share: item tables, deep inputs, nested ellipses, other expanders, dirty tables, refusals, calls
-//! of expansion.
+//! What the comparisons share: item tables, deep inputs, nested ellipses, pairs of a recipe and a supplier's text, other expanders, dirty
+//! tables, refusals, calls of expansion.
 
 pub mod deep;
 pub mod ellipses;
 pub mod filing;
+pub mod pairs;
 pub mod scheme;
 pub mod tables;
 
@@ -35,4 +36,9 @@ pub fn dirty(random: &mut Random, length: usize) -> Vec<u32> {
     let mut table = vec![0; length];
     (0..random.below(5)).for_each(|_| table[random.below(length)] = word + 1);
     table
+}
+
+/// Bytes of the same kind.
+pub fn dirty_bytes(random: &mut Random, length: usize) -> Vec<u8> {
+    dirty(random, length).into_iter().map(|word| word as u8).collect()
 }

@@ -41,7 +41,7 @@ fn permuted(random: &mut Random, words: &[u32]) -> Vec<u32> {
     out
 }
 
-fn damage(random: &mut Random, words: &mut Vec<u32>) {
+pub fn damage(random: &mut Random, words: &mut Vec<u32>) {
     let at = random.below(words.len());
     match random.below(9) {
         0 => words.truncate(at),

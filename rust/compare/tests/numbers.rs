@@ -2,7 +2,7 @@
 
 use compare::filing::file;
 use compare::refusal;
-use grebetallboy::{expand, meaning, read, write, Error, Refused};
+use grebetallboy::{compare, expand, meaning, read, write, Error, Refused};
 use inputs::top;
 
 fn ground<T>(answer: Result<T, Error>) -> u32 {
@@ -22,11 +22,11 @@ fn rows() -> Vec<(u32, String, String)> {
 #[test]
 fn meanings() {
     let rows = rows();
-    assert_eq!(rows.iter().map(|row| row.0).collect::<Vec<_>>(), (1..=20).collect::<Vec<_>>());
+    assert_eq!(rows.iter().map(|row| row.0).collect::<Vec<_>>(), (1..=22).collect::<Vec<_>>());
     for (number, said, _) in rows {
         assert_eq!(meaning(number), Some(&said[..]));
     }
-    assert_eq!((meaning(0), meaning(21)), (None, None));
+    assert_eq!((meaning(0), meaning(23)), (None, None));
     let refused = Refused { ground: 14, steps: 0, sum: 0 };
     assert_eq!(refused.to_string(), "refused with 14: two names bound by one form are the same");
     assert_eq!(Error::from(refused).to_string(), refused.to_string());
@@ -58,4 +58,7 @@ fn calls() {
     assert_eq!(ground(expand(&items, 0, &mut [0; 120], &mut [0; 14])), 9);
     assert_eq!(ground(write(&[8, 0], 256, &[], &mut [0; 10])), 19);
     assert_eq!(ground(write(&[2, 0], 256, &[], &mut [])), 20);
+    for (text, number) in [("()", 21), ("x", 22)] {
+        assert_eq!(ground(compare(&items, &[], &[2, 5], text.as_bytes(), &mut [0; 12_288], &mut [0; 65_536])), number);
+    }
 }

@@ -1,6 +1,6 @@
 //! Reading beside the second expander's: the answer and every word and byte of both tables, on recipes and damaged texts.
 
-use compare::{dirty, refusal};
+use compare::{dirty, dirty_bytes, refusal};
 use inputs::{setting, Random, Recipes};
 use reference::text;
 
@@ -44,10 +44,6 @@ fn damaged(random: &mut Random) -> Vec<u8> {
         }
     }
     bytes
-}
-
-fn dirty_bytes(random: &mut Random, length: usize) -> Vec<u8> {
-    dirty(random, length).into_iter().map(|word| word as u8).collect()
 }
 
 #[test]

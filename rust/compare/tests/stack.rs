@@ -1,7 +1,7 @@
 //! The inputs that take the most stack, from a thread with little of it, against the second expander in a thread with much.
 
 use compare::deep;
-use grebetallboy::{expand, read, table_words, write, Error, Read, Refused, ITEM_WORDS, NAME_BYTES, TEXT_RATE};
+use grebetallboy::{compare, expand, read, table_words, write, Error, Read, Refused, ITEM_WORDS, NAME_BYTES, TEXT_RATE};
 use inputs::{in_stack, known};
 use reference::{core, expand::run};
 
@@ -59,6 +59,18 @@ fn deepest_words() {
                     assert!(out == out2);
                 }
             }
+        }
+    }
+}
+
+/// A supplier's texts, against the term that each is, and against another of few words.
+#[test]
+fn deepest_texts() {
+    for (name, _, text, term) in deep::texts() {
+        for (words, answer) in [(&term[..], true), (&[2, 6], false)] {
+            let (mut i, mut n) = (vec![9; ITEM_WORDS], vec![9; NAME_BYTES]);
+            let held = in_stack(LITTLE, || compare(&deep::NO_OPERATIONS, &[], words, text.as_bytes(), &mut i, &mut n));
+            assert_eq!(held, Ok(answer), "{name}");
         }
     }
 }

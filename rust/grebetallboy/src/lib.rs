@@ -1,9 +1,9 @@
 //! The proved services, called from Rust. They test everything that they are lent, so each call is safe for any slices.
 //!
-//! Stack is no part of the proofs. A call takes at most [`READ_STACK`], [`expand_stack`] or [`write_stack`] bytes of it. Where the
-//! caller's thread has as much left, the call is made there; where it has not, or where the system does not tell (it is asked on
-//! Linux), on a thread of its own with as much; and where the system gives no such thread, the call is not made, no table is touched,
-//! and the answer is [`Error::NoStack`]. So no slices and no thread make a call overrun its stack.
+//! Stack is no part of the proofs. A call takes at most [`READ_STACK`], [`expand_stack`], [`write_stack`] or [`compare_stack`] bytes of
+//! it. Where the caller's thread has as much left, the call is made there; where it has not, or where the system does not tell (it is
+//! asked on Linux), on a thread of its own with as much; and where the system gives no such thread, the call is not made, no table is
+//! touched, and the answer is [`Error::NoStack`]. So no slices and no thread make a call overrun its stack.
 
 pub mod calls;
 mod refused;
@@ -36,6 +36,11 @@ pub fn expand_stack(items: usize, fuel: u32) -> usize {
 /// 6,000 variables are noted.
 pub fn write_stack(words: usize) -> usize {
     words.saturating_mul(256).saturating_add(48 << 10)
+}
+
+/// Bytes of stack that comparing takes at most: testing our words as writing does, and going into the lists of a text, 64 at most.
+pub fn compare_stack(words: usize) -> usize {
+    words.saturating_mul(256).saturating_add(128 << 10)
 }
 
 #[derive(Clone, Copy, Debug, PartialEq, Eq)]
@@ -95,4 +100,18 @@ pub fn write(words: &[u32], operations: u32, names: &[u8], out: &mut [u8]) -> Re
         calls::grebetallboy_write(words.as_ptr(), words.len(), operations, n, names.len(), o, out.len(), counts, length)
     };
     call(write_stack(words.len()), run).map(|[length, _, _]| length as usize)
+}
+
+/// Holds a supplier's text against our term, given the recipe's items and names: whether it is our term up to the choice of bound names.
+/// The text is read into its own two tables.
+pub fn compare(
+    items: &[u32], names: &[u8], words: &[u32], text: &[u8], text_items: &mut [u32], text_names: &mut [u8],
+) -> Result<bool, Error> {
+    // SAFETY: as in `read`.
+    let run = |counts, length| unsafe {
+        let (i, n, w, t) = ((items.as_ptr(), items.len()), (names.as_ptr(), names.len()), (words.as_ptr(), words.len()), text.as_ptr());
+        let (i2, n2) = ((text_items.as_mut_ptr(), text_items.len()), (text_names.as_mut_ptr(), text_names.len()));
+        calls::grebetallboy_compare(i.0, i.1, n.0, n.1, w.0, w.1, t, text.len(), i2.0, i2.1, n2.0, n2.1, counts, length)
+    };
+    call(compare_stack(words.len()), run).map(|[yes, _, _]| yes == 1)
 }

@@ -3,14 +3,14 @@
 use std::fmt;
 
 /// What each number means, from 1 on, as the table of README.md has it.
-const MEANINGS: [&str; 20] = [
+const MEANINGS: [&str; 22] = [
     "reading is lent fewer than 12,288 item words or 65,536 name bytes",
     "the text has more than 65,535 bytes",
     "a byte or token is not allowed",
     "a number is out of range",
-    "a parenthesis closes nothing, a third element begins, or at the end a list is open or an element missing",
+    "a parenthesis closes nothing, an element too many begins, or at the end a list is open or an element missing",
     "more than 2,047 elements, 1,024 names or 64 open lists",
-    "expansion's table does not have the layout of a recipe whose first element is a list",
+    "the item table does not have the layout of a recipe whose first element is a list",
     "fuel exceeds 8,192",
     "the work table has fewer than 24 words, or the core table fewer than 3, for each item and unit of fuel",
     "the first element is not at most 256 distinct names that are no base forms",
@@ -22,11 +22,13 @@ const MEANINGS: [&str; 20] = [
     "no rule matches a use",
     "lists that drive one ellipsis differ in length",
     "a step's result would take the sum past the fuel",
-    "writing's words are not exactly one core term",
+    "the words are not exactly one core term, or, in comparing, an operation has no name",
     "the output is shorter than the text",
+    "a supplier's text is not in the core grammar",
+    "a name in a supplier's text is neither bound round it nor an operation",
 ];
 
-/// What a number of document 01 means; nothing for a number that is none of its twenty.
+/// What a number of documents 01 and 02 means; nothing for one that no call answers.
 pub fn meaning(ground: u32) -> Option<&'static str> {
     MEANINGS.get((ground as usize).checked_sub(1)?).copied()
 }
@@ -41,7 +43,7 @@ pub struct Refused {
 
 impl fmt::Display for Refused {
     fn fmt(&self, f: &mut fmt::Formatter<'_>) -> fmt::Result {
-        write!(f, "refused with {}: {}", self.ground, meaning(self.ground).unwrap_or("no number of document 01"))
+        write!(f, "refused with {}: {}", self.ground, meaning(self.ground).unwrap_or("no number of documents 01 and 02"))
     }
 }
 

@@ -2,7 +2,9 @@
 
 pub mod items;
 pub mod known;
+pub mod pairs;
 pub mod patterns;
+pub mod renderings;
 pub mod rows;
 
 use std::path::{Path, PathBuf};

@@ -4,14 +4,14 @@
 use crate::top;
 use std::path::{Path, PathBuf};
 
-fn spec(path: &str) -> String {
+pub(crate) fn spec(path: &str) -> String {
     let path = top().join("crates").join(path);
     let lines = std::fs::read_to_string(&path).unwrap_or_else(|e| panic!("{}: {e}", path.display()));
     lines.lines().filter(|line| !line.trim_start().starts_with("--")).collect::<Vec<_>>().join("\n")
 }
 
 /// A quoted text at the front, and what follows it.
-fn quoted(s: &str) -> Option<(String, &str)> {
+pub(crate) fn quoted(s: &str) -> Option<(String, &str)> {
     let (body, rest) = s.trim_start().strip_prefix('"')?.split_once('"')?;
     Some((body.replace("\\n", "\n").replace("\\t", "\t").replace("\\r", "\r"), rest))
 }
@@ -74,14 +74,14 @@ pub fn examples() -> Vec<(Vec<u8>, String)> {
 }
 
 /// The folder of the change requests' recipes.
-fn folder() -> PathBuf {
+pub(crate) fn folder() -> PathBuf {
     Path::new(env!("CARGO_MANIFEST_DIR")).join("requests")
 }
 
 /// What is said of each recipe of the change requests, its text, and what is printed for it.
 pub fn requests() -> Vec<(String, String, String)> {
-    let names = folder().read_dir().unwrap().map(|entry| entry.unwrap().path().file_stem().unwrap().to_str().unwrap().to_string());
-    names.flat_map(|name| request(&name)).collect()
+    let files = folder().read_dir().unwrap().map(|entry| entry.unwrap().path()).filter(|path| path.extension().is_some_and(|e| e == "txt"));
+    files.flat_map(|path| request(path.file_stem().unwrap().to_str().unwrap())).collect()
 }
 
 /// Those of one request, as `L02`: a row's lines, an empty one between rows.

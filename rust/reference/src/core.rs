@@ -3,7 +3,7 @@
 use crate::text::{Datum, Number};
 use crate::Ground;
 
-#[derive(Clone, Debug)]
+#[derive(Clone, Debug, PartialEq)]
 pub enum Term {
     Variable(u32),
     Operation(u32),

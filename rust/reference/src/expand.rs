@@ -77,7 +77,8 @@ pub fn run(words: &[u32], fuel: u32, work: usize, core: usize) -> Run {
     Run { outcome: answer.map(|_| ()), steps: e.steps, sum: e.sum, core, events: e.events }
 }
 
-fn operation_numbers(list: &Tree) -> Option<Vec<u32>> {
+/// The operations' name numbers; none is ground 10.
+pub fn operation_numbers(list: &Tree) -> Option<Vec<u32>> {
     let mut numbers: Vec<u32> = Vec::new();
     for t in list.list()? {
         let number = t.name()?.number;

@@ -2,16 +2,17 @@
 //!
 //! The modules follow the paper: [`text`] reads a recipe text, [`table`] holds the item table and its layout,
 //! [`tree`] the trees with their marks and bindings, [`rules`] what macros are, [`expand`] the forms and the run,
-//! [`core`] the core term, its words and its text.
+//! [`core`] the core term, its words and its text, [`supplier`] a supplier's expansion held against ours.
 
 pub mod core;
 pub mod expand;
 pub mod rules;
+pub mod supplier;
 pub mod table;
 pub mod text;
 pub mod tree;
 
-/// A ground for refusing, 1 to 20.
+/// A ground for refusing, 1 to 22.
 pub type Ground = u32;
 
 /// Names 0 to 7.
@@ -19,18 +20,39 @@ pub const BASE_NAMES: [&str; 8] = [
     "quote", "if", "lambda", "let-syntax", "letrec-syntax", "syntax-rules", "...", "_",
 ];
 
-/// What the filing program prints for a text: fuel 512, 16,368 work words, 2,046 core words.
+/// Words of the work and core tables that the programs lend.
+const FILING_WORK: usize = 16_368;
+const FILING_CORE: usize = 2_046;
+
+/// What the filing program prints for a text, with fuel 512.
 pub fn file(text: &[u8], fuel: u32) -> String {
     let recipe = match text::read(text) {
         Ok(recipe) => recipe,
         Err(ground) => return format!("refused {ground} 0 0\n"),
     };
-    let run = expand::run(&recipe.words(), fuel, 16_368, 2_046);
+    let run = expand::run(&recipe.words(), fuel, FILING_WORK, FILING_CORE);
     match run.outcome {
         Err(ground) => format!("refused {ground} {} {}\n", run.steps, run.sum),
         Ok(()) => {
             let term = core::text(&run.core, 256, &recipe.name_table()).expect("an accepted run's words are a term");
             format!("accepted {} {}\n{}\n", run.steps, run.sum, String::from_utf8_lossy(&term))
         }
+    }
+}
+
+/// What the program that holds a supplier's text against a recipe prints, in the same tables.
+pub fn compare(recipe: &[u8], text: &[u8], fuel: u32) -> String {
+    let answer = || {
+        let recipe = text::read(recipe)?;
+        let items = recipe.words();
+        let run = expand::run(&items, fuel, FILING_WORK, FILING_CORE);
+        run.outcome?;
+        let (mut items2, mut names2) = (vec![0; 12_288], vec![0; 65_536]);
+        supplier::compare(&items, &recipe.name_table(), &run.core, text, &mut items2, &mut names2)
+    };
+    match answer() {
+        Ok(true) => "yes\n".to_string(),
+        Ok(false) => "no\n".to_string(),
+        Err(ground) => format!("refused {ground}\n"),
     }
 }

@@ -1,4 +1,4 @@
-//! The recipe text: tokens, two elements, items and names (grounds 2 to 6).
+//! The recipe text: tokens, two elements, items and names (grounds 2 to 6). A supplier's text has one element.
 
 use crate::{Ground, BASE_NAMES};
 
@@ -82,6 +82,11 @@ fn number(unsigned: &[u8], minus: bool) -> Result<Number, Ground> {
 
 /// Grounds 2 to 6.
 pub fn read(text: &[u8]) -> Result<Recipe, Ground> {
+    read_elements(text, 2)
+}
+
+/// The same of a text with so many elements.
+fn read_elements(text: &[u8], elements: usize) -> Result<Recipe, Ground> {
     if text.len() > 65_535 {
         return Err(2);
     }
@@ -104,7 +109,7 @@ pub fn read(text: &[u8]) -> Result<Recipe, Ground> {
             open.last_mut().unwrap().push(list);
             continue;
         }
-        if open.len() == 1 && open[0].len() == 2 {
+        if open.len() == 1 && open[0].len() == elements {
             return Err(5);
         }
         count += 1;
@@ -131,7 +136,7 @@ pub fn read(text: &[u8]) -> Result<Recipe, Ground> {
         };
         open.last_mut().unwrap().push(datum);
     }
-    if open.len() != 1 || open[0].len() != 2 {
+    if open.len() != 1 || open[0].len() != elements {
         return Err(5);
     }
     Ok(Recipe { elements: open.pop().unwrap(), names })
@@ -143,6 +148,12 @@ impl Recipe {
         let mut items = Vec::new();
         place_list(&self.elements, &mut items);
         items.concat()
+    }
+
+    /// The names in the list of operations, spelled out.
+    pub fn operations(&self) -> Vec<String> {
+        let spelled = |d: &Datum| if let Datum::Name(n) = d { String::from_utf8(self.names[*n as usize].clone()).ok() } else { None };
+        if let Datum::List(list) = &self.elements[0] { list.iter().filter_map(spelled).collect() } else { Vec::new() }
     }
 
     /// The name table's bytes.
@@ -178,24 +189,28 @@ fn place(datum: &Datum, items: &mut Vec<[u32; 3]>) -> u32 {
     items.len() as u32 - 1
 }
 
-/// The whole call over lent tables: the ground, N and the count of names.
-pub fn read_call(text: &[u8], items: &mut [u32], names: &mut [u8]) -> (Ground, u32, u32) {
+/// A text of so many elements into lent tables: grounds 1 to 6.
+pub fn read_into(text: &[u8], elements: usize, items: &mut [u32], names: &mut [u8]) -> Result<Recipe, Ground> {
     if items.len() < 12_288 || names.len() < 65_536 {
-        return (1, 0, 0);
+        return Err(1);
     }
-    let recipe = read(text);
-    if let Err(2) = recipe {
-        return (2, 0, 0);
+    let read = read_elements(text, elements);
+    if let Err(2) = read {
+        return read;
     }
     items.fill(0);
     names.fill(0);
-    match recipe {
+    let recipe = read?;
+    let (words, table) = (recipe.words(), recipe.name_table());
+    items[..words.len()].copy_from_slice(&words);
+    names[..table.len()].copy_from_slice(&table);
+    Ok(recipe)
+}
+
+/// The whole call over lent tables: the ground, N and the count of names.
+pub fn read_call(text: &[u8], items: &mut [u32], names: &mut [u8]) -> (Ground, u32, u32) {
+    match read_into(text, 2, items, names) {
         Err(ground) => (ground, 0, 0),
-        Ok(recipe) => {
-            let (words, table) = (recipe.words(), recipe.name_table());
-            items[..words.len()].copy_from_slice(&words);
-            names[..table.len()].copy_from_slice(&table);
-            (0, words.len() as u32 / 3, recipe.names.len() as u32)
-        }
+        Ok(recipe) => (0, recipe.words().len() as u32 / 3, recipe.names.len() as u32),
     }
 }

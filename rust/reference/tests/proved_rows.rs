@@ -1,7 +1,7 @@
 //! The second expander on the recipes whose answers are proved of the definition, and on those of examples/.
 
-use inputs::{in_stack, rows};
-use reference::{expand, file, text};
+use inputs::{in_stack, pairs, rows};
+use reference::{compare, expand, file, text};
 
 #[test]
 fn expansions() {
@@ -24,11 +24,31 @@ fn outputs() {
     }
 }
 
+/// Recipes with a supplier's text.
+#[test]
+fn proved_pairs() {
+    let rows = pairs::proved();
+    assert!(rows.len() > 20, "{} rows", rows.len());
+    for (recipe, text, answer) in rows {
+        assert_eq!(compare(recipe.as_bytes(), text.as_bytes(), 512), answer + "\n", "{recipe}\n{text}");
+    }
+    let rows = pairs::printed();
+    assert!(rows.len() > 10, "{} rows", rows.len());
+    for (recipe, text, output) in rows {
+        assert_eq!(compare(recipe.as_bytes(), text.as_bytes(), 512), output, "{recipe}\n{text}");
+    }
+}
+
 #[test]
 fn examples() {
     let rows = rows::examples();
     assert!(rows.len() > 2, "{} recipes", rows.len());
     for (recipe, output) in rows {
         assert_eq!(file(&recipe, 512), output, "{}", String::from_utf8_lossy(&recipe));
+    }
+    let pairs = pairs::examples();
+    assert!(["yes", "no"].iter().all(|answer| pairs.iter().any(|pair| pair.2 == *answer)));
+    for (recipe, text, answer) in pairs {
+        assert_eq!(compare(&recipe, &text, 512), answer + "\n", "{}", String::from_utf8_lossy(&text));
     }
 }

@@ -11,7 +11,7 @@ use Rattle.io.proofs.read_full.Reads as read-full-reads
 use Rattle.io.proofs.write_all.Reads as write-all-reads
 use mathlib.Core.Path.{sym}
 use lib.Seq.{length-take-le}
-use Rattle.filing.specs.Room.{printed-within}
+use Rattle.program_laws.specs.Printed.{printed-within}
 
 array-share-prefix-out : tie.Need-array-share-prefix-out
 array-share-prefix-out c =

@@ -1,75 +1,12 @@
--- Each way through the call is a law of Served: grounds 1 and 2, a text that is read, a text that is refused.
+-- A recipe text is a text of two elements.
 use borrow.Author.Needs.{needs}
 use Rattle.reader.proofs.read.Statement.{statement}
 use Rattle.reader.proofs.read.Tie as tie
-use mathlib.Core.Path.{ap, subst, _∙_}
-use lib.ListN.{replicate}
-use Rattle.reader.specs.Code.Reached.{Ended}
-use Rattle.reader.specs.Code.ServedLaws.{served-few-items, served-few-names, served-long, served-read, served-refused}
+use Rattle.reading.specs.Read.{read}
 
 returns : tie.Need-returns
-returns c =
-    let args = c .before .before .before .before .args in
-    served-few-items (args .text .now) (args .items .now) (args .names .now) (c .if1 .taken)
-
-returns-2 : tie.Need-returns-2
-returns-2 c =
-    let args = c .before .before .before .before .before .args in
-    served-few-names (args .text .now) (args .items .now) (args .names .now) (c .before .if1 .left) (c .if2 .taken)
-
-returns-3 : tie.Need-returns-3
-returns-3 c =
-    let args = c .before .before .before .before .before .before .args in
-    let if1 = c .before .before .if1 in
-    served-long (args .text .now) (args .items .now) (args .names .now) (if1 .left) (c .before .if2 .left) (c .if3 .taken)
-
-returns-4 : tie.Need-returns-4
-returns-4 c =
-    let args = c .before .before .before .before .before .before .before .before .before .before .before .before .before .before .before .before .before .before .before .before .before .before .before .before .before .before .before .args in
-    let if1 = c .before .before .before .before .before .before .before .before .before .before .before .before .before .before .before .before .before .before .before .before .before .before .before .if1 in
-    let if2 = c .before .before .before .before .before .before .before .before .before .before .before .before .before .before .before .before .before .before .before .before .before .before .if2 in
-    let if3 = c .before .before .before .before .before .before .before .before .before .before .before .before .before .before .before .before .before .before .before .before .before .if3 in
-    let read-text = c .before .before .before .before .before .before .before .before .read-text in
-    let i = c .before .i in
-    let begin = c .before .before .before .before .before .before .before .before .before .before .before .before .before .before .before .before .before .begin in
-    served-read (args .text .now) (args .items .now) (args .names .now) (if1 .left) (if2 .left) (if3 .left)
-    (read-text .last .1 .0) (read-text .last .1 .1 .0) (i .given .0 .0) (i .given .0 .1 .0)
-    (subst (Ended (args .text .now) (read-text .last .1 .0) (read-text .last .1 .1 .0)) (i .given .1) (read-text .ensures))
-    (read-text .kept .1 .0 ∙ begin .kept .0) (read-text .kept .1 .1 .0 ∙ begin .kept .1 .0)
-
-returns-5 : tie.Need-returns-5
-returns-5 c =
-    let args = c .before .before .before .before .before .before .before .before .before .before .before .before .before .before .before .before .before .before .before .before .before .before .before .before .before .before .before .before .before .before .before .before .before .before .args in
-    let if1 = c .before .before .before .before .before .before .before .before .before .before .before .before .before .before .before .before .before .before .before .before .before .before .before .before .before .before .before .before .before .before .if1 in
-    let if2 = c .before .before .before .before .before .before .before .before .before .before .before .before .before .before .before .before .before .before .before .before .before .before .before .before .before .before .before .before .before .if2 in
-    let if3 = c .before .before .before .before .before .before .before .before .before .before .before .before .before .before .before .before .before .before .before .before .before .before .before .before .before .before .before .before .if3 in
-    let clear = c .before .before .before .before .clear in
-    let ground = c .before .before .before .before .before .before .before .before .ground in
-    let read-text = c .before .before .before .before .before .before .before .before .before .before .before .before .before .before .before .read-text in
-    let begin = c .before .before .before .before .before .before .before .before .before .before .before .before .before .before .before .before .before .before .before .before .before .before .before .before .begin in
-    served-refused (args .text .now) (args .items .now) (args .names .now) (if1 .left) (if2 .left) (if3 .left) (clear .last .0)
-    (clear .last .1 .0) (ground .given .0 .0)
-    (subst (Ended (args .text .now) (read-text .last .1 .0) (read-text .last .1 .1 .0)) (ground .given .1) (read-text .ensures))
-    (clear .ensures .0 ∙ ap (λ n. replicate n 0) (read-text .kept .1 .0 ∙ begin .kept .0))
-    (clear .ensures .1 ∙ ap (λ n. replicate n 0) (read-text .kept .1 .1 .0 ∙ begin .kept .1 .0))
+unfolding read
+returns c = c .before .before .before .before .read-elements .ensures
 
 pub read-spec : {M : Type 1} → statement M
-read-spec =
-    tie.close
-    (tie.spec
-    returns
-    returns-2
-    returns-3
-    (λ c. search needs)  -- slice-aggregate-begin
-    (λ c κs. search needs)  -- begin-requires
-    (λ c. search needs)  -- slice-aggregate-read-text
-    (λ c κs. search needs)  -- read-text-requires
-    (λ c. search needs)  -- enum-known-i
-    (λ c. search needs)  -- enum-known-ground
-    (λ c κs. search needs)  -- clear-requires
-    (λ c. search needs)  -- same-length
-    (λ c. search needs)  -- same-length-2
-    returns-4
-    (λ c. search needs)  -- same-length-3
-    (λ c. search needs)  -- same-length-4
-    returns-5)
+read-spec = tie.close (tie.spec (λ c κs. search needs) (λ c. search needs) (λ c. search needs) returns)

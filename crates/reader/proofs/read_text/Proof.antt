@@ -12,18 +12,18 @@ use Rattle.reader.specs.Code.ServedLaws.{reached-first, reached-on, reac
 use borrow.Author.Needs.{needs}
 
 abbrev Inv-loop : tie.InvT-loop
-Inv-loop text items₀ names₀ index₀ cursor₀ place₀ items names index cursor place =
-    (length items ≡ length items₀) × (length names ≡ length names₀) × (length index ≡ length index₀) × Reached text items names index place cursor
+Inv-loop text items₀ names₀ index₀ wanted cursor₀ place₀ items names index cursor place =
+    (length items ≡ length items₀) × (length names ≡ length names₀) × (length index ≡ length index₀) × Reached wanted text items names index place cursor
 
 abbrev μ-loop : tie.MeasureT-loop
-μ-loop text items₀ names₀ index₀ cursor₀ place₀ items names index cursor place =
+μ-loop text items₀ names₀ index₀ wanted cursor₀ place₀ items names index cursor place =
     length text - cursor .at
 
 loop-holds : tie.Need-loop-holds Inv-loop μ-loop
 loop-holds c =
     let args = c .before .before .before .before .args in
     let pre = c .before .before .before .before .pre in
-    (refl, refl, refl, reached-first (args .text .now) (args .items .now) (args .names .now) (args .index .now) (pre .0 .0) (pre .0 .1) (pre .1))
+    (refl, refl, refl, reached-first (args .wanted) (args .text .now) (args .items .now) (args .names .now) (args .index .now) (pre .0 .0) (pre .0 .1) (pre .1))
 
 advance-requires : tie.Need-advance-requires Inv-loop μ-loop
 advance-requires c κs =
@@ -43,7 +43,7 @@ loop-less c =
     let loop = c .before .before .before .before .before .before .before .before .before .before .before .before .before .loop in
     let advance = c .before .before .before .before .before .before .before .before .before .advance in
     let p = c .before .p in
-    let l = reached-later (args .text .now) (loop .items) (loop .names) (loop .index) (loop .place) (loop .cursor) (loop .inv .3)
+    let l = reached-later (args .wanted) (args .text .now) (loop .items) (loop .names) (loop .index) (loop .place) (loop .cursor) (loop .inv .3)
     (advance .last .1 .1 .1 .0) (advance .last .1 .1 .1 .1 .0) (advance .last .1 .1 .1 .1 .1 .0) (advance .result) (advance .ensures) (p .given .0 .0)
     (p .given .0 .1 .0) (p .given .1) in omega (arith, l .0, l .1)
 
@@ -56,7 +56,7 @@ loop-again c =
       advance .kept .1 .1 .1 .0 ∙ loop .inv .0,
       advance .kept .1 .1 .1 .1 .0 ∙ loop .inv .1,
       advance .kept .1 .1 .1 .1 .1 .0 ∙ loop .inv .2,
-      reached-on (args .text .now)
+      reached-on (args .wanted) (args .text .now)
           (loop .items) (loop .names) (loop .index) (loop .place) (loop .cursor) (loop .inv .3) (advance .last .1 .1 .1 .0)
           (advance .last .1 .1 .1 .1 .0) (advance .last .1 .1 .1 .1 .1 .0) (advance .result) (advance .ensures) (p .given .0 .0) (p .given .0 .1 .0) (p .given .1),
     )
@@ -67,7 +67,7 @@ returns c =
     let loop = c .before .before .before .before .before .before .before .before .before .before .before .before .before .loop in
     let advance = c .before .before .before .before .before .before .before .before .before .advance in
     let i = c .before .i in
-    reached-done (args .text .now) (loop .items) (loop .names) (loop .index) (loop .place) (loop .cursor) (loop .inv .3)
+    reached-done (args .wanted) (args .text .now) (loop .items) (loop .names) (loop .index) (loop .place) (loop .cursor) (loop .inv .3)
     (advance .last .1 .1 .1 .0) (advance .last .1 .1 .1 .1 .0) (advance .last .1 .1 .1 .1 .1 .0) (advance .result) (advance .ensures) (i .given .0 .0)
     (i .given .0 .1 .0) (i .given .1)
 
@@ -77,7 +77,7 @@ returns-2 c =
     let loop = c .before .before .before .before .before .before .before .before .before .before .before .before .before .loop in
     let advance = c .before .before .before .before .before .before .before .before .before .advance in
     let ground = c .before .ground in
-    reached-refused (args .text .now) (loop .items) (loop .names) (loop .index) (loop .place) (loop .cursor) (loop .inv .3)
+    reached-refused (args .wanted) (args .text .now) (loop .items) (loop .names) (loop .index) (loop .place) (loop .cursor) (loop .inv .3)
     (advance .last .1 .1 .1 .0) (advance .last .1 .1 .1 .1 .0) (advance .last .1 .1 .1 .1 .1 .0) (advance .result) (advance .ensures) (ground .given .0 .0)
     (ground .given .1)
 

@@ -21,8 +21,8 @@ use Rattle.reading.specs.Elements.{got, refusedFor, start}
 use Rattle.reading.specs.Read.{
   Recipe,
   recipeOver,
-  recipeOf,
-  read,
+  elementsOf,
+  readElements,
   readNumbers,
   cleared,
   itemWords,
@@ -39,20 +39,21 @@ use Rattle.reader.specs.Code.Placed.{Holds, itemsOf, itemsAround, wordsO
 use Rattle.reader.specs.Code.PlacedLaws.{filled-same}
 use Rattle.reader.specs.Code.Moved.{outcomeFrom, Whole, Moved, Advanced}
 use Rattle.reading.specs.Laws.Grounds.{ground-high}
-use Rattle.reader.specs.Served.{numbersOf, Served}
+use Rattle.reader.specs.Served.{numbersOf, ServedElements}
 use Rattle.reader.specs.Code.Reached.{Reached}
 
 -- ---- the loop
 
-abbrev firstPlace : Place
-firstPlace = record { next = 0; pair = 0; depth = 0; count = 0; missing = 2; known = 8 }
+-- before the first token of a text that has so many elements
+abbrev firstPlace : ℕ → Place
+firstPlace wanted = record { next = 0; pair = 0; depth = 0; count = 0; missing = wanted; known = 8 }
 
-module _ (text words bytes index : List ℕ) where
+module _ (wanted : ℕ) (text words bytes index : List ℕ) where
   zeros-all : replicate {A = ℕ} (length words) 0 ≡ replicate (length words - 0) 0
   zeros-all = let e : length words - 0 ≡ length words = omega arith in rw e
 
   first-holds : itemWordsLeast ≤ length words → words ≡ replicate (length words) 0 → NameTable baseNames bytes index
-      → Holds (start baseNames 2) firstPlace words bytes
+      → Holds (start baseNames wanted) (firstPlace wanted) words bytes
   unfolding start nextItem placed itemsOf itemsAround wordsOf wordsAround openPair filled baseNames
   first-holds l z b = record {
     next = refl;
@@ -71,16 +72,16 @@ module _ (text words bytes index : List ℕ) where
   }
 
   pub reached-first : itemWordsLeast ≤ length words → words ≡ replicate (length words) 0 → NameTable baseNames bytes index
-      → Reached text words bytes index firstPlace (record { at = 0 })
-  unfolding start outcomeFrom meaningsFrom recipeOf recipeOver tokens
-  reached-first l z b = record { reading = start baseNames 2; holds = first-holds l z b; indexed = b .indexed; high = omega arith; same = refl }
+      → Reached wanted text words bytes index (firstPlace wanted) (record { at = 0 })
+  unfolding start outcomeFrom meaningsFrom elementsOf recipeOver tokens
+  reached-first l z b = record { reading = start baseNames wanted; holds = first-holds l z b; indexed = b .indexed; high = omega arith; same = refl }
 
-  module _ (p : Place) (c : Cursor) (r : Reached text words bytes index p c) (words′ bytes′ index′ : List ℕ) (m : M.Move)
+  module _ (p : Place) (c : Cursor) (r : Reached wanted text words bytes index p c) (words′ bytes′ index′ : List ℕ) (m : M.Move)
       (a : Advanced text (c .at) p words words′ bytes bytes′ index index′ m) where
     here : (v : M.Move) → m ≡ v → Moved text (c .at) (r .reading) words′ bytes′ index′ v
     here v e = subst (Moved text (c .at) (r .reading) words′ bytes′ index′) e (a (r .reading) (r .holds) (r .indexed))
 
-    pub reached-on : (q : Place) (d : Cursor) → m ≡ MV.On q d → Reached text words′ bytes′ index′ q d
+    pub reached-on : (q : Place) (d : Cursor) → m ≡ MV.On q d → Reached wanted text words′ bytes′ index′ q d
     reached-on q d e =
         let o = here (MV.On q d) e in
         record { reading = o .next; holds = o .holds; indexed = o .indexed; high = o .high; same = sym (o .same) ∙ r .same }
@@ -88,53 +89,53 @@ module _ (text words bytes index : List ℕ) where
     pub reached-later : (q : Place) (d : Cursor) → m ≡ MV.On q d → (c .at < d .at) × (d .at ≤ length text)
     reached-later q d e = let o = here (MV.On q d) e in (o .low, o .high)
 
-    pub reached-done : (i n : ℕ) → m ≡ MV.Done i n → Whole (recipeOf text) i n words′ bytes′
+    pub reached-done : (i n : ℕ) → m ≡ MV.Done i n → Whole (elementsOf wanted text) i n words′ bytes′
     reached-done i n e = subst (λ o. Whole o i n words′ bytes′) (r .same) (here (MV.Done i n) e)
 
-    pub reached-refused : (g : ℕ) → m ≡ MV.Refused g → recipeOf text ≡ refusedFor g
+    pub reached-refused : (g : ℕ) → m ≡ MV.Refused g → elementsOf wanted text ≡ refusedFor g
     reached-refused g e = sym (r .same) ∙ here (MV.Refused g) e
 
 -- ---- the call
 
-module _ (text words bytes : List ℕ) where
-  served-by : (a : E.Answer Recipe) (words′ bytes′ : List ℕ) (r : Reading) → read text (length words) (length bytes) ≡ a → numbersOf r ≡ readNumbers a
-      → words′ ≡ itemsAfter a words → bytes′ ≡ namesAfter a bytes → Served text words words′ bytes bytes′ r
+module _ (wanted : ℕ) (text words bytes : List ℕ) where
+  served-by : (a : E.Answer Recipe) (words′ bytes′ : List ℕ) (r : Reading) → readElements wanted text (length words) (length bytes) ≡ a → numbersOf r ≡ readNumbers a
+      → words′ ≡ itemsAfter a words → bytes′ ≡ namesAfter a bytes → ServedElements wanted text words words′ bytes bytes′ r
   served-by a words′ bytes′ r e f i n = record { numbers = rw e f; items = rw e i; names = rw e n }
 
   -- grounds 1 and 2 change nothing
-  pub served-few-items : length words < itemWordsLeast → Served text words words bytes bytes (Refused 1)
-  unfolding read numbersOf readNumbers itemsAfter namesAfter cleared
+  pub served-few-items : length words < itemWordsLeast → ServedElements wanted text words words bytes bytes (Refused 1)
+  unfolding readElements numbersOf readNumbers itemsAfter namesAfter cleared
   served-few-items h = served-by (refusedFor 1) words bytes (Refused 1) (rw (lt-ltb _ _ h)) refl refl refl
 
   module _ (i : itemWordsLeast ≤ length words) where
-    pub served-few-names : length bytes < nameBytesLeast → Served text words words bytes bytes (Refused 1)
-    unfolding read numbersOf readNumbers itemsAfter namesAfter cleared
+    pub served-few-names : length bytes < nameBytesLeast → ServedElements wanted text words words bytes bytes (Refused 1)
+    unfolding readElements numbersOf readNumbers itemsAfter namesAfter cleared
     served-few-names h = served-by (refusedFor 1) words bytes (Refused 1) (rw (le-ltb _ _ i, lt-ltb _ _ h)) refl refl refl
 
     module _ (n : nameBytesLeast ≤ length bytes) where
-      pub served-long : textBytesMost < length text → Served text words words bytes bytes (Refused 2)
-      unfolding read numbersOf readNumbers itemsAfter namesAfter cleared
+      pub served-long : textBytesMost < length text → ServedElements wanted text words words bytes bytes (Refused 2)
+      unfolding readElements numbersOf readNumbers itemsAfter namesAfter cleared
       served-long h = served-by (refusedFor 2) words bytes (Refused 2) (rw (le-ltb _ _ i, le-ltb _ _ n, lt-ltb _ _ h)) refl refl refl
 
       module _ (t : length text ≤ textBytesMost) (words′ bytes′ : List ℕ) where
-        read-is : read text (length words) (length bytes) ≡ recipeOf text
-        unfolding read
+        read-is : readElements wanted text (length words) (length bytes) ≡ elementsOf wanted text
+        unfolding readElements
         read-is = rw (le-ltb _ _ i, le-ltb _ _ n, le-ltb _ _ t)
 
         -- an accepted text: its layout and its names, then zeros
-        pub served-read : (k m : ℕ) → Whole (recipeOf text) k m words′ bytes′ → length words′ ≡ length words → length bytes′ ≡ length bytes
-            → Served text words words′ bytes bytes′ (Read k m)
+        pub served-read : (k m : ℕ) → Whole (elementsOf wanted text) k m words′ bytes′ → length words′ ≡ length words → length bytes′ ≡ length bytes
+            → ServedElements wanted text words words′ bytes bytes′ (Read k m)
         unfolding numbersOf readNumbers itemsAfter namesAfter
         served-read k m w e f =
             served-by (got (w .recipe)) words′ bytes′ (Read k m) (read-is ∙ w .accepted) (rw (w .itemCount, w .nameCount))
             (w .items ∙ filled-same (itemWords (w .recipe)) words′ words e) (w .names ∙ filled-same (nameBytes (w .recipe)) bytes′ bytes f)
 
         -- a text that is refused: both tables wholly zero
-        pub served-refused : (g : ℕ) → recipeOf text ≡ refusedFor g → words′ ≡ replicate (length words) 0 → bytes′ ≡ replicate (length bytes) 0
-            → Served text words words′ bytes bytes′ (Refused g)
+        pub served-refused : (g : ℕ) → elementsOf wanted text ≡ refusedFor g → words′ ≡ replicate (length words) 0 → bytes′ ≡ replicate (length bytes) 0
+            → ServedElements wanted text words words′ bytes bytes′ (Refused g)
         unfolding numbersOf readNumbers itemsAfter namesAfter cleared
         served-refused g e z y =
-            let h : 2 < g = ground-high text g e in
+            let h : 2 < g = ground-high wanted text g e in
             served-by (refusedFor g) words′ bytes′ (Refused g) (read-is ∙ e) refl (z ∙ rw (lt-leb g 2 h)) (y ∙ rw (lt-leb g 2 h))
 
 -- ---- a table that was zeroed

@@ -200,16 +200,20 @@ module _ (r : Reading) where
   unfolding after afterAll pushed namesOfAll sizeAll
   more-after x xs h = rw h (recounted _ _ _ _ (omega arith))
 
-  first-fits : (x : Element) (xs : Elements) → noneOpen (r .around) ≡ false → FitAll (moreE x xs) r → Fits x r
-  unfolding isComplete sizeAll namesOfAll depthAll
+  open-room : noneOpen (r .around) ≡ false → isComplete r ≡ false
+  unfolding isComplete
+  open-room h = rw h
+
+  pub first-fits : (x : Element) (xs : Elements) → isComplete r ≡ false → FitAll (moreE x xs) r → Fits x r
+  unfolding sizeAll namesOfAll depthAll
   first-fits x xs h f = record {
-    room = rw h;
+    room = h;
     elements = omega (arith, f .elements);
     names = omega (arith, f .names, names-grow-all xs (namesOf x (r .known)));
     lists = omega (arith, f .lists);
   }
 
-  others-fit : (x : Element) (xs : Elements) → FitAll (moreE x xs) r → FitAll xs (after x r)
+  pub others-fit : (x : Element) (xs : Elements) → FitAll (moreE x xs) r → FitAll xs (after x r)
   unfolding after sizeAll namesOfAll depthAll
   others-fit x xs f = record {
     elements = omega (arith, f .elements);
@@ -292,7 +296,7 @@ mutual
   elements-taken noneE r ms h f = ap (takesAll ms) (sym (none-after r))
   elements-taken (moreE x xs) r ms h f =
       ap (λ l. takesAll l r) (append-assoc (spelled x) (spelledAll xs) ms)
-      ∙ element-taken x r (spelledAll xs ++ ms) (first-fits r x xs h f)
+      ∙ element-taken x r (spelledAll xs ++ ms) (first-fits r x xs (open-room r h) f)
       ∙ elements-taken xs (after x r) ms (after-open r x h) (others-fit r x xs f)
       ∙ ap (takesAll ms) (more-after r x xs h)
 
@@ -321,7 +325,7 @@ module _ (r : Reading) where
     lists = omega (arith, f .lists);
   }
 
-  more-fit : (x : Element) (xs : Elements) → Fits x r → FitAll xs (after x r) → FitAll (moreE x xs) r
+  pub more-fit : (x : Element) (xs : Elements) → Fits x r → FitAll xs (after x r) → FitAll (moreE x xs) r
   unfolding after sizeAll namesOfAll depthAll
   more-fit x xs f g = record {
     elements = omega (arith, g .elements);
@@ -329,7 +333,7 @@ module _ (r : Reading) where
     lists = omega (arith, f .lists, g .lists);
   }
 
-  none-fit : Within r → FitAll noneE r
+  pub none-fit : Within r → FitAll noneE r
   unfolding sizeAll namesOfAll depthAll
   none-fit w = record { elements = omega (arith, w .elements); names = w .names; lists = omega (arith, w .lists) }
 

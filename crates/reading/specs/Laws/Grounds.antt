@@ -1,12 +1,10 @@
--- Once a text is being read its ground is one of 3 to 6, so the tables are zeroed; and no ground is 0.
+-- Once a text is being read its ground is one of 3 to 6, so the tables are zeroed.
 use mathlib.Core.Path.{_≡_, subst}
-use mathlib.Core.Bool.{Bool, true, false, _||_}
+use mathlib.Core.Bool.{Bool, true, false}
 use mathlib.Core.List.{List, [], _∷_, map}
 use Prim.Native.Nat.{ℕ, _≤_}
 use native.Mathlib.Omega.{arith}
-use lib.Dec.{ltb, leb}
-use lib.ListN.{length}
-use Rattle.words.specs.Limits.{itemWordsLeast, nameBytesLeast, textBytesMost}
+use lib.Dec.{leb}
 use Rattle.words.specs.ListLaws.{either}
 use Rattle.datum.specs.Datum.{Datum, constantD}
 use Rattle.reading.specs.Token.{Token, open′, close′, bad, flag, run, tokens}
@@ -47,7 +45,7 @@ use Rattle.reading.specs.Elements.{
   takes,
   takesAll,
 }
-use Rattle.reading.specs.Read.{Recipe, finished, recipeOver, recipeOf, read}
+use Rattle.reading.specs.Read.{finished, recipeOver, elementsOf}
 
 -- a ground of a meaning, and of an answer, is at least 3
 abbrev High : Meaning → Type 0
@@ -120,29 +118,9 @@ finished-high r = either (isComplete r) (λ c. rw c (omega arith)) (λ c. rw c (
 
 -- ---- texts
 
-recipe-high : (text : List ℕ) → HighAnswer (recipeOf text)
-unfolding recipeOf recipeOver
-recipe-high text = then-high (takesAll (map meaningOf (tokens text)) (start baseNames 2)) finished (all-high (tokens text) (start baseNames 2)) finished-high
+elements-high : (wanted : ℕ) (text : List ℕ) → HighAnswer (elementsOf wanted text)
+unfolding elementsOf recipeOver
+elements-high wanted text = then-high (takesAll (map meaningOf (tokens text)) (start baseNames wanted)) finished (all-high (tokens text) (start baseNames wanted)) finished-high
 
-pub ground-high : (text : List ℕ) (g : ℕ) → recipeOf text ≡ refusedFor g → 3 ≤ g
-ground-high text g e = subst (λ a. HighAnswer a) e (recipe-high text)
-
--- ---- calls
-
--- a ground is not 0, by which a call is accepted
-abbrev SomeAnswer : Answer Recipe → Type 0
-SomeAnswer (got r) = 0 ≤ 0
-SomeAnswer (refusedFor g) = 1 ≤ g
-
-high-some : (a : Answer Recipe) → HighAnswer a → SomeAnswer a
-high-some (got r) h = h
-high-some (refusedFor g) h = omega arith
-
-read-some : (text : List ℕ) (items names : ℕ) → SomeAnswer (read text items names)
-unfolding read
-read-some text items names =
-    either (ltb items itemWordsLeast || ltb names nameBytesLeast) (λ e. rw e (omega arith))
-    (λ e. either (ltb textBytesMost (length text)) (λ l. rw (e, l) (omega arith)) (λ l. rw (e, l) (high-some (recipeOf text) (recipe-high text))))
-
-pub ground-some : (text : List ℕ) (items names g : ℕ) → read text items names ≡ refusedFor g → 1 ≤ g
-ground-some text items names g e = subst (λ a. SomeAnswer a) e (read-some text items names)
+pub ground-high : (wanted : ℕ) (text : List ℕ) (g : ℕ) → elementsOf wanted text ≡ refusedFor g → 3 ≤ g
+ground-high wanted text g e = subst (λ a. HighAnswer a) e (elements-high wanted text)

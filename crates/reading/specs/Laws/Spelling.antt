@@ -31,7 +31,7 @@ mutual
       let e = elements-once xs ys ms ns (sym (append-snoc (spelledAll xs) ends ms) ∙ k ∙ append-snoc (spelledAll ys) ends ns) in
       (ap listE (e .0), e .1)
 
-  elements-once : (xs ys : Elements) (ms ns : List Meaning) → spelledAll xs ++ (ends ∷ ms) ≡ spelledAll ys ++ (ends ∷ ns) → (xs ≡ ys) × (ms ≡ ns)
+  pub elements-once : (xs ys : Elements) (ms ns : List Meaning) → spelledAll xs ++ (ends ∷ ms) ≡ spelledAll ys ++ (ends ∷ ns) → (xs ≡ ys) × (ms ≡ ns)
   elements-once noneE noneE ms ns h = (refl, cc)
   elements-once noneE (moreE y ys) ms ns h =
       no-end y ms (spelledAll ys ++ (ends ∷ ns)) (h ∙ append-assoc (spelled y) (spelledAll ys) (ends ∷ ns))

@@ -1,7 +1,7 @@
 //! Microseconds for reading, expanding and writing, as the tables of docs/BENCHMARKS.md: `cargo run --release --bin bench`.
 
 use compare::filing::Tables;
-use compare::{deep, ellipses, scheme};
+use compare::{deep, ellipses, pairs, scheme};
 use std::time::Instant;
 
 const OR: &str = "(letrec-syntax ((or (syntax-rules () ((_) #f) ((_ e) e) ((_ e r ...) ((lambda (t) (if t t (or r ...))) e)))))";
@@ -172,10 +172,58 @@ fn variables() {
     }
 }
 
+/// The move's pairs: so many recipes that the filing program takes, with a faithful text each, and what each call takes of the whole.
+fn supplier() {
+    let pairs: Vec<pairs::Pair> = inputs::in_stack(256 << 20, || {
+        let mut random = inputs::Random::new(2_300);
+        let made = std::iter::repeat_with(|| pairs::rendered(&mut random, true));
+        made.filter(|pair| pair.items.len() <= 3 * 170).take(2_300).collect()
+    });
+    let mut tables = tables(512);
+    let (mut work, mut core) = (vec![0; 16_368], vec![0; 2_046]);
+    let expanding = time(|| assert!(pairs.iter().all(|pair| grebetallboy::expand(&pair.items, 512, &mut work, &mut core).is_ok())));
+    let reading = time(|| assert!(pairs.iter().all(|pair| tables.expand(pair.recipe.as_bytes(), 512).is_ok())));
+    let mut yes = 0;
+    let whole = time(|| yes = pairs.iter().filter(|pair| tables.compare(pair.recipe.as_bytes(), &pair.text, 512) == Ok(true)).count());
+    println!("\n| {} pairs of a recipe and a text, {yes} yes | ms | µs a pair |\n|---|---|---|", pairs.len());
+    for (what, us) in [("expand alone", expanding), ("read, expand", reading), ("read, expand, compare", whole)] {
+        println!("| {what} | {:.1} | {:.1} |", us / 1e3, us / pairs.len() as f64);
+    }
+    compared("elements of a text", &[250, 500, 1_000, 2_000], |n| {
+        let list = repeated(n, |i| (i % 10).to_string());
+        (format!("(f) (f {list})"), format!("(f {list})"))
+    });
+    compared("quoted names of a text, each in both tables", &[125, 250, 500, 1_000], |n| {
+        let list = repeated(n, |i| format!("x{i}"));
+        (format!("() (quote ({list}))"), format!("(quote ({list}))"))
+    });
+    compared("references to the outermost of 480 names in scope", &[150, 300, 600, 1_200], |n| {
+        let inner = "(lambda (a b c d e f g h) ".repeat(59);
+        let text = |x: &str| format!("(lambda ({x} b c d e f g h) {inner}({}){}", repeated(n, |_| x.to_string()), ")".repeat(60));
+        (format!("() {}", text("x")), text("y"))
+    });
+}
+
+/// Comparing alone, of a recipe's term and a text that is it.
+fn compared(title: &str, sizes: &[usize], pair: impl Fn(usize) -> (String, String)) {
+    println!("\n| {title}, comparing alone | µs | µs for each |\n|---|---|---|");
+    let mut tables = tables(8_192);
+    for &n in sizes {
+        let (recipe, text) = pair(n);
+        let (items, term) = tables.expand(recipe.as_bytes(), 8_192).expect(&recipe);
+        assert_eq!(tables.held(items, term.length, text.as_bytes()), Ok(true), "{text}");
+        let us = time(|| {
+            let _ = std::hint::black_box(tables.held(items, term.length, text.as_bytes()));
+        });
+        println!("| {n} | {us:.0} | {:.3} |", us / n as f64);
+    }
+}
+
 fn main() {
     match std::env::args().nth(1).as_deref() {
         Some("numbers") => return numbers(),
         Some("variables") => return variables(),
+        Some("supplier") => return supplier(),
         _ => {}
     }
     recipes();
@@ -253,4 +301,5 @@ fn main() {
     growth("operands", &[250, 500, 1_000, 2_000], |n| format!("(f) (f {})", repeated(n, |i| (i % 10).to_string())));
     numbers();
     variables();
+    supplier();
 }

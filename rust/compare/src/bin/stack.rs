@@ -2,7 +2,7 @@
 //! wrapper sees to. `cargo run --release --bin stack`
 
 use compare::deep;
-use grebetallboy::{calls, expand_stack, table_words, write_stack};
+use grebetallboy::{calls, compare_stack, expand_stack, table_words, write_stack, ITEM_WORDS, NAME_BYTES};
 use std::process::{Command, Stdio};
 
 /// A call to measure: its name, how many levels it has, the bytes it may take, and the call itself.
@@ -26,6 +26,18 @@ fn write(words: &[u32]) {
     };
 }
 
+/// Holds a text against our words, of a recipe without operations.
+fn compare(words: &[u32], text: &[u8]) {
+    let (items, names, mut counts) = (deep::NO_OPERATIONS, [], [0; 3]);
+    let (mut text_items, mut text_names) = (vec![0; ITEM_WORDS], vec![0; NAME_BYTES]);
+    // SAFETY: as in `expand`.
+    unsafe {
+        let (w, t, i, n) = (words.as_ptr(), text.as_ptr(), text_items.as_mut_ptr(), text_names.as_mut_ptr());
+        let (w, t, i, n) = ((w, words.len()), (t, text.len()), (i, text_items.len()), (n, text_names.len()));
+        calls::grebetallboy_compare(items.as_ptr(), 15, names.as_ptr(), 0, w.0, w.1, t.0, t.1, i.0, i.1, n.0, n.1, counts.as_mut_ptr(), 3)
+    };
+}
+
 fn measured() -> Vec<Measured> {
     let mut all: Vec<Measured> = Vec::new();
     for (name, items, fuel, depth) in deep::inputs() {
@@ -36,7 +48,16 @@ fn measured() -> Vec<Measured> {
     for (name, opening) in [("if", &[6][..]), ("quoted lists", &[5, 1]), ("lambdas", &[7, 0, 0]), ("applications", &[8, 0])] {
         for (whole, end) in [("", &[2, 0][..]), (", broken off", &[])] {
             let words = [&opening.repeat(levels), end].concat();
+            let compared = words.clone();
             all.push((format!("writing nested {name}{whole}"), levels, write_stack(words.len()), Box::new(move || write(&words))));
+            let most = compare_stack(compared.len());
+            all.push((format!("comparing nested {name}{whole}"), levels, most, Box::new(move || compare(&compared, b"5"))));
+        }
+    }
+    for (name, lists, text, term) in deep::texts() {
+        for (other, words) in [("", term), (", another term", vec![2, 6])] {
+            let (most, text) = (compare_stack(words.len()), text.clone());
+            all.push((format!("comparing {name}{other}"), lists, most, Box::new(move || compare(&words, text.as_bytes()))));
         }
     }
     all

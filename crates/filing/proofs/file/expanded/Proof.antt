@@ -10,7 +10,8 @@ use Rattle.filing.proofs.file.refused.Reads as refused-reads
 use Rattle.writer.proofs.numbers.wide.Reads as wide-reads
 use mathlib.Core.Path.{sym}
 use lib.Seq.{length-take-le}
-use Rattle.filing.specs.RunLaws.{term-front, expanded-accepted, expanded-refused}
+use Rattle.program_laws.specs.RunLaws.{term-front}
+use Rattle.filing.specs.RunLaws.{expanded-accepted, expanded-refused}
 
 slice-reshare-prefix-accepted : tie.Need-slice-reshare-prefix-accepted
 slice-reshare-prefix-accepted c =

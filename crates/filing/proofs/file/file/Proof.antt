@@ -12,7 +12,8 @@ use native.Mathlib.Omega.{arith}
 use Prim.Native.Nat.{_*_, _≤_}
 use lib.ListN.{length}
 use lib.Seq.{length-take-le}
-use Rattle.filing.specs.RunLaws.{items-front, names-front, filed-read, filed-refused}
+use Rattle.program_laws.specs.ReadLaws.{items-front, names-front}
+use Rattle.filing.specs.RunLaws.{filed-read, filed-refused}
 
 mul-words : tie.Need-mul-words
 mul-words c =

@@ -5,6 +5,7 @@ use mathlib.Core.Path.{_≡_, ap, sym, subst, _∙_}
 use mathlib.Core.Bool.{false≢true}
 use Prim.Native.Nat.{_<_, _-_}
 use native.Mathlib.Omega.{arith}
+use lib.ListN.{length}
 use Rattle.recipe.specs.Table.{kindAt, itemCount}
 use Rattle.recipe.specs.TreeFrom.{treeFrom}
 use Rattle.recipe.specs.Layout.{layout}
@@ -19,6 +20,10 @@ abbrev μ-loop : tie.MeasureT-loop
 μ-loop table places₀ i₀ place₀ places i place =
     itemCount table - i
 
+-- the lent table keeps its length
+kept : (c : tie.At-loop Inv-loop μ-loop) → length (c .loop .places) ≡ length (c .before .before .before .before .args .places .now)
+kept c = c .loop .inv .long ∙ sym (c .before .before .before .before .pre .1)
+
 head-requires : tie.Need-head-requires Inv-loop μ-loop
 head-requires c κs =
     let l = layout (c .before .before .args .table .now) (c .before .before .pre .0) in item-words 0 l (omega (arith, l .least))
@@ -29,15 +34,15 @@ loop-holds c =
 
 kind-requires : tie.Need-kind-requires Inv-loop μ-loop
 kind-requires c κs =
-    words-here (c .loop .inv)
+    words-here (c .loop .inv .item)
 
 head-requires-2 : tie.Need-head-requires-2 Inv-loop μ-loop
 head-requires-2 c κs =
-    words-here (c .before .before .loop .inv)
+    words-here (c .before .before .loop .inv .item)
 
 operation-number-requires : tie.Need-operation-number-requires Inv-loop μ-loop
 operation-number-requires c κs =
-    let p = pair-here (c .before .before .before .loop .inv) (sym (c .before .before .kind .ensures) ∙ c .before .if1 .taken) in
+    let p = pair-here (c .before .before .before .loop .inv .item) (sym (c .before .before .kind .ensures) ∙ c .before .if1 .taken) in
     (c .before .before .before .before .before .before .before .pre .0, subst (λ j. j < itemCount (c .before .before .before .before .before .before .before .args .table .now)) (sym (c .head2 .ensures)) (p .headBelow))
 
 -- what is known once the number is found
@@ -53,16 +58,14 @@ turn c =
     }
 
 same-length : tie.Need-same-length Inv-loop μ-loop
-same-length c =
-    c .before .before .before .before .before .loop .inv .long ∙ sym (c .before .before .before .before .before .before .before .before .before .pre .1)
+same-length c = kept (c .before .before .before .before .before)
 
 returns : tie.Need-returns Inv-loop μ-loop
 returns c =
     (sym (turn-bad (turn (c .before)) (c .if2 .taken)), λ q. absurd (false≢true q))
 
 same-length-2 : tie.Need-same-length-2 Inv-loop μ-loop
-same-length-2 c =
-    c .before .before .before .before .before .before .loop .inv .long ∙ sym (c .before .before .before .before .before .before .before .before .before .before .pre .1)
+same-length-2 c = kept (c .before .before .before .before .before .before)
 
 returns-2 : tie.Need-returns-2 Inv-loop μ-loop
 returns-2 c =
@@ -77,8 +80,7 @@ slice-read-if4 c =
     turn-place (turn (c .before .before .before))
 
 same-length-3 : tie.Need-same-length-3 Inv-loop μ-loop
-same-length-3 c =
-    c .before .before .before .before .before .before .before .before .loop .inv .long ∙ sym (c .before .before .before .before .before .before .before .before .before .before .before .before .pre .1)
+same-length-3 c = kept (c .before .before .before .before .before .before .before .before)
 
 returns-3 : tie.Need-returns-3 Inv-loop μ-loop
 returns-3 c =
@@ -102,19 +104,18 @@ slice-write-places c =
 
 tail-requires : tie.Need-tail-requires Inv-loop μ-loop
 tail-requires c κs =
-    words-here (c .before .before .before .before .before .before .before .before .loop .inv)
+    words-here (c .before .before .before .before .before .before .before .before .loop .inv .item)
 
 loop-less : tie.Need-loop-less Inv-loop μ-loop
 loop-less c =
-    let p = pair-here (c .before .before .before .before .before .before .before .before .before .loop .inv) (turn (c .before .before .before .before .before) .kind) in omega (arith, p .tailAbove, p .tailBelow, c .tail .ensures)
+    let p = pair-here (c .before .before .before .before .before .before .before .before .before .loop .inv .item) (turn (c .before .before .before .before .before) .kind) in omega (arith, p .tailAbove, p .tailBelow, c .tail .ensures)
 
 loop-again : tie.Need-loop-again Inv-loop μ-loop
 loop-again c =
     turn-more (turn (c .before .before .before .before .before)) (c .before .before .before .before .if2 .left) (c .tail .result) (c .before .before .before .if3 .left) (c .before .if4 .left) (c .tail .ensures)
 
 same-length-4 : tie.Need-same-length-4 Inv-loop μ-loop
-same-length-4 c =
-    c .before .before .loop .inv .long ∙ sym (c .before .before .before .before .before .before .pre .1)
+same-length-4 c = kept (c .before .before)
 
 returns-4 : tie.Need-returns-4 Inv-loop μ-loop
 returns-4 c =

@@ -1,0 +1,19 @@
+-- The supplier's expansions held against ours.
+pub mod Expression
+pub mod Grammar
+pub mod Closed
+pub mod Agrees
+pub mod Compare
+pub mod Rows
+pub mod Same
+pub mod SameLaws
+pub mod Binders
+pub mod BindersLaws
+pub mod Renamed
+pub mod RenamedLaws
+pub mod Rendering
+pub mod RenderingLaws
+pub mod Written
+pub mod WrittenLaws
+pub mod ClosedLaws
+pub mod Yes

@@ -1,0 +1,1 @@
+// Definitions and laws only: the supplier's texts, and what it is to be our term, stand in specs/.

@@ -1,0 +1,40 @@
+-- The output of the program that holds a supplier's text against a recipe's expansion (request L4), bytes and all.
+use mathlib.Core.List.{List, [], _∷_}
+use Prim.Native.Nat.{ℕ}
+use Rattle.words.specs.Limits.{itemWordsLeast, nameBytesLeast, filingFuel, filingWork, filingCore}
+use Rattle.words.specs.Text.{bytes}
+use Rattle.reading.specs.Elements.{Answer, got, refusedFor}
+use Rattle.reading.specs.Read.{Recipe, read, readElements, itemWords, nameBytes}
+use Rattle.core_term.specs.Decimal.{decimal}
+use Rattle.expansion.specs.Run.{Outcome, accepted, refusedOn, unfinished, Run, coreOf, run}
+use Rattle.comparison.specs.Compare as C
+use Rattle.comparison.specs.Compare.{Verdict, yes, no, comparison}
+use Rattle.output.specs.Output.{line}
+
+-- yes, no, or refused and the ground
+unfoldable pub verdictLine : Verdict → List ℕ
+verdictLine yes = line (bytes "yes" ∷ [])
+verdictLine no = line (bytes "no" ∷ [])
+verdictLine (C.refusedOn ground) = line (bytes "refused" ∷ decimal ground ∷ [])
+
+-- the recipe's run, with the answer of comparing its words; no run is unfinished (`run-finished`)
+unfoldable pub printed : Outcome → Verdict → List ℕ
+printed accepted v = verdictLine v
+printed (refusedOn ground) v = verdictLine (C.refusedOn ground)
+printed unfinished v = []
+
+-- items and names of a recipe, with fuel, the lengths of the work and core tables, and the answer of reading the text
+unfoldable pub printedFor : (items names : List ℕ) (fuel work core : ℕ) (text : Answer Recipe) → List ℕ
+printedFor items names fuel work core text =
+    let r = run items fuel work core in
+    printed (r .outcome) (comparison items names (coreOf r) text)
+
+-- the answers of reading both texts; the recipe goes first
+unfoldable pub outputOf : (fuel work core : ℕ) (recipe text : Answer Recipe) → List ℕ
+outputOf fuel work core (refusedFor ground) text = verdictLine (C.refusedOn ground)
+outputOf fuel work core (got r) text = printedFor (itemWords r) (nameBytes r) fuel work core text
+
+-- both texts, with the filing program's fuel and tables
+unfoldable pub output : (recipe text : List ℕ) → List ℕ
+output recipe text =
+    outputOf filingFuel filingWork filingCore (read recipe itemWordsLeast nameBytesLeast) (readElements 1 text itemWordsLeast nameBytesLeast)

@@ -1,0 +1,1 @@
+// Definitions only: what the comparing program prints, and its known outputs, stand in specs/.

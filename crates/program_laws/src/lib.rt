@@ -1,0 +1,1 @@
+// Laws only: what the programs above the services share stands in specs/.
