@@ -16,6 +16,7 @@ pub mod Parts
 pub mod PartsLaws
 pub mod Window
 pub mod WindowLaws
+pub mod Opened
 pub mod HeadLaws
 pub mod Shape
 pub mod ShapeLaws

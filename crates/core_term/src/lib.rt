@@ -3,6 +3,7 @@
 pub mod codes; // codes of nodes
 mod flags; // the variables that are in scope
 mod head; // a node's own words
+pub mod nodes; // one function opens a node
 mod term; // a term's words
 
 ghost use mathlib.Core.Path.{_≡_};
