@@ -96,7 +96,7 @@ unfoldable pub permuted : List ℕ
 permuted = 4 ∷ 2 ∷ 1 ∷ 4 ∷ 4 ∷ 3 ∷ 0 ∷ 0 ∷ 0 ∷ 0 ∷ 0 ∷ 0 ∷ 4 ∷ 6 ∷ 5 ∷ 4 ∷ 8 ∷ 7 ∷ 3 ∷ 3 ∷ 0 ∷ 4 ∷ 10 ∷ 9 ∷ 4 ∷ 12 ∷ 11 ∷ 0 ∷ 0 ∷ 0 ∷ 4 ∷ 14 ∷ 13 ∷ 0 ∷ 0 ∷ 0 ∷ 4 ∷ 16 ∷ 15 ∷ 0 ∷ 0 ∷ 0 ∷ 3 ∷ 8 ∷ 0 ∷ 4 ∷ 18 ∷ 17 ∷ 3 ∷ 8 ∷ 0 ∷ 0 ∷ 0 ∷ 0 ∷ 4 ∷ 20 ∷ 19 ∷ 4 ∷ 22 ∷ 21 ∷ 3 ∷ 5 ∷ 0 ∷ 4 ∷ 24 ∷ 23 ∷ 0 ∷ 0 ∷ 0 ∷ 0 ∷ 0 ∷ 0 ∷ 4 ∷ 26 ∷ 25 ∷ 4 ∷ 28 ∷ 27 ∷ 4 ∷ 30 ∷ 29 ∷ 0 ∷ 0 ∷ 0 ∷ 4 ∷ 32 ∷ 31 ∷ 0 ∷ 0 ∷ 0 ∷ 3 ∷ 7 ∷ 0 ∷ 4 ∷ 34 ∷ 33 ∷ 3 ∷ 2 ∷ 0 ∷ 4 ∷ 36 ∷ 35 ∷ 4 ∷ 38 ∷ 37 ∷ 0 ∷ 0 ∷ 0 ∷ 3 ∷ 9 ∷ 0 ∷ 0 ∷ 0 ∷ 0 ∷ 3 ∷ 9 ∷ 0 ∷ []
 
 unfoldable pub holding : List (Trial × Finding)
-unfolding trial trialOf permuted gives refuses equal renames finding
+unfolding trial trialTo trialOf permuted gives refuses equal renames finding
 holding =
     -- E28: bound outside by the name's number, and again inside the template
     (
@@ -223,6 +223,11 @@ holding =
       trial "() (let-syntax ((m (syntax-rules () ((_) (letrec-syntax ((t (syntax-rules () ((_) (t))))) (t)))))) (m))" 4 0 0 9,
       equal 162 (refuses 18 162 512),
     ) ∷
+    -- the fourth rule of the third macro, beside decimals, three operations and a quotation of what the use brings; the new name is the next one
+    (
+      trialTo 18 "(list near far) (let-syntax ((a (syntax-rules () ((_) 0.8))) (b (syntax-rules () ((_) 1))) (m (syntax-rules () ((_) 1) ((_ x) x) ((_ x y) y) ((_ x y z) (lambda (t) (list t (quote x) (near y z 0.80))))))) (m t 0.90 (a)))" 10 2 3 17,
+      renames 1 2 32 (7 ∷ 0 ∷ 1 ∷ 17 ∷ 8 ∷ 3 ∷ 1 ∷ 0 ∷ 0 ∷ 0 ∷ 4 ∷ 17 ∷ 8 ∷ 3 ∷ 1 ∷ 1 ∷ 9 ∷ 90 ∷ 2 ∷ 9 ∷ 8 ∷ 1 ∷ 9 ∷ 80 ∷ 2 ∷ []) (7 ∷ 0 ∷ 1 ∷ 18 ∷ 8 ∷ 3 ∷ 1 ∷ 0 ∷ 0 ∷ 0 ∷ 4 ∷ 17 ∷ 8 ∷ 3 ∷ 1 ∷ 1 ∷ 9 ∷ 90 ∷ 2 ∷ 9 ∷ 8 ∷ 1 ∷ 9 ∷ 80 ∷ 2 ∷ []),
+    ) ∷
     -- items in another order than reading's
     (trialOf permuted 6 0 0 9 1000, renames 1 1 9 (7 ∷ 0 ∷ 1 ∷ 9 ∷ 0 ∷ 0 ∷ []) (7 ∷ 0 ∷ 1 ∷ 1000 ∷ 0 ∷ 0 ∷ [])) ∷
     []
@@ -307,6 +312,11 @@ failing =
     (
       trial "(list) (let-syntax ((l (syntax-rules () ((_ a ...) (list a ...))))) (l 1 2))" 6 0 0 6,
       finding (true ∷ false ∷ true ∷ true ∷ true ∷ []) 0 (gives 1 7 (8 ∷ 2 ∷ 1 ∷ 0 ∷ 2 ∷ 1 ∷ 2 ∷ 2 ∷ [])) (refuses 15 0 0),
+    ) ∷
+    -- the old name is `...` beside an ellipsis of the author's choice, where it is an ordinary name that no form can bind
+    (
+      trial "() (let-syntax ((m (syntax-rules e () ((_) (lambda (...) 1))))) (m))" 4 0 0 6,
+      finding (true ∷ false ∷ true ∷ true ∷ true ∷ []) 0 (refuses 13 1 9) (gives 1 9 (7 ∷ 0 ∷ 1 ∷ 1000 ∷ 2 ∷ 1 ∷ [])),
     ) ∷
     -- the old name is the ellipsis of the author's choice
     (

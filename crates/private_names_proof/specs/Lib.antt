@@ -10,5 +10,6 @@ pub mod Before
 pub mod Renamed
 pub mod Taken
 pub mod Claim
+pub mod Said
 pub mod Invariants
 pub mod InvariantWitnesses
