@@ -15,5 +15,6 @@ pub mod Rendering
 pub mod RenderingLaws
 pub mod Written
 pub mod WrittenLaws
+pub mod Said
 pub mod ClosedLaws
 pub mod Yes

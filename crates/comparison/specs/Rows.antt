@@ -102,6 +102,10 @@ rows =
     row "() 0.80" "0.80" yes ∷
     row "() 0.80" "0.8" no ∷
     row "() (quote (0.80 1))" "(quote (0.80 1))" yes ∷
+    row "() (quote (a b))" "(quote (a))" no ∷
+    row "() (quote a)" "(quote (a))" no ∷
+    row "() 1" "#t" no ∷
+    row "() (lambda (x) x)" "(lambda (let-syntax) let-syntax)" yes ∷
     []
 
 pub rows-hold : map (λ r. answered (r .recipe) (r .text)) rows ≡ map (λ r. r .answer) rows
@@ -120,10 +124,11 @@ pub others-hold : (
     ∷ compared (itemsOf "1 5") (namesOf "1 5") (2 ∷ 5 ∷ []) (bytes "5") itemWordsLeast nameBytesLeast
     ∷ compared (itemsOf "(if) 5") (namesOf "(if) 5") [] (bytes "5") itemWordsLeast nameBytesLeast
     ∷ compared (itemsOf "() 5") (namesOf "() 5") [] (bytes "5") 0 0
+    ∷ compared (itemsOf "(if) 5" ++ (0 ∷ [])) (namesOf "(if) 5") [] (bytes "5") 0 0
     ∷ compared (itemsOf "() (quote t)") (namesOf "() (quote t)") (7 ∷ 0 ∷ 1 ∷ 8 ∷ 0 ∷ 0 ∷ []) (bytes "(lambda (x) x)") itemWordsLeast nameBytesLeast
     ∷ compared (itemsOf "() 5") (namesOf "() 5") (7 ∷ 0 ∷ 1 ∷ 8 ∷ 0 ∷ 0 ∷ []) (bytes "(lambda (x) x)") itemWordsLeast nameBytesLeast
     ∷ []
-    ) ≡ refusedOn 19 ∷ refusedOn 19 ∷ refusedOn 1 ∷ refusedOn 2 ∷ refusedOn 7 ∷ refusedOn 10 ∷ refusedOn 19 ∷ yes ∷ refusedOn 19 ∷ []
+    ) ≡ refusedOn 19 ∷ refusedOn 19 ∷ refusedOn 1 ∷ refusedOn 2 ∷ refusedOn 7 ∷ refusedOn 10 ∷ refusedOn 19 ∷ refusedOn 7 ∷ yes ∷ refusedOn 19 ∷ []
 unfolding bytes itemsOf namesOf compared
 others-hold = refl
 
@@ -144,7 +149,9 @@ pub tables-hold : (
     ∷ drop 448 (Compare.namesLeft no (elementsOf 1 (bytes "x")) (replicate 577 9))
     ∷ Compare.itemsLeft (refusedOn 21) (elementsOf 1 (bytes "()")) (replicate 3 9)
     ∷ Compare.itemsLeft (refusedOn 1) (elementsOf 1 (bytes "5")) (replicate 3 9)
+    ∷ Compare.itemsLeft (refusedOn 3) (elementsOf 1 (bytes "A")) (replicate 3 9)
+    ∷ Compare.itemsLeft (refusedOn 7) (elementsOf 1 (bytes "5")) (replicate 3 9)
     ∷ []
-    ) ≡ (4 ∷ 1 ∷ 2 ∷ 1 ∷ 5 ∷ 0 ∷ replicate 6 0) ∷ (NameTable.slot (bytes "_") ++ NameTable.slot (bytes "x") ++ (0 ∷ [])) ∷ replicate 3 0 ∷ replicate 3 9 ∷ []
+    ) ≡ (4 ∷ 1 ∷ 2 ∷ 1 ∷ 5 ∷ 0 ∷ replicate 6 0) ∷ (NameTable.slot (bytes "_") ++ NameTable.slot (bytes "x") ++ (0 ∷ [])) ∷ replicate 3 0 ∷ replicate 3 9 ∷ replicate 3 0 ∷ replicate 3 9 ∷ []
 unfolding bytes elementsOf Lists.within Tables.filled itemWords nameBytes NameTable.slot Compare.zeroes Compare.leftBy Compare.readWords Compare.itemsLeft Compare.namesLeft
 tables-hold = refl
