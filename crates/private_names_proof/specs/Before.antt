@@ -19,7 +19,8 @@ use Rattle.expansion.specs.Forms.{expandList, expandApplication, expandPair, ex
 use Rattle.private_names.specs.Statement.{isReachedAt}
 use Rattle.simulation.specs.Shapes.{TreeOf, empties, constants, names₂, pairs}
 use Rattle.simulation.specs.Names.Shown.{Renaming}
-use Rattle.simulation.specs.Terms.{variableCs, operationCs, TermRel}
+use Rattle.simulation.specs.Terms.{variableCs, operationCs}
+use Rattle.simulation.specs.Formals.{TermRel}
 use Rattle.simulation.specs.Outcomes.{eventsOf}
 use Rattle.simulation.specs.Form.Holes.{Hole, first, later}
 use Rattle.simulation.specs.Form.Places.{Still, ChosenRules, Foreign, still-eq, still-self}

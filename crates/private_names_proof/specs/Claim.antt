@@ -26,7 +26,8 @@ use Rattle.private_names.specs.Statement as S
 use Rattle.private_names.specs.Statement.{Choice, isOldItem, isNew, renamed, isReachedAt, quotesNoCopy, findsOwn, hypotheses, answerOf, coreWith, answerWith, PrivateNames}
 use Rattle.simulation.specs.Names.Shown.{Renaming, ofCopy, AllFine}
 use Rattle.simulation.specs.Names.{Raw}
-use Rattle.simulation.specs.Terms.{TermRel, first-told, second-told}
+use Rattle.simulation.specs.Formals.{TermRel, first-told, second-told}
+use Rattle.simulation.specs.Steps.{privately}
 use Rattle.simulation.specs.States.{StateRel, no-macro}
 use Rattle.simulation.specs.Outcomes.{eventsOf, OutRel, dones, refusals, starvations}
 use Rattle.simulation.specs.Form.{Joins}
@@ -41,13 +42,13 @@ use Rattle.private_names_proof.specs.Taken.{new-large, renaming, held, c
 
 -- ---- outcomes that agree give one answer, but for the name words where a copy stands
 
-ended-first : (ρ : Renaming) (raw : Raw ρ) {x y : Out (Term Name)} → OutRel ρ raw 0 (TermRel ρ) x y → answerOf (ended x) ≡ answerWith (ρ .isPrivate) (ρ .old) (ended x)
+ended-first : (ρ : Renaming) (raw : Raw ρ) {x y : Out (Term Name)} → OutRel (privately ρ raw) 0 (TermRel ρ) x y → answerOf (ended x) ≡ answerWith (ρ .isPrivate) (ρ .old) (ended x)
 unfolding answerOf answerWith coreWith ended
 ended-first ρ raw (dones {s = s} r q) = λ i. record { outcome = accepted; steps = s .steps; sum = s .sum; core = encode (sym (first-told ρ r) i) }
 ended-first ρ raw (refusals q) = refl
 ended-first ρ raw starvations = refl
 
-ended-second : (ρ : Renaming) (raw : Raw ρ) {x y : Out (Term Name)} → OutRel ρ raw 0 (TermRel ρ) x y → answerOf (ended y) ≡ answerWith (ρ .isPrivate) (ρ .new) (ended x)
+ended-second : (ρ : Renaming) (raw : Raw ρ) {x y : Out (Term Name)} → OutRel (privately ρ raw) 0 (TermRel ρ) x y → answerOf (ended y) ≡ answerWith (ρ .isPrivate) (ρ .new) (ended x)
 unfolding answerOf answerWith coreWith ended
 ended-second ρ raw (dones r q) = λ i. record { outcome = accepted; steps = sym (q .steps) i; sum = sym (q .sum) i; core = encode (sym (second-told ρ r) i) }
 ended-second ρ raw (refusals {g = g} q) = λ i. record { outcome = refusedOn g; steps = sym (q .steps) i; sum = sym (q .sum) i; core = [] }
@@ -55,7 +56,7 @@ ended-second ρ raw starvations = refl
 
 -- ---- an expression and the renumbered one, from the start
 
-calm-start : (ρ : Renaming) (raw : Raw ρ) → StateRel ρ raw 0 start start
+calm-start : (ρ : Renaming) (raw : Raw ρ) → StateRel (privately ρ raw) 0 start start
 unfolding start
 calm-start ρ raw = record { enough = omega arith; steps = refl; sum = refl; variables = refl; macros = no-macro }
 

@@ -20,7 +20,9 @@ use Rattle.simulation.specs.Relations.{ListRel, ends, joins, append-rel,
 use Rattle.simulation.specs.Shapes.{TreeOf, tree-map, names-rel, element-rel}
 use Rattle.simulation.specs.Names.Shown.{Renaming, ofCopy, AllFine}
 use Rattle.simulation.specs.Names.{Raw}
-use Rattle.simulation.specs.Terms.{TermRel}
+use Rattle.simulation.specs.Lookups.{lookup-rel}
+use Rattle.simulation.specs.Formals.{TermRel}
+use Rattle.simulation.specs.Steps.{privately}
 use Rattle.simulation.specs.States.{StateRel, macros-append}
 use Rattle.simulation.specs.Outcomes.{eventsOf, OutRel, Agree, bind-agree, tested-agree, test-agree, show-agree, goes-agree, get-agree}
 use Rattle.simulation.specs.FormsKept.{isMacros-rel, readRules-by}
@@ -118,7 +120,7 @@ module _ (ρ : Renaming) where
   -- outcomes that agree for some bindings of the template's own names
   pub record Joins {A : Type 0} (R : A → A → Type 0) (x y : Out A) : Type 1 where
     pub raw : Raw ρ
-    pub outcomes : OutRel ρ raw 0 R x y
+    pub outcomes : OutRel (privately ρ raw) 0 R x y
 
   abbrev pub Joined : Out (Term Name) → Out (Term Name) → Type 1
   Joined = Joins (TermRel ρ)
@@ -127,33 +129,33 @@ module _ (ρ : Renaming) where
     abbrev γ : Scope
     γ = formScope β inside (length (s .macros)) F
 
-    form-steps : StateRel ρ (rawIn γ) 0 s s → Agree ρ (rawIn γ) 0 (TermRel ρ) (expandMacros limit operations fuel (expand inner operations fuel gas) inside x F s) (expandMacros limit operations fuel (expand inner operations fuel gas) inside x F′ s)
+    form-steps : StateRel (privately ρ (rawIn γ)) 0 s s → Agree (privately ρ (rawIn γ)) 0 (TermRel ρ) (expandMacros limit operations fuel (expand inner operations fuel gas) inside x F s) (expandMacros limit operations fuel (expand inner operations fuel gas) inside x F′ s)
     unfolding expandMacros addMacros rawIn
     form-steps q =
         let k = length (s .macros) in
         let w = keywords-still ρ β r in
-        show-agree ρ (rawIn γ) 0 _ _ _ _ s s λ _.
-        test-agree ρ (rawIn γ) 0 13 _ _ _ _ s s (isMacros-rel _ (λ x y a. a .0) (λ x y a. a .1) limit F F′ (hole-alike ρ β r)) q
-        (tested-agree ρ (rawIn γ) 0 14 _ _ _ _ s s (ap distinct (list-eq (λ x y a. a .eq) w)) q λ d.
-        get-agree ρ (rawIn γ) 0 _ _ s s
-        (show-agree ρ (rawIn γ) 0 _ _ _ _ s s λ fine.
-        bind-agree ρ (rawIn γ) 0 {R = ListRel (ListRel (FormRule ρ γ))} _ _ _ _ s s
-        (readRules-by ρ (rawIn γ) 0 (FormRules ρ γ) (ListRel (FormRule ρ γ)) (λ t u a _. formRules-read ρ γ t u a) (scoped-hole ρ β r inside k d) s s q)
+        show-agree (privately ρ (rawIn γ)) 0 _ _ _ _ s s λ _.
+        test-agree (privately ρ (rawIn γ)) 0 13 _ _ _ _ s s (isMacros-rel _ (λ x y a. a .0) (λ x y a. a .1) limit F F′ (hole-alike ρ β r)) q
+        (tested-agree (privately ρ (rawIn γ)) 0 14 _ _ _ _ s s (ap distinct (list-eq (λ x y a. a .eq) w)) q λ d.
+        get-agree (privately ρ (rawIn γ)) 0 _ _ s s
+        (show-agree (privately ρ (rawIn γ)) 0 _ _ _ _ s s λ fine.
+        bind-agree (privately ρ (rawIn γ)) 0 {R = ListRel (ListRel (FormRule ρ γ))} _ _ _ _ s s
+        (readRules-by (privately ρ (rawIn γ)) 0 (FormRules ρ γ) (ListRel (FormRule ρ γ)) (λ t u a _. formRules-read ρ γ t u a) (scoped-hole ρ β r inside k d) s s q)
         λ a c v v′ e q′.
-        goes-agree ρ (rawIn γ) 0 _ _ _ _ v v′ _ _ _ _ refl refl
+        goes-agree (privately ρ (rawIn γ)) 0 _ _ _ _ v v′ _ _ _ _ refl refl
         (let h : Foreign ρ γ = scope-foreign ρ β r free inside k fine in
-        expand-agree ρ (rawIn γ) inner inner operations fuel gas 0 (AtRest ρ) (rest-coherent ρ) (rest-ready ρ) (rest-below ρ 0) _ _
+        expand-agree (privately ρ (rawIn γ)) operations operations (λ Q rd x y. lookup-rel ρ (rawIn γ) {Q = Q} rd operations x y) inner inner fuel gas 0 (AtRest ρ) (rest-coherent ρ) (rest-ready ρ) (rest-below ρ 0) _ _
         (tree-map (still-rel ρ (rawIn γ) (rebindAll macro k (keywords F) β) (rebindAll-foreign ρ macro k β β w fine free)) (bindAll-still ρ macro (keywords F) (keywords F′) k β w d (hole-off r 2 (omega arith)))) _ _
         (record {
           enough = omega arith;
           steps = q′ .steps;
           sum = q′ .sum;
           variables = q′ .variables;
-          macros = macros-append ρ (rawIn γ) (q′ .macros) (formMacros-rel ρ γ (rawIn γ) h (foreign-eq (γ (ρ .old)) (h (ρ .old))) (foreign-eq (γ (ρ .new)) (h (ρ .new))) (suc (v .steps)) e);
+          macros = macros-append (privately ρ (rawIn γ)) (q′ .macros) (formMacros-rel ρ γ (rawIn γ) h (foreign-eq (γ (ρ .old)) (h (ρ .old))) (foreign-eq (γ (ρ .new)) (h (ρ .new))) (suc (v .steps)) e);
         }))))
 
     -- from a state whose macros have no private name (whatever the template's own names are bound to), the form comes to the same in both runs,
     -- where what the first shows is fine
-    pub form-agree : ((raw : Raw ρ) → StateRel ρ raw 0 s s) → AllFine ρ (eventsOf (expandMacros limit operations fuel (expand inner operations fuel gas) inside x F s))
+    pub form-agree : ((raw : Raw ρ) → StateRel (privately ρ raw) 0 s s) → AllFine ρ (eventsOf (expandMacros limit operations fuel (expand inner operations fuel gas) inside x F s))
         → Joined (expandMacros limit operations fuel (expand inner operations fuel gas) inside x F s) (expandMacros limit operations fuel (expand inner operations fuel gas) inside x F′ s)
     form-agree calm fine = record { raw = rawIn γ; outcomes = form-steps (calm (rawIn γ)) fine }

@@ -1,20 +1,17 @@
 -- Lookups whose events are fine find the same in both runs; so do comparisons of literals, rules heads and quoted data.
-use mathlib.Core.Path.{_≡_, refl, ap, ap₂, sym, _∙_, subst}
+use mathlib.Core.Path.{_≡_, refl, ap, ap₂, sym, _∙_}
 use mathlib.Core.Bool.{true, false, _&&_, _||_, true≢false, false≢true}
-use mathlib.Core.List.{List, [], _∷_, _++_, map, map-append}
+use mathlib.Core.List.{List}
 use mathlib.Core.Option.{Option, none, some}
 use Prim.Native.Nat.{ℕ}
 use lib.Dec.{eqb}
-use Rattle.words.specs.Each.{also, each-left, each-right}
-use Rattle.datum.specs.Datum.{listD, moreD}
 use Rattle.recipe.specs.Name.{Binding, Name, bindingKey, isBound}
-use Rattle.recipe.specs.Tree.{Tree, names, name, onName, strip, stripTail}
 use Rattle.expansion.specs.Lookup.{Found, lookup, unboundMeaning, orUnbound, isSyntaxRules, agree}
 use Rattle.expansion.specs.Computation.{looked, quoted}
-use Rattle.simulation.specs.Shapes.{empties, constants, names₂, pairs}
+use Rattle.simulation.specs.Marks.{Kind, Of}
 use Rattle.simulation.specs.Names.Sameness.{bindingKey-apart}
-use Rattle.simulation.specs.Names.Shown.{Renaming, ofCopy, private-copy, owned-apart, Fine, looked-fine, quoted-fine, AllFine, Looks}
-use Rattle.simulation.specs.Names.{Kind, Of, Ready, Raw, Tie, owned, unowned, Turned, NameRel, kept, turned, TreeRel}
+use Rattle.simulation.specs.Names.Shown.{Renaming, ofCopy, private-copy, owned-apart, Fine, looked-fine, quoted-fine}
+use Rattle.simulation.specs.Names.{Ready, Raw, Tie, owned, unowned, Turned, NameRel, kept, turned}
 
 module _ (ρ : Renaming) (raw : Raw ρ) where
   -- a copy that is looked up has a binding of a copy's, the same in both runs
@@ -53,17 +50,17 @@ module _ (ρ : Renaming) (raw : Raw ρ) where
   agree-bound x y u = ap (λ b. eqb (bindingKey (x .binding)) (bindingKey (y .binding)) && (b || eqb (x .number) (y .number))) u
 
   -- literals agree in both runs or in neither
-  pub agree-rel : {Q P : Kind} → Ready ρ Q → Ready ρ P → (x x′ y y′ : Name) → NameRel ρ raw Q x x′ → NameRel ρ raw P y y′ → Looks ρ (x ∷ y ∷ []) → agree x y ≡ agree x′ y′
-  agree-rel rq rp x x′ y y′ (kept a k) (kept b l) fine = ap₂ agree (k .eq) (l .eq)
-  agree-rel rq rp x x′ y y′ (kept a k) (turned b t) (also f (also g h)) =
+  pub agree-rel : {Q P : Kind} → Ready ρ Q → Ready ρ P → (x x′ y y′ : Name) → NameRel ρ raw Q x x′ → NameRel ρ raw P y y′ → Fine ρ (looked x) → Fine ρ (looked y) → agree x y ≡ agree x′ y′
+  agree-rel rq rp x x′ y y′ (kept a k) (kept b l) f g = ap₂ agree (k .eq) (l .eq)
+  agree-rel rq rp x x′ y y′ (kept a k) (turned b t) f g =
       let e = looked-eq rp y y′ b t g in
       agree-false x y (λ d. owned-apart ρ (e .1) (k .free) (sym d))
       ∙ sym (agree-false x′ y′ (λ d. owned-apart ρ (e .1) (k .free) (e .0 ∙ sym d ∙ ap (λ z. z .binding) (sym (k .eq)))))
-  agree-rel rq rp x x′ y y′ (turned a t) (kept b k) (also f g) =
+  agree-rel rq rp x x′ y y′ (turned a t) (kept b k) f g =
       let e = looked-eq rq x x′ a t f in
       agree-false x y (λ d. owned-apart ρ (e .1) (k .free) d)
       ∙ sym (agree-false x′ y′ (λ d. owned-apart ρ (e .1) (k .free) (e .0 ∙ d ∙ ap (λ z. z .binding) (sym (k .eq)))))
-  agree-rel rq rp x x′ y y′ (turned a t) (turned b u) (also f (also g h)) =
+  agree-rel rq rp x x′ y y′ (turned a t) (turned b u) f g =
       let e = looked-eq rq x x′ a t f in
       let d = looked-eq rp y y′ b u g in
       agree-bound x y (owned-bound (x .binding) (e .1)) ∙ ap₂ (λ p q. eqb (bindingKey p) (bindingKey q) && true) (e .0) (d .0)
@@ -75,36 +72,15 @@ module _ (ρ : Renaming) (raw : Raw ρ) where
   unfolding isSyntaxRules bindingKey ofCopy
   owned-no-rules x e = ap (λ b. b && eqb (x .number) 5) (bindingKey-apart (x .binding) none (owned-apart ρ e refl))
 
-  pub isSyntaxRules-rel : {Q : Kind} → Ready ρ Q → {t u : Tree} → TreeRel ρ raw Q t u → AllFine ρ (onName (λ x. looked x ∷ []) [] t) → onName isSyntaxRules false t ≡ onName isSyntaxRules false u
-  unfolding onName
-  isSyntaxRules-rel rd empties f = refl
-  isSyntaxRules-rel rd constants f = refl
-  isSyntaxRules-rel rd (names₂ (kept q k)) f = ap isSyntaxRules (k .eq)
-  isSyntaxRules-rel rd (names₂ {x = x} {y = y} (turned q t)) (also g f) =
-      let e = looked-eq rd x y q t g in
+  pub isSyntaxRules-rel : {Q : Kind} → Ready ρ Q → (x y : Name) → NameRel ρ raw Q x y → Fine ρ (looked x) → isSyntaxRules x ≡ isSyntaxRules y
+  isSyntaxRules-rel rd x y (kept q k) f = ap isSyntaxRules (k .eq)
+  isSyntaxRules-rel rd x y (turned q t) f =
+      let e = looked-eq rd x y q t f in
       owned-no-rules x (e .1) ∙ sym (owned-no-rules y (ap (ofCopy ρ) (sym (e .0)) ∙ e .1))
-  isSyntaxRules-rel rd (pairs p q) f = refl
 
-  -- ---- quoted data
+  -- ---- quoted names
 
-  -- where no copy is quoted the two data are one
-  module _ {Q : Kind} (rd : Ready ρ Q) where
-    mutual
-      unfolding names strip stripTail
-
-      pub strip-eq : {t u : Tree} → TreeRel ρ raw Q t u → AllFine ρ (map quoted (names t)) → strip t ≡ strip u
-      strip-eq empties a = refl
-      strip-eq constants a = refl
-      strip-eq (names₂ (kept q k)) a = ap (λ x. strip (name x)) (k .eq)
-      strip-eq (names₂ {x = x} (turned q t)) (also f a) = absurd (true≢false (sym (private-copy ρ x (rd _ _ _ _ q (t .private)) (t .private)) ∙ quoted-fine ρ x f))
-      strip-eq (pairs {h = a} {t = b} p r) f =
-          let g : AllFine ρ (map quoted (names a) ++ map quoted (names b)) = subst (AllFine ρ) (map-append quoted (names a) (names b)) f in
-          ap₂ (λ d ds. listD (moreD d ds)) (strip-eq p (each-left (map quoted (names a)) (map quoted (names b)) g)) (stripTail-eq r (each-right (map quoted (names a)) (map quoted (names b)) g))
-
-      pub stripTail-eq : {t u : Tree} → TreeRel ρ raw Q t u → AllFine ρ (map quoted (names t)) → stripTail t ≡ stripTail u
-      stripTail-eq empties a = refl
-      stripTail-eq constants a = refl
-      stripTail-eq (names₂ r) a = refl
-      stripTail-eq (pairs {h = a} {t = b} p r) f =
-          let g : AllFine ρ (map quoted (names a) ++ map quoted (names b)) = subst (AllFine ρ) (map-append quoted (names a) (names b)) f in
-          ap₂ moreD (strip-eq p (each-left (map quoted (names a)) (map quoted (names b)) g)) (stripTail-eq r (each-right (map quoted (names a)) (map quoted (names b)) g))
+  -- where no copy is quoted the two numbers are one
+  pub quoted-eq : {Q : Kind} → Ready ρ Q → (x y : Name) → NameRel ρ raw Q x y → Fine ρ (quoted x) → x .number ≡ y .number
+  quoted-eq rd x y (kept q k) f = ap (λ z. z .number) (k .eq)
+  quoted-eq rd x y (turned q t) f = absurd (true≢false (sym (private-copy ρ x (rd _ _ _ _ q (t .private)) (t .private)) ∙ quoted-fine ρ x f))

@@ -5,27 +5,16 @@ use mathlib.Core.Path.{_≡_, refl, ap, ap₂, sym, _∙_}
 use mathlib.Core.Bool.{Bool, true, false, cond, true≢false, false≢true}
 use mathlib.Core.List.{List}
 use mathlib.Core.Option.{Option}
-use Prim.Native.Nat.{ℕ, suc}
+use Prim.Native.Nat.{ℕ}
 use lib.Dec.{eqb}
 use Rattle.words.specs.TestLaws.{iff-eq}
-use Rattle.words.specs.Each.{also}
 use Rattle.recipe.specs.Name.{Binding, Name, same, isEllipsis, isWildcard, giveBinding, bindName}
-use Rattle.recipe.specs.Tree.{Tree, bind, bindAll}
 use Rattle.expansion.specs.Computation.{binds}
-use Rattle.expansion.specs.Forms.{bindings}
-use Rattle.simulation.specs.Relations.{ListRel, ends, joins}
-use Rattle.simulation.specs.Shapes.{TreeOf, onNames-rel}
+use Rattle.simulation.specs.Marks.{Kind, Of}
 use Rattle.simulation.specs.Names.Sameness.{Same, same→Same, Same→same}
-use Rattle.simulation.specs.Names.Shown.{Renaming, ofCopy, not-private-not-copy, private-copy, owned-apart, Fine, binds-fine, AllFine}
+use Rattle.simulation.specs.Names.Shown.{Renaming, ofCopy, not-private-not-copy, private-copy, owned-apart, Fine, binds-fine}
 
 -- ---- what is known of the names of a tree
-
--- a statement about a name's number, item, `produced` and marks, in the first run
-abbrev pub Kind : Type 1
-Kind = (number item : ℕ) (produced : Bool) (marks : List ℕ) → Type 0
-
-abbrev pub Of : Kind → Name → Type 0
-Of Q x = Q (x .number) (x .item) (x .produced) (x .marks)
 
 module _ (ρ : Renaming) where
   -- names of the old number with the same marks are all private or none is; and no private one has the marks of another name of the new number
@@ -70,9 +59,6 @@ module _ (ρ : Renaming) (raw : Raw ρ) where
   pub data NameRel (Q : Kind) (x y : Name) : Type 0 where
     kept : Of Q x → Kept x y → NameRel Q x y
     turned : Of Q x → Turned x y → NameRel Q x y
-
-  abbrev pub TreeRel : Kind → Tree → Tree → Type 0
-  TreeRel Q = TreeOf (NameRel Q)
 
   pub name-map : {Q P : Kind} → ((k i : ℕ) (b : Bool) (ms : List ℕ) → Q k i b ms → P k i b ms) → (x y : Name) → NameRel Q x y → NameRel P x y
   name-map h x y (kept q k) = kept (h _ _ _ _ q) k
@@ -141,7 +127,7 @@ module _ (ρ : Renaming) (raw : Raw ρ) where
         tie = owned (binds-fine ρ b i f ∙ private-copy ρ i (rd _ _ _ _ qi (t .private)) (t .private));
       })
 
-      bindName-rel : (b : Binding) (i j : Name) → NameRel Q i j → Fine ρ (binds b i) → (x y : Name) → NameRel Q x y → NameRel Q (bindName i b x) (bindName j b y)
+      pub bindName-rel : (b : Binding) (i j : Name) → NameRel Q i j → Fine ρ (binds b i) → (x y : Name) → NameRel Q x y → NameRel Q (bindName i b x) (bindName j b y)
       unfolding bindName
       bindName-rel b i j r f x y q = go (same i x) (same j y) refl (same-rel i j x y r q)
         where
@@ -150,8 +136,3 @@ module _ (ρ : Renaming) (raw : Raw ρ) where
           go true false s t = absurd (true≢false t)
           go false true s t = absurd (false≢true t)
           go false false s t = q
-
-      pub bindAll-rel : (f : ℕ → Binding) (k : ℕ) {xs ys : List Name} → ListRel (NameRel Q) xs ys → AllFine ρ (bindings f k xs) → {t u : Tree} → TreeRel Q t u → TreeRel Q (bindAll f k xs t) (bindAll f k ys u)
-      unfolding bindAll bind bindings
-      bindAll-rel f k ends a r = r
-      bindAll-rel f k (joins q qs) (also p a) r = bindAll-rel f (suc k) qs a (onNames-rel _ _ (bindName-rel (f k) _ _ q p) r)

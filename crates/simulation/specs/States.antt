@@ -1,31 +1,24 @@
 -- Macros and states of two runs that agree: equal counts, and rules whose names are related.
 use mathlib.Core.Path.{_≡_, refl, ap}
-use mathlib.Core.Bool.{true}
 use mathlib.Core.List.{List, [], _∷_, _++_}
 use mathlib.Core.Option.{Option, none, some}
 use Prim.Native.Nat.{ℕ, zero, suc, _≤_}
 use lib.ListN.{length, getD}
-use Rattle.recipe.specs.Name.{Name}
 use Rattle.expansion.specs.Rules.{Rule}
 use Rattle.expansion.specs.Computation.{State}
 use Rattle.simulation.specs.Relations.{ListRel, ends, joins}
 use Rattle.simulation.specs.Shapes.{PatternOf, TemplateOf, RuleOf, pattern-map}
-use Rattle.simulation.specs.Names.Shown.{Renaming}
-use Rattle.simulation.specs.Names.{Kind, Coherent, Ready, Raw, NameRel, name-map}
-use Rattle.simulation.specs.Steps.{Below, older-le}
+use Rattle.simulation.specs.Marks.{Kind, Below, older-le}
+use Rattle.simulation.specs.Likeness.{Likeness}
 
-module _ (ρ : Renaming) (raw : Raw ρ) where
-  -- a pattern's literals: those that are private are copies
-  abbrev pub Literal : Name → Name → Type 0
-  Literal = NameRel ρ raw (λ k i b ms. ρ .isPrivate i ≡ true → b ≡ true)
-
+module _ (L : Likeness) where
   -- each rule has its own names, whose marks are older than k
   pub record RuleRel (k : ℕ) (r s : Rule) : Type 1 where
     pub kind : Kind
-    pub coherent : Coherent ρ kind
+    pub coherent : L .Coherent kind
     pub below : Below k kind
-    pub pattern : PatternOf Literal (r .pattern) (s .pattern)
-    pub template : TemplateOf (NameRel ρ raw kind) (r .template) (s .template)
+    pub pattern : PatternOf (L .Literal) (r .pattern) (s .pattern)
+    pub template : TemplateOf (L .Rel kind) (r .template) (s .template)
 
   pub data RulesRel (k : ℕ) : List Rule → List Rule → Type 1 where
     no-rule : RulesRel k [] []
@@ -72,11 +65,11 @@ module _ (ρ : Renaming) (raw : Raw ρ) where
   macro-at (with r rs) (suc j) = macro-at rs j
 
   -- the rules that a form reads
-  module _ (k : ℕ) (Q : Kind) (co : Coherent ρ Q) (rd : Ready ρ Q) (b : Below k Q) where
-    new-rules : {r s : List Rule} → ListRel (RuleOf (NameRel ρ raw Q) (NameRel ρ raw Q)) r s → RulesRel k r s
+  module _ (k : ℕ) (Q : Kind) (co : L .Coherent Q) (rd : L .Ready Q) (b : Below k Q) where
+    new-rules : {r s : List Rule} → ListRel (RuleOf (L .Rel Q) (L .Rel Q)) r s → RulesRel k r s
     new-rules ends = no-rule
-    new-rules (joins r rs) = rule (record { kind = Q; coherent = co; below = b; pattern = pattern-map (name-map ρ raw rd) (r .pattern); template = r .template }) (new-rules rs)
+    new-rules (joins r rs) = rule (record { kind = Q; coherent = co; below = b; pattern = pattern-map (L .literal-rel Q rd) (r .pattern); template = r .template }) (new-rules rs)
 
-    pub new-macros : {r s : List (List Rule)} → ListRel (ListRel (RuleOf (NameRel ρ raw Q) (NameRel ρ raw Q))) r s → MacrosRel k r s
+    pub new-macros : {r s : List (List Rule)} → ListRel (ListRel (RuleOf (L .Rel Q) (L .Rel Q))) r s → MacrosRel k r s
     new-macros ends = no-macro
     new-macros (joins r rs) = with (new-rules r) (new-macros rs)

@@ -16,8 +16,11 @@ use Rattle.private_names.specs.Statement.{isReachedAt}
 use Rattle.simulation.specs.Relations.{ListRel, ends, joins, map-rel, list-map}
 use Rattle.simulation.specs.Shapes.{TreeOf, empties, pairs, RuleOf, tree-map, names-rel}
 use Rattle.simulation.specs.Names.Shown.{Renaming, not-private-not-copy, AllFine}
-use Rattle.simulation.specs.Names.{Raw, NameRel, TreeRel}
-use Rattle.simulation.specs.Terms.{lambdaCs, TermRel, FormalRel, same-formal}
+use Rattle.simulation.specs.Names.{Raw, NameRel}
+use Rattle.simulation.specs.Likeness.{TreeRel}
+use Rattle.simulation.specs.Terms.{lambdaCs}
+use Rattle.simulation.specs.Formals.{TermRel, FormalRel, same-formal}
+use Rattle.simulation.specs.Steps.{privately}
 use Rattle.simulation.specs.States.{macros-append, new-macros}
 use Rattle.simulation.specs.Outcomes.{give-agree}
 use Rattle.simulation.specs.FormsKept.{isLambda-rel, isMacros-rel, keywords-rel, rulesForms-rel, readRules-agree, scoped-rel}
@@ -74,7 +77,7 @@ module _ (ρ : Renaming) (p : ℕ) (limit inner : ℕ) (operations : List ℕ) (
         (λ raw. record { enough = omega arith; steps = refl; sum = refl; variables = refl; macros = calm raw .macros }))
         (λ a v. give-unreached p _ v)
         λ raw a a′ v v′ e st.
-        give-agree ρ raw 0 _ _ v v′ (lambdaCs (formals-rel w) e) st))
+        give-agree (privately ρ raw) 0 _ _ v v′ (lambdaCs (formals-rel w) e) st))
 
     pub lambda-before : (k : ℕ) {l : List ℕ} {t t′ : Tree} → Headed p (k ∷ l) t → uses p t ≤ 1 → Hole (Still ρ β) (ChosenRules ρ β) (k ∷ place ρ p b l) t t′
         → (s : State) → Calm ρ p s → Meets ρ p (TermRel ρ) (expandLambda limit operations fuel rec t s) (expandLambda limit operations fuel rec t′ s)
@@ -108,9 +111,9 @@ module _ (ρ : Renaming) (p : ℕ) (limit inner : ℕ) (operations : List ℕ) (
 
     -- rules forms in the scope of their form's names
     scoped-still : (raw : Raw ρ) (inside : Bool) (k : ℕ) {ks : List Name} → ListRel (Still ρ β) ks ks → AllFine ρ (bindings macro k ks) → {rs : List Tree} → ListRel (TreeOf (Still ρ β)) rs rs
-        → ListRel (TreeRel ρ raw (AtRest ρ)) (map (cond inside (bindAll macro k ks) (λ r. r)) rs) (map (cond inside (bindAll macro k ks) (λ r. r)) rs)
+        → ListRel (TreeRel (privately ρ raw) (AtRest ρ)) (map (cond inside (bindAll macro k ks) (λ r. r)) rs) (map (cond inside (bindAll macro k ks) (λ r. r)) rs)
     scoped-still raw inside k w fine r =
-        map-rel _ _ (scoped-rel ρ raw (AtRest ρ) (rest-coherent ρ) (rest-ready ρ) inside k (list-map (still-rel ρ raw β free) w) fine) (list-map (λ t u q. tree-map (still-rel ρ raw β free) q) r)
+        map-rel _ _ (scoped-rel (privately ρ raw) (AtRest ρ) (rest-coherent ρ) (rest-ready ρ) inside k (list-map (still-rel ρ raw β free) w) fine) (list-map (λ t u q. tree-map (still-rel ρ raw β free) q) r)
 
     macros-body : (inside : Bool) (x : Name) → isAt p x ≡ false → (c : Bool) (ks : List Name) → ListRel (Still ρ β) ks ks → (rs : List Tree) → ListRel (TreeOf (Still ρ β)) rs rs
         → {l : List ℕ} {t t′ : Tree} → Headed p l t → uses p t ≤ 1 → Hole (Still ρ β) (ChosenRules ρ β) (place ρ p b l) t t′
@@ -124,7 +127,7 @@ module _ (ρ : Renaming) (p : ℕ) (limit inner : ℕ) (operations : List ℕ) (
         get-meets ρ p _ _ s s
         (show-meets ρ p _ _ _ _ s s (bindings-none p macro k ks) λ fine.
         part-before ρ p (λ raw. ListRel (ListRel (RuleOf (NameRel ρ raw (AtRest ρ)) (NameRel ρ raw (AtRest ρ))))) _ _ _ s (read-unreached p _ s)
-        (λ raw. readRules-agree ρ raw 0 (AtRest ρ) (rest-coherent ρ) (rest-ready ρ) (scoped-still raw inside k w fine q) s s (calm raw))
+        (λ raw. readRules-agree (privately ρ raw) 0 (AtRest ρ) (rest-coherent ρ) (rest-ready ρ) (scoped-still raw inside k w fine q) s s (calm raw))
         λ rules v e calm′.
         goes-meets ρ p _ _ _ _ v v _ _ refl refl
         (ahead (rebindAll macro k ks β) (rebindAll-foreign ρ macro k β β w fine free) l _ _ (headed-bindAll p macro k ks i) (omega (arith, uses-bindAll p macro k ks t)) (bindAll-hole ρ macro ks ks k β w d r) _
@@ -133,7 +136,7 @@ module _ (ρ : Renaming) (p : ℕ) (limit inner : ℕ) (operations : List ℕ) (
           steps = refl;
           sum = refl;
           variables = refl;
-          macros = macros-append ρ raw (q′ .macros) (new-macros ρ raw (suc (v .steps)) (AtRest ρ) (rest-coherent ρ) (rest-ready ρ) (rest-below ρ (suc (v .steps))) (e raw));
+          macros = macros-append (privately ρ raw) (q′ .macros) (new-macros (privately ρ raw) (suc (v .steps)) (AtRest ρ) (rest-coherent ρ) (rest-ready ρ) (rest-below ρ (suc (v .steps))) (e raw));
         })))
 
     -- the entries of a form, as trees of their own

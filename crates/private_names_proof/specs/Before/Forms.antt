@@ -7,12 +7,17 @@ use Rattle.recipe.specs.Name.{Name}
 use Rattle.recipe.specs.Tree.{Tree, pair, element}
 use Rattle.recipe.specs.TreeNames.{uses, uses-element}
 use Rattle.core_term.specs.Term.{Term}
-use Rattle.expansion.specs.Computation.{State, M, _>>=_}
+use Rattle.expansion.specs.Lookup.{lookup}
+use Rattle.expansion.specs.Computation.{State, looked, M, _>>=_}
 use Rattle.expansion.specs.Forms.{expandAll, expandIf, expandOperands, expandApplication, expand}
 use Rattle.simulation.specs.Shapes.{TreeOf, tree-map, isListOf-rel}
-use Rattle.simulation.specs.Names.Shown.{Renaming}
-use Rattle.simulation.specs.Names.{Raw}
-use Rattle.simulation.specs.Terms.{moreCs, ifCs, applicationCs, TermRel, TermsRel}
+use Rattle.simulation.specs.Names.Shown.{Renaming, Fine}
+use Rattle.simulation.specs.Names.{Ready, Raw, NameRel}
+use Rattle.simulation.specs.Terms.{moreCs, ifCs, applicationCs}
+use Rattle.simulation.specs.Marks.{Kind}
+use Rattle.simulation.specs.Lookups.{lookup-rel}
+use Rattle.simulation.specs.Formals.{TermRel, TermsRel}
+use Rattle.simulation.specs.Steps.{privately}
 use Rattle.simulation.specs.States.{StateRel}
 use Rattle.simulation.specs.Outcomes.{Agree, bind-agree, give-agree}
 use Rattle.simulation.specs.Agree as Both
@@ -35,15 +40,19 @@ module _ (ρ : Renaming) (p : ℕ) where
 
     module _ (β : Scope) (free : Foreign ρ β) where
       -- parts that are still
-      part-agree : {t u : Tree} → TreeOf (Still ρ β) t u → (raw : Raw ρ) (s s′ : State) → StateRel ρ raw 0 s s′ → Agree ρ raw 0 (TermRel ρ) (rec t s) (rec u s′)
-      part-agree r raw s s′ q = Both.expand-agree ρ raw inner inner operations fuel gas 0 (AtRest ρ) (rest-coherent ρ) (rest-ready ρ) (rest-below ρ 0) _ _ (tree-map (still-rel ρ raw β free) r) s s′ q
+      -- both runs find the same
+      finds : (raw : Raw ρ) (Q : Kind) → Ready ρ Q → (x y : Name) → NameRel ρ raw Q x y → Fine ρ (looked x) → lookup operations x ≡ lookup operations y
+      finds raw Q rd x y = lookup-rel ρ raw {Q = Q} rd operations x y
 
-      all-agree : {t u : Tree} → TreeOf (Still ρ β) t u → (raw : Raw ρ) (s s′ : State) → StateRel ρ raw 0 s s′ → Agree ρ raw 0 (TermsRel ρ) (expandAll limit operations fuel rec t s) (expandAll limit operations fuel rec u s′)
-      all-agree r raw = Both.all-agree ρ raw limit operations fuel rec rec (Both.expand-agree ρ raw inner inner operations fuel gas) 0 (AtRest ρ) (rest-coherent ρ) (rest-ready ρ) (rest-below ρ 0) (tree-map (still-rel ρ raw β free) r)
+      part-agree : {t u : Tree} → TreeOf (Still ρ β) t u → (raw : Raw ρ) (s s′ : State) → StateRel (privately ρ raw) 0 s s′ → Agree (privately ρ raw) 0 (TermRel ρ) (rec t s) (rec u s′)
+      part-agree r raw s s′ q = Both.expand-agree (privately ρ raw) operations operations (finds raw) inner inner fuel gas 0 (AtRest ρ) (rest-coherent ρ) (rest-ready ρ) (rest-below ρ 0) _ _ (tree-map (still-rel ρ raw β free) r) s s′ q
 
-      operands-agree : {x y : Term Name} → TermRel ρ x y → {t u : Tree} → TreeOf (Still ρ β) t u → (raw : Raw ρ) (s s′ : State) → StateRel ρ raw 0 s s′
-          → Agree ρ raw 0 (TermRel ρ) (expandOperands limit operations fuel rec x t s) (expandOperands limit operations fuel rec y u s′)
-      operands-agree e r raw = Both.operands-agree ρ raw limit operations fuel rec rec (Both.expand-agree ρ raw inner inner operations fuel gas) 0 (AtRest ρ) (rest-coherent ρ) (rest-ready ρ) (rest-below ρ 0) _ _ e (tree-map (still-rel ρ raw β free) r)
+      all-agree : {t u : Tree} → TreeOf (Still ρ β) t u → (raw : Raw ρ) (s s′ : State) → StateRel (privately ρ raw) 0 s s′ → Agree (privately ρ raw) 0 (TermsRel ρ) (expandAll limit operations fuel rec t s) (expandAll limit operations fuel rec u s′)
+      all-agree r raw = Both.all-agree (privately ρ raw) operations operations (finds raw) limit fuel rec rec (Both.expand-agree (privately ρ raw) operations operations (finds raw) inner inner fuel gas) 0 (AtRest ρ) (rest-coherent ρ) (rest-ready ρ) (rest-below ρ 0) (tree-map (still-rel ρ raw β free) r)
+
+      operands-agree : {x y : Term Name} → TermRel ρ x y → {t u : Tree} → TreeOf (Still ρ β) t u → (raw : Raw ρ) (s s′ : State) → StateRel (privately ρ raw) 0 s s′
+          → Agree (privately ρ raw) 0 (TermRel ρ) (expandOperands limit operations fuel rec x t s) (expandOperands limit operations fuel rec y u s′)
+      operands-agree e r raw = Both.operands-agree (privately ρ raw) operations operations (finds raw) limit fuel rec rec (Both.expand-agree (privately ρ raw) operations operations (finds raw) inner inner fuel gas) 0 (AtRest ρ) (rest-coherent ρ) (rest-ready ρ) (rest-below ρ 0) _ _ e (tree-map (still-rel ρ raw β free) r)
 
       -- a part before the form
       tree-before : {B : Type 0} {P : B → B → Type 0} {t u : Tree} → TreeOf (Still ρ β) t u → Unheaded p t → (f g : Term Name → M B) (s : State) → Calm ρ p s
@@ -61,14 +70,14 @@ module _ (ρ : Renaming) (p : ℕ) where
             part-with ρ p {R = TermRel ρ} _ _ _ _ s s (ahead β free l h h′ i (omega arith) r s calm)
             (λ a v. bind-unreached p _ _ v (all-unreached p limit operations fuel rec rec-unreached n v) λ c w. give-unreached p _ w)
             λ raw a c v v′ e st.
-            bind-agree ρ raw 0 {R = TermsRel ρ} _ _ _ _ v v′ (all-agree q raw v v′ st) λ d d′ w w′ e′ st′.
-            give-agree ρ raw 0 _ _ w w′ (moreCs e e′) st′
+            bind-agree (privately ρ raw) 0 {R = TermsRel ρ} _ _ _ _ v v′ (all-agree q raw v v′ st) λ d d′ w w′ e′ st′.
+            give-agree (privately ρ raw) 0 _ _ w w′ (moreCs e e′) st′
         all-before (in-later {h = h} i) u (later q r) s calm =
             tree-before q (unused-unheaded p h (omega (arith, headed-uses p i)) .0) _ _ s calm λ a v e c.
             part-with ρ p {R = TermsRel ρ} _ _ _ _ v v (all-before i (omega arith) r v c)
             (λ d w. give-unreached p _ w)
             λ raw d d′ w w′ e′ st.
-            give-agree ρ raw 0 _ _ w w′ (moreCs e e′) st
+            give-agree (privately ρ raw) 0 _ _ w w′ (moreCs e e′) st
 
         pub operands-before : {x : Term Name} → TermRel ρ x x → {k : ℕ} {l : List ℕ} {t t′ : Tree} → Headed p (k ∷ l) t → uses p t ≤ 1 → Hole (Still ρ β) (ChosenRules ρ β) (k ∷ place ρ p b l) t t′
             → (s : State) → Calm ρ p s → Meets ρ p (TermRel ρ) (expandOperands limit operations fuel rec x t s) (expandOperands limit operations fuel rec x t′ s)
@@ -77,7 +86,7 @@ module _ (ρ : Renaming) (p : ℕ) where
             part-with ρ p {R = TermsRel ρ} _ _ _ _ s s (all-before i u r s calm)
             (λ d w. give-unreached p _ w)
             λ raw d d′ w w′ e′ st.
-            give-agree ρ raw 0 _ _ w w′ (applicationCs e e′) st
+            give-agree (privately ρ raw) 0 _ _ w w′ (applicationCs e e′) st
 
         -- an application with the form in its head, or after it
         pub application-first : {l : List ℕ} {h h′ t t′ : Tree} → Headed p l h → uses p (pair h t) ≤ 1 → Hole (Still ρ β) (ChosenRules ρ β) (place ρ p b l) h h′ → TreeOf (Still ρ β) t t′
@@ -107,17 +116,17 @@ module _ (ρ : Renaming) (p : ℕ) where
             part-with ρ p {R = TermRel ρ} _ _ _ _ s s (ahead β free l (element 1 t) (element 1 t′) (headed-element p i) (omega (arith, uses-element p 1 t)) (hole-at r) s calm)
             (λ a v. bind-unreached p _ _ v (rec-unreached _ (other-unheaded p i u 2 (omega arith)) v) λ c w. bind-unreached p _ _ w (rec-unreached _ (other-unheaded p i u 3 (omega arith)) w) λ e z. give-unreached p _ z)
             λ raw a a′ v v′ e st.
-            bind-agree ρ raw 0 {R = TermRel ρ} _ _ _ _ v v′ (part-agree (hole-off r 2 (omega arith)) raw v v′ st) λ c c′ w w′ e′ st′.
-            bind-agree ρ raw 0 {R = TermRel ρ} _ _ _ _ w w′ (part-agree (hole-off r 3 (omega arith)) raw w w′ st′) λ f f′ z z′ e″ st″.
-            give-agree ρ raw 0 _ _ z z′ (ifCs e e′ e″) st″
+            bind-agree (privately ρ raw) 0 {R = TermRel ρ} _ _ _ _ v v′ (part-agree (hole-off r 2 (omega arith)) raw v v′ st) λ c c′ w w′ e′ st′.
+            bind-agree (privately ρ raw) 0 {R = TermRel ρ} _ _ _ _ w w′ (part-agree (hole-off r 3 (omega arith)) raw w w′ st′) λ f f′ z z′ e″ st″.
+            give-agree (privately ρ raw) 0 _ _ z z′ (ifCs e e′ e″) st″
         if-before (suc (suc zero)) {l} {t} {t′} i u r s calm d =
             test-meets ρ p 13 _ _ _ _ s s (isListOf-rel 4 (hole-alike ρ β r)) λ _.
             tree-before (hole-off r 1 (omega arith)) (other-unheaded p i u 1 (omega arith)) _ _ s calm λ a v e calm′.
             part-with ρ p {R = TermRel ρ} _ _ _ _ v v (ahead β free l (element 2 t) (element 2 t′) (headed-element p i) (omega (arith, uses-element p 2 t)) (hole-at r) v calm′)
             (λ c w. bind-unreached p _ _ w (rec-unreached _ (other-unheaded p i u 3 (omega arith)) w) λ e z. give-unreached p _ z)
             λ raw c c′ w w′ e′ st.
-            bind-agree ρ raw 0 {R = TermRel ρ} _ _ _ _ w w′ (part-agree (hole-off r 3 (omega arith)) raw w w′ st) λ f f′ z z′ e″ st′.
-            give-agree ρ raw 0 _ _ z z′ (ifCs e e′ e″) st′
+            bind-agree (privately ρ raw) 0 {R = TermRel ρ} _ _ _ _ w w′ (part-agree (hole-off r 3 (omega arith)) raw w w′ st) λ f f′ z z′ e″ st′.
+            give-agree (privately ρ raw) 0 _ _ z z′ (ifCs e e′ e″) st′
         if-before (suc (suc (suc zero))) {l} {t} {t′} i u r s calm d =
             test-meets ρ p 13 _ _ _ _ s s (isListOf-rel 4 (hole-alike ρ β r)) λ _.
             tree-before (hole-off r 1 (omega arith)) (other-unheaded p i u 1 (omega arith)) _ _ s calm λ a v e calm′.
@@ -125,6 +134,6 @@ module _ (ρ : Renaming) (p : ℕ) where
             part-with ρ p {R = TermRel ρ} _ _ _ _ w w (ahead β free l (element 3 t) (element 3 t′) (headed-element p i) (omega (arith, uses-element p 3 t)) (hole-at r) w calm″)
             (λ f z. give-unreached p _ z)
             λ raw f f′ z z′ e″ st.
-            give-agree ρ raw 0 _ _ z z′ (ifCs e e′ e″) st
+            give-agree (privately ρ raw) 0 _ _ z z′ (ifCs e e′ e″) st
         if-before (suc (suc (suc (suc k)))) {t = t} i u r s calm d =
             never ρ p (if-unreached p limit operations fuel rec rec-unreached t (other-unheaded p i u 1 (omega arith)) (other-unheaded p i u 2 (omega arith)) (other-unheaded p i u 3 (omega arith)) s)

@@ -14,9 +14,10 @@ use Rattle.recipe.specs.TreeNames.{uses}
 use Rattle.core_term.specs.Term.{Term}
 use Rattle.expansion.specs.Computation.{State, Events, Out, done, refused, starved, M, after, goOn, _>>=_, _>>_, show, test, get}
 use Rattle.private_names.specs.Statement.{isReachedAt}
-use Rattle.simulation.specs.Names.Shown.{Renaming, ofCopy, AllFine}
+use Rattle.simulation.specs.Names.Shown.{Renaming, ofCopy, Fine, AllFine}
 use Rattle.simulation.specs.Names.{Raw}
-use Rattle.simulation.specs.Terms.{TermRel}
+use Rattle.simulation.specs.Formals.{TermRel}
+use Rattle.simulation.specs.Steps.{privately}
 use Rattle.simulation.specs.States.{StateRel}
 use Rattle.simulation.specs.Outcomes.{eventsOf, events-after, OutRel, dones, Agree, after-rel, first-fine, goOn-agree}
 use Rattle.simulation.specs.Form.Holes.{Hole, first}
@@ -29,7 +30,7 @@ use Rattle.private_names_proof.specs.Paths.{Headed}
 module _ (ρ : Renaming) (p : ℕ) where
   -- a state that agrees with itself, whatever the template's own names are bound to
   abbrev pub Calm : State → Type 1
-  Calm s = (raw : Raw ρ) → StateRel ρ raw 0 s s
+  Calm s = (raw : Raw ρ) → StateRel (privately ρ raw) 0 s s
 
   pub no-raw : Raw ρ
   unfolding ofCopy
@@ -52,7 +53,7 @@ module _ (ρ : Renaming) (p : ℕ) where
   or-right false b e f = e
 
   after-joins : {A : Type 0} {R : A → A → Type 0} (l l′ : Events) {x y : Out A} → Joins ρ R x y → Joins ρ R (after l x) (after l′ y)
-  after-joins l l′ j = record { raw = j .raw; outcomes = after-rel ρ (j .raw) 0 l l′ (j .outcomes) }
+  after-joins l l′ j = record { raw = j .raw; outcomes = after-rel (privately ρ (j .raw)) 0 l l′ (j .outcomes) }
 
   -- what is shown first does not show the form
   after-meets : {A : Type 0} {R : A → A → Type 0} (l l′ : Events) (x y : Out A) → anyOf (isReachedAt p) l ≡ false → (AllFine ρ l → Meets R x y) → Meets R (after l x) (after l′ y)
@@ -61,7 +62,7 @@ module _ (ρ : Renaming) (p : ℕ) where
       let d = sym (any-append (isReachedAt p) l (eventsOf x)) ∙ ap (anyOf (isReachedAt p)) (sym (events-after l x)) ∙ e in
       after-joins l l′ (h (each-left l (eventsOf x) f) (or-right (anyOf (isReachedAt p) l) (anyOf (isReachedAt p) (eventsOf x)) d n) (each-right l (eventsOf x) f))
 
-  done-rel : {A : Type 0} {R : A → A → Type 0} (raw : Raw ρ) {a b : A} {u v : State} {l k : Events} → OutRel ρ raw 0 R (done a u l) (done b v k) → R a b × StateRel ρ raw 0 u v
+  done-rel : {A : Type 0} {R : A → A → Type 0} (raw : Raw ρ) {a b : A} {u v : State} {l k : Events} → OutRel (privately ρ raw) 0 R (done a u l) (done b v k) → R a b × StateRel (privately ρ raw) 0 u v
   done-rel raw (dones r q) = (r, q)
 
   module _ {A B : Type 0} where
@@ -75,12 +76,12 @@ module _ (ρ : Renaming) (p : ℕ) where
 
   module _ {A B : Type 0} {P : B → B → Type 0} where
     -- a part before the form, the same in both
-    pub part-before : (R : Raw ρ → A → A → Type 0) (m : M A) (f g : A → M B) (s : State) → Unreached p (m s) → ((raw : Raw ρ) → Agree ρ raw 0 (R raw) (m s) (m s))
+    pub part-before : (R : Raw ρ → A → A → Type 0) (m : M A) (f g : A → M B) (s : State) → Unreached p (m s) → ((raw : Raw ρ) → Agree (privately ρ raw) 0 (R raw) (m s) (m s))
         → ((a : A) (u : State) → ((raw : Raw ρ) → R raw a a) → Calm u → Meets P (f a u) (g a u)) → Meets P ((_>>=_ m f) s) ((_>>=_ m g) s)
     unfolding goOn eventsOf _>>=_
     part-before R m f g s n h k = go (m s) n h
       where
-        go : (o : Out A) → Unreached p o → ((raw : Raw ρ) → Agree ρ raw 0 (R raw) o o) → Meets P (goOn f o) (goOn g o)
+        go : (o : Out A) → Unreached p o → ((raw : Raw ρ) → Agree (privately ρ raw) 0 (R raw) o o) → Meets P (goOn f o) (goOn g o)
         go (done a u l) (unreached n) h =
             after-meets l l (f a u) (g a u) n λ fine. k a u (λ raw. done-rel raw (h raw fine) .0) (λ raw. done-rel raw (h raw fine) .1)
         go (refused i u l) (unreached n) h = never (unreached n)
@@ -88,11 +89,11 @@ module _ (ρ : Renaming) (p : ℕ) where
 
     -- the part with the form
     pub part-with : {R : A → A → Type 0} (m m′ : M A) (f g : A → M B) (s s′ : State) → Meets R (m s) (m′ s′) → ((a : A) (u : State) → Unreached p (f a u))
-        → ((raw : Raw ρ) (a b : A) (u v : State) → R a b → StateRel ρ raw 0 u v → Agree ρ raw 0 P (f a u) (g b v)) → Meets P ((_>>=_ m f) s) ((_>>=_ m′ g) s′)
+        → ((raw : Raw ρ) (a b : A) (u v : State) → R a b → StateRel (privately ρ raw) 0 u v → Agree (privately ρ raw) 0 P (f a u) (g b v)) → Meets P ((_>>=_ m f) s) ((_>>=_ m′ g) s′)
     unfolding _>>=_
     part-with m m′ f g s s′ h n k e fine =
-        let j = h (shown-first f (m s) n e) (first-fine ρ f (m s) fine) in
-        record { raw = j .raw; outcomes = goOn-agree ρ (j .raw) 0 f g (j .outcomes) (k (j .raw)) fine }
+        let j = h (shown-first f (m s) n e) (first-fine (Fine ρ) f (m s) fine) in
+        record { raw = j .raw; outcomes = goOn-agree (privately ρ (j .raw)) 0 f g (j .outcomes) (k (j .raw)) fine }
 
   module _ {A : Type 0} {P : A → A → Type 0} where
     pub test-meets : (g : ℕ) (b c : Bool) (f h : M A) (s s′ : State) → b ≡ c → (b ≡ true → Meets P (f s) (h s′)) → Meets P ((_>>_ (test g b) f) s) ((_>>_ (test g c) h) s′)

@@ -10,7 +10,7 @@ use Rattle.recipe.specs.Name.{Binding, Name, markName, produceName, bindName}
 use Rattle.recipe.specs.Tree.{Tree, bind, bindAll}
 use Rattle.recipe.specs.TreeNames.{bindName-number, bindName-marks}
 use Rattle.recipe.specs.Tidy.{Tidy, tidy-onNames}
-use Rattle.simulation.specs.Steps.{Older, toggle-new, toggle-twice}
+use Rattle.simulation.specs.Marks.{Older, toggle-new, toggle-twice}
 
 -- ---- marks
 

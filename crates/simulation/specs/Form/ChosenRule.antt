@@ -18,9 +18,10 @@ use Rattle.simulation.specs.Relations.{ListRel, ends, joins, OptionRel, 
 use Rattle.simulation.specs.Shapes.{TreeOf, empties, constants, names₂, pairs, RuleOf, tree-map, pattern-map, template-map, names-rel, elements-rel, isListOf-rel, element-rel, onName-rel}
 use Rattle.simulation.specs.RulesKept.{ruleOf-by, ruleOf-rel, isRulesForm-rel, rulesOf-rel}
 use Rattle.simulation.specs.Names.Shown.{Renaming, ofCopy}
-use Rattle.simulation.specs.Names.{Kind, Coherent, Raw, NameRel, kept, turned, unowned}
-use Rattle.simulation.specs.Steps.{Older, Below}
-use Rattle.simulation.specs.States.{Literal, RuleRel, RulesRel, no-rule, rule, MacrosRel, no-macro, with}
+use Rattle.simulation.specs.Marks.{Kind, Older, Below}
+use Rattle.simulation.specs.Names.{Coherent, Raw, NameRel, kept, turned, unowned}
+use Rattle.simulation.specs.Steps.{Literal, privately}
+use Rattle.simulation.specs.States.{RuleRel, RulesRel, no-rule, rule, MacrosRel, no-macro, with}
 use Rattle.simulation.specs.Form.Holes.{Hole, first, later, hole-tree, hole-here, hole-elements, hole-at, hole-at, hole-off}
 use Rattle.simulation.specs.Form.Scopes.{Scope}
 use Rattle.simulation.specs.Form.Places.{still-eq, Still, InTemplate, stays, turns, still-dots, still-wild, template-dots, ChosenRules, Foreign, AtRest, rest-coherent, rest-below, still-rel}
@@ -174,14 +175,14 @@ module _ (ρ : Renaming) (β : Scope) where
     literal-rel : (x y : Name) → Still ρ β x y → Literal ρ raw x y
     literal-rel x y s = kept (λ e. absurd (false≢true (sym (s .not-private) ∙ e))) (record { eq = s .eq; not-private = s .not-private; free = ap (ofCopy ρ) (s .placed .bound) ∙ free (x .number) })
 
-    rule-rel : (m : ℕ) {r s : Rule} → FormRule r s → RuleRel ρ raw m r s
+    rule-rel : (m : ℕ) {r s : Rule} → FormRule r s → RuleRel (privately ρ raw) m r s
     rule-rel m (plain q) = record { kind = AtRest ρ; coherent = rest-coherent ρ; below = rest-below ρ m; pattern = pattern-map literal-rel (q .pattern); template = template-map (still-rel ρ raw β free) (q .template) }
     rule-rel m (chosen q) = record { kind = Chosen; coherent = chosen-coherent; below = chosen-below m; pattern = pattern-map literal-rel (q .pattern); template = template-map template-rel (q .template) }
 
-    rules-rel : (m : ℕ) {r s : List Rule} → ListRel FormRule r s → RulesRel ρ raw m r s
+    rules-rel : (m : ℕ) {r s : List Rule} → ListRel FormRule r s → RulesRel (privately ρ raw) m r s
     rules-rel m ends = no-rule
     rules-rel m (joins q qs) = rule (rule-rel m q) (rules-rel m qs)
 
-    pub formMacros-rel : (m : ℕ) {r s : List (List Rule)} → ListRel (ListRel FormRule) r s → MacrosRel ρ raw m r s
+    pub formMacros-rel : (m : ℕ) {r s : List (List Rule)} → ListRel (ListRel FormRule) r s → MacrosRel (privately ρ raw) m r s
     formMacros-rel m ends = no-macro
     formMacros-rel m (joins q qs) = with (rules-rel m q) (formMacros-rel m qs)

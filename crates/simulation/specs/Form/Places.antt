@@ -18,8 +18,8 @@ use Rattle.simulation.specs.Shapes.{TreeOf, onNames-rel, empties, consta
 use Rattle.simulation.specs.RulesKept.{rulePlace-rel}
 use Rattle.simulation.specs.Form.Holes.{Hole, hole-onNames, graph, hole-graph}
 use Rattle.simulation.specs.Names.Shown.{Renaming, ofCopy, not-private-not-copy, binds-fine, AllFine}
-use Rattle.simulation.specs.Names.{Kind, Coherent, Ready, Raw, NameRel, kept}
-use Rattle.simulation.specs.Steps.{Older, Below}
+use Rattle.simulation.specs.Marks.{Kind, Older, Below}
+use Rattle.simulation.specs.Names.{Coherent, Ready, Raw, NameRel, kept}
 pub use Rattle.simulation.specs.Form.Scopes.{Scope, Placed, same-placed, rebind, rebindAll, bindName-placed, still-placed, Moved, hasVariable-moved}
 
 module _ (ρ : Renaming) (β : Scope) where

@@ -1,12 +1,11 @@
 -- A renaming of a template's private name, its copies, and what the first run may show of them.
-use mathlib.Core.Path.{_≡_, ap, sym, _∙_, subst}
+use mathlib.Core.Path.{_≡_, ap, sym, _∙_}
 use mathlib.Core.Bool.{Bool, true, false, true≢false}
-use mathlib.Core.List.{List, _++_, map, map-append}
 use mathlib.Core.Option.{Option, none, some}
 use Prim.Native.Nat.{ℕ}
 use lib.Dec.{eqb}
 use Rattle.words.specs.TestLaws.{and-both, and-none-right}
-use Rattle.words.specs.Each.{Each, each-left, each-right}
+use Rattle.words.specs.Each.{Each}
 use Rattle.recipe.specs.Name.{Binding, Name}
 use Rattle.expansion.specs.Computation.{Event, looked, quoted, reached, binds, Events}
 use Rattle.private_names.specs.Statement as Statement
@@ -66,13 +65,3 @@ module _ (ρ : Renaming) where
 
   abbrev pub AllFine : Events → Type 0
   AllFine = Each Fine
-
-  -- the same of names looked up
-  abbrev pub Looks : List Name → Type 0
-  Looks l = AllFine (map looked l)
-
-  pub looks-left : (l k : List Name) → Looks (l ++ k) → Looks l
-  looks-left l k f = each-left (map looked l) (map looked k) (subst AllFine (map-append looked l k) f)
-
-  pub looks-right : (l k : List Name) → Looks (l ++ k) → Looks k
-  looks-right l k f = each-right (map looked l) (map looked k) (subst AllFine (map-append looked l k) f)
