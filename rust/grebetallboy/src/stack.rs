@@ -6,21 +6,34 @@ const SPARE: usize = 16 << 10;
 /// Makes a call with so many bytes of stack; none where the system gives no thread with them.
 pub fn with<T: Send>(bytes: usize, call: impl FnOnce() -> T + Send) -> Option<T> {
     let bytes = bytes.saturating_add(SPARE);
-    if bytes <= left() {
+    if left().is_some_and(|left| bytes <= left) {
         return Some(call());
     }
+    match in_thread(bytes, bytes, call)? {
+        Ok(answer) => Some(answer),
+        Err((missing, call)) => in_thread(bytes.saturating_add(missing), bytes, call)?.ok(),
+    }
+}
+
+/// Makes a call in a new thread where that has so many bytes left; else tells how many it lacks, and gives the call back. A thread's stack
+/// also holds the program's thread-local data, of which nothing here knows the size.
+fn in_thread<T: Send, C: FnOnce() -> T + Send>(stack: usize, bytes: usize, call: C) -> Option<Result<T, (usize, C)>> {
+    let run = || match left() {
+        Some(left) if left < bytes => Err((bytes - left, call)),
+        _ => Ok(call()),
+    };
     std::thread::scope(|scope| {
-        let thread = std::thread::Builder::new().stack_size(bytes).spawn_scoped(scope, call).ok()?;
+        let thread = std::thread::Builder::new().stack_size(stack).spawn_scoped(scope, run).ok()?;
         Some(thread.join().expect("a call unwinds nowhere"))
     })
 }
 
-/// The bytes of stack that this thread has left; 0 where they are not known.
-fn left() -> usize {
+/// The bytes of stack that this thread has left, where they are known.
+fn left() -> Option<usize> {
     thread_local!(static ENDS: Option<(usize, usize)> = ends());
     let local = 0u8;
     let here = std::hint::black_box(&raw const local).addr();
-    ENDS.with(|ends| ends.map_or(0, |(low, high)| if (low..high).contains(&here) { here - low } else { 0 }))
+    ENDS.with(|ends| ends.filter(|(low, high)| (low..high).contains(&&here)).map(|(low, _)| here - low))
 }
 
 /// Where this thread's stack begins and ends.
