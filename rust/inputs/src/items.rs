@@ -12,6 +12,41 @@ impl Table {
         table.0
     }
 
+    /// The two elements of a text cut into parentheses, integers and names, which are numbered by a function.
+    pub fn read(words: &[&str], number: &mut dyn FnMut(&str) -> u32) -> Vec<u32> {
+        let (mut table, mut open) = (Table::default(), vec![None]);
+        for word in words {
+            if *word == ")" {
+                table.end(open.pop().expect("a list is open"));
+                continue;
+            }
+            let last = open.last_mut().expect("a list is open");
+            let pair = table.after(*last);
+            *last = Some(pair);
+            match word.parse::<i32>() {
+                _ if *word == "(" => open.push(None),
+                Ok(n) => table.integer(n as u32),
+                Err(_) => table.name(number(word)),
+            }
+        }
+        table.end(open.pop().expect("the list of two elements"));
+        table.0
+    }
+
+    /// A pair behind the last of an open list, whose head comes next.
+    fn after(&mut self, last: Option<usize>) -> usize {
+        last.into_iter().for_each(|pair| self.refer(pair, 2));
+        let pair = self.put([4, 0, 0]);
+        self.refer(pair, 1);
+        pair
+    }
+
+    /// The end of an open list.
+    fn end(&mut self, last: Option<usize>) {
+        last.into_iter().for_each(|pair| self.refer(pair, 2));
+        self.empty();
+    }
+
     fn put(&mut self, item: [u32; 3]) -> usize {
         self.0.extend(item);
         self.0.len() / 3 - 1

@@ -6,6 +6,7 @@ pub mod pairs;
 pub mod patterns;
 pub mod renderings;
 pub mod rows;
+pub mod slow;
 
 use std::path::{Path, PathBuf};
 
