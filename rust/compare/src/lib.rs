@@ -1,6 +1,7 @@
 //! What the comparisons share: item tables, deep inputs, nested ellipses, pairs of a recipe and a supplier's text, other expanders, dirty
-//! tables, refusals, calls of expansion.
+//! tables, refusals, calls of expansion; and the tables of docs/BENCHMARKS.md.
 
+pub mod bench;
 pub mod deep;
 pub mod ellipses;
 pub mod filing;

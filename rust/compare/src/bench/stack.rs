@@ -1,8 +1,10 @@
 //! The stack that the deepest inputs take: bytes in all and for each level, found by lending less and less, beside the bytes that the
-//! wrapper sees to. `cargo run --release --bin stack`
+//! wrapper sees to.
 
-use compare::deep;
+use super::grouped;
+use crate::deep;
 use grebetallboy::{calls, compare_stack, expand_stack, table_words, write_stack, ITEM_WORDS, NAME_BYTES};
+use std::fmt::Write;
 use std::process::{Command, Stdio};
 
 /// A call to measure: its name, how many levels it has, the bytes it may take, and the call itself.
@@ -64,23 +66,20 @@ fn measured() -> Vec<Measured> {
 }
 
 /// One call in a thread with so many bytes of stack.
-fn call(place: usize, bytes: usize) {
+pub fn call(place: usize, bytes: usize) {
     let run = measured().swap_remove(place).3;
     std::thread::Builder::new().stack_size(bytes).spawn(run).unwrap().join().unwrap();
 }
 
+/// Whether it ends, in a process of its own: this program is given the word `stack` and the two numbers.
 fn fits(place: usize, bytes: usize) -> bool {
     let own = std::env::current_exe().unwrap();
-    let run = Command::new(own).args([place.to_string(), bytes.to_string()]).stderr(Stdio::null()).status();
+    let run = Command::new(own).args(["stack", &place.to_string(), &bytes.to_string()]).stderr(Stdio::null()).status();
     run.unwrap().success()
 }
 
-fn main() {
-    let words: Vec<usize> = std::env::args().skip(1).map(|w| w.parse().unwrap()).collect();
-    if let [place, bytes] = words[..] {
-        return call(place, bytes);
-    }
-    println!("| input | levels | in all | bytes a level | at most |\n|---|---|---|---|---|");
+pub fn table() -> String {
+    let mut out = "| input | levels | in all | bytes a level | at most |\n|---|---|---|---|---|\n".to_string();
     for (place, (name, depth, most, _)) in measured().into_iter().enumerate() {
         let (mut low, mut high) = (0, 64 << 20);
         while high - low > 4_096 {
@@ -91,6 +90,15 @@ fn main() {
                 low = middle;
             }
         }
-        println!("| {name} | {depth} | {} KiB | {} | {} KiB |", high >> 10, high / depth, most >> 10);
+        writeln!(
+            out,
+            "| {name} | {} | {} KiB | {} | {} KiB |",
+            grouped(depth),
+            grouped(high >> 10),
+            grouped(high / depth),
+            grouped(most >> 10)
+        )
+        .unwrap();
     }
+    out
 }
