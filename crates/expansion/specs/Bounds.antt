@@ -12,8 +12,8 @@ use Rattle.recipe.specs.TreeLaws.{element-size}
 use Rattle.recipe.specs.Table.{itemCount, treeOf}
 use Rattle.recipe.specs.TableWeight.{treeOf-size}
 use Rattle.expansion.specs.Computation.{State, start}
-use Rattle.expansion.specs.Run.{coreOf, ended, run}
-use Rattle.expansion.specs.RunLaws.{unbegun, Begun, run-holds}
+use Rattle.expansion.specs.Run.{coreOf, ended, unbegun, run}
+use Rattle.expansion.specs.RunLaws.{Begun, run-holds}
 use Rattle.expansion.specs.Bounds.Budget.{Spent}
 use Rattle.expansion.specs.Bounds.Gas.{expandRecipe-spends}
 

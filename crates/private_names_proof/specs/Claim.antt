@@ -11,6 +11,7 @@ use Rattle.words.specs.Limits.{operationsMost, workRate, coreRate, macrosMost}
 use Rattle.words.specs.Lists.{allOf, anyOf}
 use Rattle.words.specs.TestLaws.{and-parts}
 use Rattle.words.specs.Each.{Each}
+use Rattle.words.specs.Tables.{begun}
 use Rattle.recipe.specs.Name.{Name, distinct}
 use Rattle.recipe.specs.Tree.{Tree, size, names, isName, elements, element, onNames}
 use Rattle.recipe.specs.TreeLaws.{onNames-size, onNames-element}
@@ -51,7 +52,7 @@ ended-first ρ raw starvations = refl
 ended-second : (ρ : Renaming) (raw : Raw ρ) {x y : Out (Term Name)} → OutRel (privately ρ raw) 0 (TermRel ρ) x y → answerOf (ended y) ≡ answerWith (ρ .isPrivate) (ρ .new) (ended x)
 unfolding answerOf answerWith coreWith ended
 ended-second ρ raw (dones r q) = λ i. record { outcome = accepted; steps = sym (q .steps) i; sum = sym (q .sum) i; core = encode (sym (second-told ρ r) i) }
-ended-second ρ raw (refusals {g = g} q) = λ i. record { outcome = refusedOn g; steps = sym (q .steps) i; sum = sym (q .sum) i; core = [] }
+ended-second ρ raw (refusals {g = g} q) = λ i. record { outcome = refusedOn begun g; steps = sym (q .steps) i; sum = sym (q .sum) i; core = [] }
 ended-second ρ raw starvations = refl
 
 -- ---- an expression and the renumbered one, from the start

@@ -8,6 +8,7 @@ use lib.Dec.{leb}
 use borrow.Author.Tests.{leb-true, leb-false, le-leb}
 use Rattle.words.specs.Limits.{macrosMost}
 use Rattle.words.specs.TestLaws.{and-both}
+use Rattle.words.specs.Tables.{begun}
 use Rattle.recipe.specs.Name.{Name}
 use Rattle.recipe.specs.Tree.{Tree, size, element}
 use Rattle.recipe.specs.Table.{isLayout, treeOf}
@@ -26,7 +27,7 @@ use Rattle.expansion.specs.MoreFuel.Alike.{expand-tries}
 -- the run on a fuel, and the run on more: the same, or 18 and a sum past the fuel
 data Runs (fuel : ℕ) : Run → Run → Type 0 where
   same : {r : Run} → Runs fuel r r
-  differ : {r r′ : Run} → r .outcome ≡ refusedOn 18 → fuel < r′ .sum → Runs fuel r r′
+  differ : {r r′ : Run} → r .outcome ≡ refusedOn begun 18 → fuel < r′ .sum → Runs fuel r r′
 
 require-runs : (fuel g : ℕ) (b : Bool) {r r′ : Run} → Runs fuel r r′ → Runs fuel (require g b r) (require g b r′)
 unfolding require

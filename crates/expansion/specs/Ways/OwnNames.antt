@@ -7,8 +7,8 @@ use native.Mathlib.Omega.{arith}
 use Rattle.recipe.specs.Name.{Binding, variable, macro, Name}
 use Rattle.recipe.specs.Table.{treeOf}
 use Rattle.expansion.specs.Computation.{start, looked, quoted, reached, binds, Events}
-use Rattle.expansion.specs.Run.{run, ended, expandRecipe}
-use Rattle.expansion.specs.RunLaws.{unbegun, run-holds}
+use Rattle.expansion.specs.Run.{run, ended, unbegun, expandRecipe}
+use Rattle.expansion.specs.RunLaws.{run-holds}
 use Rattle.expansion.specs.Outcomes.{both-hold}
 use Rattle.expansion.specs.Bounds.Gas.{expandRecipe-spends}
 use Rattle.expansion.specs.Ways.Bindings.{variableNumber, macroNumber, boundBy, upFrom}
