@@ -7,7 +7,7 @@ use native.Mathlib.Omega.{arith}
 use lib.Dec.{leb}
 use lib.ListN.{length, take, drop, replicate, length-drop, drop-of-length-le}
 use borrow.Author.Tests.{leb-true}
-use Rattle.words.specs.Limits.{namesMost, fuelMost, workRate, coreRate}
+use Rattle.words.specs.Limits.{namesMost, fuelMost, workRate, coreRate, macrosMost}
 use Rattle.words.specs.Parts.{rest}
 use Rattle.words.specs.ListLaws.{rest-is}
 use Rattle.words.specs.TestLaws.{and-parts}
@@ -93,23 +93,23 @@ unfolding endNumbers numbersOf keptTo
 finished-refused e g n m core zeros i z = let l : length core - 0 ≡ length core = omega arith in record { numbers = rw i; table = rw (i, l, z) }
 
 module _ (items : List ℕ) (fuel : ℕ) (work core core₁ : List ℕ) (e : Ended) (b : Begun items fuel (length work) (length core))
-    (x : Expanded (ended (expandRecipe fuel (treeOf items))) core₁ e) (long : length core₁ ≡ length core) where
-  words-are : endNumbers e .length ≡ length (coreOf (ended (expandRecipe fuel (treeOf items))))
+    (x : Expanded (ended (expandRecipe macrosMost fuel (treeOf items))) core₁ e) (long : length core₁ ≡ length core) where
+  words-are : endNumbers e .length ≡ length (coreOf (ended (expandRecipe macrosMost fuel (treeOf items))))
   unfolding runNumbers
   words-are = ap (λ (n : Numbers). n .length) (x .numbers)
 
   pub expanded-fits : endNumbers e .length ≤ length core₁
   expanded-fits =
       let begun = begun-run items fuel (length work) (length core) b in
-      let fits : length (coreOf (ended (expandRecipe fuel (treeOf items)))) ≤ length core = rw begun at (run-core-fits items fuel (length work) (length core)) in
+      let fits : length (coreOf (ended (expandRecipe macrosMost fuel (treeOf items)))) ≤ length core = rw begun at (run-core-fits items fuel (length work) (length core)) in
       omega (arith, words-are)
 
   pub served-expanded : (core₂ work₂ : List ℕ) (r : Expansion) → Finished e core₁ core₂ r → work₂ ≡ replicate (length work) 0 → Served items fuel work work₂ core core₂ r
   unfolding coreAfter workAfter keptTo leftAt filled
   served-expanded core₂ work₂ r f w =
-      let words = coreOf (ended (expandRecipe fuel (treeOf items))) in
+      let words = coreOf (ended (expandRecipe macrosMost fuel (treeOf items))) in
       let ran = sym (begun-run items fuel (length work) (length core) b) in
-      let stage = sym (ended-begun (expandRecipe fuel (treeOf items))) in
+      let stage = sym (ended-begun (expandRecipe macrosMost fuel (treeOf items))) in
       let kept : keptTo (endNumbers e .length) core₁ ≡ leftAt begun words core = rw (words-are, x .words, long) in
       record {
         numbers = f .numbers ∙ x .numbers ∙ ap runNumbers ran;

@@ -14,7 +14,7 @@ use Rattle.recipe.specs.Table.{itemCount, isLayout, treeOf}
 use Rattle.core_term.specs.Term.{Term, Terms, Plain, Plains, onFormals, onFormalsAll}
 use Rattle.core_term.specs.Words.{encode, encodeAll}
 use Rattle.expansion.specs.Computation.{start, Events, Out, done, refused, starved}
-use Rattle.expansion.specs.Forms.{expand}
+use Rattle.expansion.specs.Forms.{expandWithin}
 
 -- accepted; or refused, at a stage and on a ground; no run is unfinished (Gas)
 pub data Outcome : Type 0 where
@@ -83,9 +83,9 @@ areOperations t =
     allOf isName (elements (element 0 t)) && (leb (length (operationNumbers t)) operationsMost
     && (allOf (ltb 7) (operationNumbers t) && distinct (names (element 0 t))))
 
--- the expansion of a recipe's expression, from the start
-unfoldable pub expandRecipe : ℕ → Tree → Out (Term Name)
-expandRecipe fuel t = expand macrosMost (operationNumbers t) fuel (size t + fuel) (element 1 t) start
+-- the expansion of a recipe's expression, from the start; its outermost form has a limit of macros of its own
+unfoldable pub expandRecipe : (limit fuel : ℕ) → Tree → Out (Term Name)
+expandRecipe limit fuel t = expandWithin limit macrosMost (operationNumbers t) fuel (size t + fuel) (element 1 t) start
 
 -- four tests of what is lent, and past them the expansion
 unfoldable pub run : (items : List ℕ) (fuel work core : ℕ) → Run
@@ -95,4 +95,4 @@ run items fuel work core =
     (require 8 (leb fuel fuelMost)
     (require 9 (leb (workRate * need) work && leb (coreRate * need) core)
     (require 10 (areOperations (treeOf items))
-    (ended (expandRecipe fuel (treeOf items))))))
+    (ended (expandRecipe macrosMost fuel (treeOf items))))))

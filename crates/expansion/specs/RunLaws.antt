@@ -7,7 +7,7 @@ use Prim.Native.Nat.{ℕ, _+_, _*_, _≤_}
 use native.Mathlib.Omega.{arith}
 use lib.Dec.{leb}
 use borrow.Author.Tests.{leb-true, le-leb}
-use Rattle.words.specs.Limits.{fuelMost, workRate, coreRate}
+use Rattle.words.specs.Limits.{fuelMost, workRate, coreRate, macrosMost}
 use Rattle.words.specs.Lists.{anyOf}
 use Rattle.words.specs.TestLaws.{and-parts, and-both}
 use Rattle.words.specs.Tables.{Stage, testing, begun}
@@ -50,7 +50,7 @@ module _ (P : Run → Type 0) where
   require-holds g true r p k = k refl
   require-holds g false r p k = p
 
-  begun-holds : (items : List ℕ) (fuel work core : ℕ) → ((g : ℕ) → GroundIn testing g → P (unbegun g)) → (Begun items fuel work core → P (ended (expandRecipe fuel (treeOf items)))) → P (run items fuel work core)
+  begun-holds : (items : List ℕ) (fuel work core : ℕ) → ((g : ℕ) → GroundIn testing g → P (unbegun g)) → (Begun items fuel work core → P (ended (expandRecipe macrosMost fuel (treeOf items)))) → P (run items fuel work core)
   unfolding run
   begun-holds items fuel work core p k =
       let need = itemCount items + fuel in
@@ -68,13 +68,13 @@ module _ (P : Run → Type 0) where
     ended-holds (refused g s l) (isRefused r) x y z = y g s l r
     ended-holds (starved l) (isStarved e) x y z = z l e
 
-    pub run-holds : (items : List ℕ) (fuel work core : ℕ) → (Begun items fuel work core → Holds S R Q (expandRecipe fuel (treeOf items)))
+    pub run-holds : (items : List ℕ) (fuel work core : ℕ) → (Begun items fuel work core → Holds S R Q (expandRecipe macrosMost fuel (treeOf items)))
         → ((g : ℕ) → GroundIn testing g → P (unbegun g))
         → (Begun items fuel work core → (t : Term Name) (s : State) (l : Events) → Q t s l → P (ended (done t s l)))
         → (Begun items fuel work core → (g : ℕ) (s : State) (l : Events) → R g s l → P (ended (refused g s l)))
         → (Begun items fuel work core → (l : Events) → S → P (ended (starved l)))
         → P (run items fuel work core)
-    run-holds items fuel work core h p x y z = begun-holds items fuel work core p λ b. ended-holds (expandRecipe fuel (treeOf items)) (h b) (x b) (y b) (z b)
+    run-holds items fuel work core h p x y z = begun-holds items fuel work core p λ b. ended-holds (expandRecipe macrosMost fuel (treeOf items)) (h b) (x b) (y b) (z b)
 
 -- ---- runs that begin
 
@@ -91,7 +91,7 @@ require-passes g false r e = absurd (false≢true e)
 
 module _ (items : List ℕ) (fuel work core : ℕ) where
   -- past those tests a run is its expansion's
-  pub begun-run : Begun items fuel work core → run items fuel work core ≡ ended (expandRecipe fuel (treeOf items))
+  pub begun-run : Begun items fuel work core → run items fuel work core ≡ ended (expandRecipe macrosMost fuel (treeOf items))
   unfolding run
   begun-run b =
       require-passes 7 _ _ (b .layout)
@@ -100,7 +100,7 @@ module _ (items : List ℕ) (fuel work core : ℕ) where
       ∙ require-passes 10 _ _ (b .operations)
 
   pub begun-stage : Begun items fuel work core → stageOf (run items fuel work core .outcome) ≡ begun
-  begun-stage b = ap (λ (r : Run). stageOf (r .outcome)) (begun-run b) ∙ ended-begun (expandRecipe fuel (treeOf items))
+  begun-stage b = ap (λ (r : Run). stageOf (r .outcome)) (begun-run b) ∙ ended-begun (expandRecipe macrosMost fuel (treeOf items))
 
   -- a run that shows an event has passed them
   pub shows-begun : (f : Event → Bool) → anyOf f (run items fuel work core .events) ≡ true → Begun items fuel work core

@@ -91,11 +91,11 @@ same-test t u e = ap (λ z. allOf isName (elements z) && (leb (length (map (λ x
 expansionOf : ℕ → Tree → Tree → Out (Term Name)
 expansionOf fuel t e = expand macrosMost (operationNumbers t) fuel (size t + fuel) e start
 
-recipe-is : (fuel : ℕ) (t : Tree) → expandRecipe fuel t ≡ expansionOf fuel t (element 1 t)
+recipe-is : (fuel : ℕ) (t : Tree) → expandRecipe macrosMost fuel t ≡ expansionOf fuel t (element 1 t)
 unfolding expandRecipe expansionOf
 recipe-is fuel t = refl
 
-renamed-is : (fuel : ℕ) (f : Name → Name) (t : Tree) → element 0 (onNames f t) ≡ element 0 t → expandRecipe fuel (onNames f t) ≡ expansionOf fuel t (onNames f (element 1 t))
+renamed-is : (fuel : ℕ) (f : Name → Name) (t : Tree) → element 0 (onNames f t) ≡ element 0 t → expandRecipe macrosMost fuel (onNames f t) ≡ expansionOf fuel t (onNames f (element 1 t))
 unfolding expandRecipe expansionOf
 renamed-is fuel f t e =
     ap₂ (λ operations gas. expand macrosMost operations fuel (gas + fuel) (element 1 (onNames f t)) start) (same-operations (onNames f t) t e) (onNames-size f t)
@@ -165,7 +165,7 @@ module _ (ws : List ℕ) (fuel work core : ℕ) (c : Choice) (k : Case ws fuel w
     unfolding renamed
     second-is =
         begun-run (renamed ws c) fuel work core second-begun
-        ∙ ap (λ t. ended (expandRecipe fuel t)) (treeOf-renumber (isOldItem (treeOf ws) c) (c .new) ws)
+        ∙ ap (λ t. ended (expandRecipe macrosMost fuel t)) (treeOf-renumber (isOldItem (treeOf ws) c) (c .new) ws)
         ∙ ap ended (renamed-is fuel (renew ρ) (treeOf ws) same)
 
     answers : Claimed
