@@ -54,7 +54,7 @@ module _ {items work work′ core core′ counts′ : List ℕ} {fuel : ℕ} {r 
 
 -- writing: ground, output, length
 module _ {x : Option (List ℕ)} {out out′ counts′ : List ℕ} {r q : Writing} (counts : List ℕ) where
-  pub write-told : Wrote x out out′ r → r ≡ q → counts′ ≡ told (W.lengthOf q) 0 0 counts → (W.groundOf q ≡ W.ground out x) × (out′ ≡ W.after out x) × (counts′ ≡ told (W.size out x) 0 0 counts)
+  pub write-told : Wrote x out out′ r → r ≡ q → counts′ ≡ told (W.lengthOf q) 0 0 counts → (W.groundOf q ≡ W.ground (W.outcome out x)) × (out′ ≡ W.after (W.outcome out x) out) × (counts′ ≡ told (W.size (W.outcome out x)) 0 0 counts)
   write-told wrote e told-counts = (ap W.groundOf (sym e) ∙ wrote .number, wrote .left, told-counts ∙ ap (λ n. told n 0 0 counts) (ap W.lengthOf (sym e) ∙ wrote .value))
 
 -- comparing: ground, the text's two tables, answer
