@@ -126,10 +126,10 @@ pub extern "C" fn grebetallboy_compare(
     text_names: &mut [u8],
     counts: &mut [u64],
 ) -> u32
-    ensures { λ r. ⌜ (r ≡ verdictGround (compare (now (items .entry)) (now (names .entry)) (now (words .entry)) (now (text .entry)) (length (now («text_items» .entry))) (length (now («text_names» .entry)))))
+    ensures { λ r. ⌜ (r ≡ verdictGround (compare (now (items .entry)) (now (names .entry)) (now (words .entry)) (now (text .entry)) (length (now («text_items» .entry))) (length (now («text_names» .entry))) .verdict))
         × (now («text_items» .exit) ≡ itemsLeft (compare (now (items .entry)) (now (names .entry)) (now (words .entry)) (now (text .entry)) (length (now («text_items» .entry))) (length (now («text_names» .entry)))) (readElements 1 (now (text .entry)) (length (now («text_items» .entry))) (length (now («text_names» .entry)))) (now («text_items» .entry)))
         × (now («text_names» .exit) ≡ namesLeft (compare (now (items .entry)) (now (names .entry)) (now (words .entry)) (now (text .entry)) (length (now («text_items» .entry))) (length (now («text_names» .entry)))) (readElements 1 (now (text .entry)) (length (now («text_items» .entry))) (length (now («text_names» .entry)))) (now («text_names» .entry)))
-        × (now (counts .exit) ≡ tellsVerdict (compare (now (items .entry)) (now (names .entry)) (now (words .entry)) (now (text .entry)) (length (now («text_items» .entry))) (length (now («text_names» .entry)))) (now (counts .entry))) ⌝ }
+        × (now (counts .exit) ≡ tellsVerdict (compare (now (items .entry)) (now (names .entry)) (now (words .entry)) (now (text .entry)) (length (now («text_items» .entry))) (length (now («text_names» .entry))) .verdict) (now (counts .entry))) ⌝ }
 {
     match supplier::compare(items, names, words, text, text_items, text_names) {
         Comparison::Yes => {
