@@ -23,7 +23,7 @@ use Rattle.program_laws.specs.RunLaws.{ran-accepted, ran-refused, term-front}
 module _ (items : List ℕ) (fuel : ℕ) (work work′ core core′ : List ℕ) (r : Expansion) (s : E.Served items fuel work work′ core core′ r) where
   -- the text is held against the term
   pub held-accepted : (n m l : ℕ) → r ≡ EV.Accepted n m l → (to : ℕ) → to ≡ l
-      → (names text : List ℕ) (words bytes : ℕ) (v : Verdict) → v ≡ compare items names (take to core′) text words bytes
+      → (names text : List ℕ) (words bytes : ℕ) (v : Verdict) → v ≡ compare items names (take to core′) text words bytes .verdict
       → verdictLine v ≡ printedFor items names fuel (length work) (length core) (readElements 1 text words bytes)
   unfolding compare printedFor printed
   held-accepted n m l h to w names text words bytes v e =
@@ -33,7 +33,7 @@ module _ (items : List ℕ) (fuel : ℕ) (work work′ core core′ : List ℕ) 
   pub held-refused : (g n m : ℕ) → r ≡ EV.Refused g n m → (names : List ℕ) (text : Answer Recipe)
       → verdictLine (refusedOn g) ≡ printedFor items names fuel (length work) (length core) text
   unfolding printedFor printed
-  held-refused g n m h names text = rw (ran-refused items fuel work work′ core core′ r s g n m h)
+  held-refused g n m h names text = rw (ran-refused items fuel work work′ core core′ r s g n m h .1)
 
 -- ---- reading
 
@@ -46,7 +46,7 @@ module _ (recipe items items′ names names′ : List ℕ) (r : Reading) (s : R.
 
   pub compared-refused : (g : ℕ) → r ≡ RV.Refused g → verdictLine (refusedOn g) ≡ outputOf fuel work core (read recipe (length items) (length names)) text
   unfolding outputOf
-  compared-refused g h = rw (refused-read recipe items items′ names names′ r s g h)
+  compared-refused g h = rw (refused-read recipe items items′ names names′ r s g h .1)
 
 -- ---- the filing program's tables
 

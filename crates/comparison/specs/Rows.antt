@@ -22,7 +22,7 @@ use Rattle.comparison.specs.Compare as Compare
 use Rattle.comparison.specs.Compare.{Verdict, yes, no, refusedOn}
 
 -- the call, opened for computing
-unfoldable pub compared : (items names words text : List ℕ) (textItems textNames : ℕ) → Verdict
+unfoldable pub called : (items names words text : List ℕ) (textItems textNames : ℕ) → Compare.Reply
 unfolding
     Lists.within Lists.allOf Lists.anyOf Lists.equal Options.onlyIf Options.mapSome Options.mapBoth
     NameTable.slot NameTable.lengthAt NameTable.nameAt NameTable.hasName readElements itemWords nameBytes termOf computed
@@ -32,11 +32,15 @@ unfolding
     Agrees.meant Agrees.bind Agrees.onVariable Agrees.onOperation Agrees.onDatum Agrees.onIf Agrees.onLambda Agrees.onApplication
     Agrees.sameConstant Agrees.sameDatum Agrees.sameName Agrees.agrees
     Compare.decided Compare.held Compare.require Compare.spelledOperations Compare.ourTerm Compare.withTerm Compare.comparison Compare.compare
-compared = Compare.compare
+called = Compare.compare
+
+unfoldable pub compared : (items names words text : List ℕ) (textItems textNames : ℕ) → Verdict
+unfolding called
+compared items names words text textItems textNames = called items names words text textItems textNames .verdict
 
 unfoldable pub of : {A : Type 0} → (Recipe → List A) → Answer Recipe → List A
 of f (got r) = f r
-of f (refusedFor g) = []
+of f (refusedFor stage g) = []
 
 unfoldable pub itemsOf : S.String → List ℕ
 unfolding bytes of itemWords elementsOf
@@ -143,15 +147,21 @@ spoiled-hold = refl
 
 -- ---- tables
 
--- the items and the last names after `(f x)`, of lent tables that held nines; and after 21 and 1
+-- what a call with our term 5 leaves of the text's items, which held nines
+unfoldable pub leaves : S.String → S.String → ℕ → List ℕ → List ℕ
+unfolding bytes itemsOf namesOf called Tables.filled Compare.leftBy Compare.readWords Compare.itemsLeft
+leaves recipe text textItems table =
+    Compare.itemsLeft (called (itemsOf recipe) (namesOf recipe) (2 ∷ 5 ∷ []) (bytes text) textItems nameBytesLeast) (readElements 1 (bytes text) textItems nameBytesLeast) table
+
+-- after yes, the last names after no, and after 21, 1, 3 and 7
 pub tables-hold : (
-    Compare.itemsLeft yes (elementsOf 1 (bytes "5")) (replicate 12 9)
-    ∷ drop 448 (Compare.namesLeft no (elementsOf 1 (bytes "x")) (replicate 577 9))
-    ∷ Compare.itemsLeft (refusedOn 21) (elementsOf 1 (bytes "()")) (replicate 3 9)
-    ∷ Compare.itemsLeft (refusedOn 1) (elementsOf 1 (bytes "5")) (replicate 3 9)
-    ∷ Compare.itemsLeft (refusedOn 3) (elementsOf 1 (bytes "A")) (replicate 3 9)
-    ∷ Compare.itemsLeft (refusedOn 7) (elementsOf 1 (bytes "5")) (replicate 3 9)
+    leaves "() 5" "5" itemWordsLeast (replicate 12 9)
+    ∷ drop 448 (Compare.namesLeft (record { stage = Tables.begun; verdict = no }) (elementsOf 1 (bytes "x")) (replicate 577 9))
+    ∷ leaves "() 5" "()" itemWordsLeast (replicate 3 9)
+    ∷ leaves "() 5" "5" 12287 (replicate 3 9)
+    ∷ leaves "() 5" "A" itemWordsLeast (replicate 3 9)
+    ∷ leaves "1 5" "5" itemWordsLeast (replicate 3 9)
     ∷ []
     ) ≡ (4 ∷ 1 ∷ 2 ∷ 1 ∷ 5 ∷ 0 ∷ replicate 6 0) ∷ (NameTable.slot (bytes "_") ++ NameTable.slot (bytes "x") ++ (0 ∷ [])) ∷ replicate 3 0 ∷ replicate 3 9 ∷ replicate 3 0 ∷ replicate 3 9 ∷ []
-unfolding bytes elementsOf Lists.within Tables.filled itemWords nameBytes NameTable.slot Compare.zeroes Compare.leftBy Compare.readWords Compare.itemsLeft Compare.namesLeft
+unfolding leaves bytes elementsOf Tables.filled nameBytes NameTable.slot Compare.leftBy Compare.readWords Compare.namesLeft
 tables-hold = refl

@@ -20,18 +20,18 @@ verdictLine (C.refusedOn ground) = line (bytes "refused" ∷ decimal ground ∷ 
 -- the recipe's run, with the answer of comparing its words; no run is unfinished (`run-finished`)
 unfoldable pub printed : Outcome → Verdict → List ℕ
 printed accepted v = verdictLine v
-printed (refusedOn ground) v = verdictLine (C.refusedOn ground)
+printed (refusedOn stage ground) v = verdictLine (C.refusedOn ground)
 printed unfinished v = []
 
 -- items and names of a recipe, with fuel, the lengths of the work and core tables, and the answer of reading the text
 unfoldable pub printedFor : (items names : List ℕ) (fuel work core : ℕ) (text : Answer Recipe) → List ℕ
 printedFor items names fuel work core text =
     let r = run items fuel work core in
-    printed (r .outcome) (comparison items names (coreOf r) text)
+    printed (r .outcome) (comparison items names (coreOf r) text .verdict)
 
 -- the answers of reading both texts; the recipe goes first
 unfoldable pub outputOf : (fuel work core : ℕ) (recipe text : Answer Recipe) → List ℕ
-outputOf fuel work core (refusedFor ground) text = verdictLine (C.refusedOn ground)
+outputOf fuel work core (refusedFor stage ground) text = verdictLine (C.refusedOn ground)
 outputOf fuel work core (got r) text = printedFor (itemWords r) (nameBytes r) fuel work core text
 
 -- both texts, with the filing program's fuel and tables

@@ -1,13 +1,11 @@
 -- The promise of the expansion service: its answer and every word of both lent tables are those of the definition's run, for
 -- every item table, fuel and pair of lent tables.
 use mathlib.Core.Path.{_≡_}
-use mathlib.Core.Bool.{cond}
 use mathlib.Core.List.{List, []}
 use Prim.Native.Nat.{ℕ}
-use lib.Dec.{leb}
 use lib.ListN.{length}
-use Rattle.words.specs.Tables.{filled}
-use Rattle.expansion.specs.Run.{Outcome, accepted, refusedOn, unfinished, Run, coreOf, run}
+use Rattle.words.specs.Tables.{leftAt}
+use Rattle.expansion.specs.Run.{Outcome, accepted, refusedOn, unfinished, stageOf, Run, coreOf, run}
 use Rattle.expander.specs.declared.Expansion.{Expansion}
 use Rattle.expander.specs.declared.Expansion.the-variants.{Accepted, Refused}
 
@@ -27,7 +25,7 @@ numbersOf (Refused ground steps sum) = record { ground = ground; steps = steps; 
 -- no run is unfinished (`run-finished`); its number is no ground's, and more than a word holds, so that no answer has it
 unfoldable pub groundOf : Outcome → ℕ
 groundOf accepted = 0
-groundOf (refusedOn g) = g
+groundOf (refusedOn stage g) = g
 groundOf unfinished = 4294967296
 
 unfoldable pub runNumbers : Run → Numbers
@@ -35,18 +33,12 @@ runNumbers r = record { ground = groundOf (r .outcome); steps = r .steps; sum = 
 
 -- ---- the tables
 
--- grounds 7 to 10 change no memory; past them a table ends zeroed but for the words it is to hold
-unfoldable pub leftBy : Outcome → List ℕ → List ℕ → List ℕ
-leftBy accepted words table = filled words table
-leftBy (refusedOn g) words table = cond (leb g 10) table (filled words table)
-leftBy unfinished words table = table
-
--- the core table holds the accepted term, the work table nothing
+-- the core table is left with the accepted term, the work table with nothing
 unfoldable pub coreAfter : Run → List ℕ → List ℕ
-coreAfter r core = leftBy (r .outcome) (coreOf r) core
+coreAfter r core = leftAt (stageOf (r .outcome)) (coreOf r) core
 
 unfoldable pub workAfter : Run → List ℕ → List ℕ
-workAfter r work = leftBy (r .outcome) [] work
+workAfter r work = leftAt (stageOf (r .outcome)) [] work
 
 -- ---- the promise
 

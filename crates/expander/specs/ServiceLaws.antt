@@ -6,22 +6,15 @@ use Prim.Native.Nat.{ℕ, _+_, _*_, _-_, _≤_, _<_}
 use native.Mathlib.Omega.{arith}
 use lib.Dec.{leb}
 use lib.ListN.{length, take, drop, replicate, length-drop, drop-of-length-le}
-use borrow.Author.Tests.{leb-true, le-leb, lt-leb}
+use borrow.Author.Tests.{leb-true}
 use Rattle.words.specs.Limits.{namesMost, fuelMost, workRate, coreRate, macrosMost}
 use Rattle.words.specs.Parts.{rest}
 use Rattle.words.specs.ListLaws.{rest-is}
 use Rattle.words.specs.TestLaws.{and-parts}
-use Rattle.recipe.specs.Name.{Name}
-use Rattle.recipe.specs.Tree.{size, element}
 use Rattle.recipe.specs.Table.{itemCount, isLayout, treeOf}
-use Rattle.core_term.specs.Term.{Term}
-use Rattle.expansion.specs.Computation.{State, start, Events, Out, done, refused, starved}
-use Rattle.expansion.specs.Outcomes.{Holds, isDone, isRefused, isStarved, both-hold}
-use Rattle.expansion.specs.Run.{Run, coreOf, ended, require, operationNumbers, areOperations, expandRecipe, run}
-use Rattle.expansion.specs.RunLaws.{unbegun, Begun, begun-run}
+use Rattle.expansion.specs.Run.{stageOf, Run, coreOf, ended, unbegun, require, operationNumbers, areOperations, expandRecipe, run}
+use Rattle.expansion.specs.RunLaws.{ended-begun, Begun, begun-run}
 use Rattle.expansion.specs.Bounds.{run-core-fits}
-use Rattle.expansion.specs.Bounds.Gas.{expandRecipe-spends}
-use Rattle.expansion.specs.Ways.{expand-keeps}
 use Rattle.layout.specs.Places.{Places}
 use Rattle.expander.specs.declared.Expansion.{Expansion}
 use Rattle.expander.specs.declared.Expansion.the-variants.{Accepted, Refused}
@@ -29,8 +22,9 @@ use Rattle.turns.specs.declared.answers.Reached.{Reached}
 use Rattle.turns.specs.declared.answers.Ended.{Ended}
 use Rattle.turns.specs.declared.answers.Ended.the-variants.{Done}
 use Rattle.turns.specs.declared.answers.Ended.the-variants as ends
-use Rattle.expander.specs.Service.{Numbers, numbersOf, groundOf, runNumbers, leftBy, coreAfter, workAfter, Served}
-use Rattle.words.specs.Tables.{filled}
+use Rattle.expander.specs.Service.{Numbers, numbersOf, groundOf, runNumbers, coreAfter, workAfter, Served}
+use Rattle.words.specs.Tables.{Stage, begun, filled, leftAt}
+use Rattle.words.specs.TableLaws.{zeros-left}
 use Rattle.expander.specs.Start.{Lends, endNumbers, Expanded, keptTo, Finished}
 
 -- ---- refused before it begins
@@ -44,30 +38,28 @@ module _ (items : List ℕ) (fuel : ℕ) (work core : List ℕ) where
   abbrev pub RefusedOn : ℕ → Type 0
   RefusedOn g = (r : Expansion) → r ≡ Refused g 0 0 → Served items fuel work work core core r
 
-  turned : (g : ℕ) → g ≤ 10 → run items fuel (length work) (length core) ≡ unbegun g → RefusedOn g
-  unfolding unbegun numbersOf runNumbers groundOf coreAfter workAfter leftBy
-  turned g h e r i =
-      let t : leb g 10 ≡ true = le-leb g 10 h in
-      record { numbers = rw (e, i); core-after = rw (e, t); work-after = rw (e, t) }
+  turned : (g : ℕ) → run items fuel (length work) (length core) ≡ unbegun g → RefusedOn g
+  unfolding unbegun stageOf leftAt numbersOf runNumbers groundOf coreAfter workAfter
+  turned g e r i = record { numbers = rw (e, i); core-after = rw e; work-after = rw e }
 
   pub served-layout : isLayout items ≡ false → RefusedOn 7
   unfolding run require unbegun
-  served-layout e = turned 7 (omega arith) (rw e)
+  served-layout e = turned 7 (rw e)
 
   module _ (layout : isLayout items ≡ true) where
     pub served-fuel : leb fuel fuelMost ≡ false → RefusedOn 8
     unfolding run require unbegun
-    served-fuel e = turned 8 (omega arith) (rw (layout, e))
+    served-fuel e = turned 8 (rw (layout, e))
 
     module _ (fuelled : leb fuel fuelMost ≡ true) where
       pub served-tables : room items fuel work core ≡ false → RefusedOn 9
       unfolding run require unbegun
-      served-tables e = turned 9 (omega arith) (rw (layout, fuelled, e))
+      served-tables e = turned 9 (rw (layout, fuelled, e))
 
       module _ (roomy : room items fuel work core ≡ true) where
         pub served-operations : areOperations (treeOf items) ≡ false → RefusedOn 10
         unfolding run require unbegun
-        served-operations e = turned 10 (omega arith) (rw (layout, fuelled, roomy, e))
+        served-operations e = turned 10 (rw (layout, fuelled, roomy, e))
 
         -- ---- past the tests
 
@@ -100,44 +92,27 @@ pub finished-refused : (e : Ended) (g n m : ℕ) (core zeros : List ℕ) → e �
 unfolding endNumbers numbersOf keptTo
 finished-refused e g n m core zeros i z = let l : length core - 0 ≡ length core = omega arith in record { numbers = rw i; table = rw (i, l, z) }
 
--- a table ends as its words fill it, since grounds past the tests are above 10
-module _ (words table : List ℕ) where
-  ended-left : {S : Type 0} {R : ℕ → State → Events → Type 0} {Q : Term Name → State → Events → Type 0} (o : Out (Term Name)) → Holds S R Q o → (S → ⊥) → ((g : ℕ) (s : State) (l : Events) → R g s l → 11 ≤ g)
-      → leftBy (ended o .outcome) words table ≡ filled words table
-  unfolding ended leftBy
-  ended-left (done t s l) (isDone q) x y = refl
-  ended-left (refused g s l) (isRefused r) x y = let h : 10 < g = y g s l r in rw (lt-leb g 10 h)
-  ended-left (starved l) (isStarved s) x y = absurd (x s)
-
-  begun-left : (items : List ℕ) (fuel : ℕ) → leftBy (ended (expandRecipe fuel (treeOf items)) .outcome) words table ≡ filled words table
-  unfolding expandRecipe
-  begun-left items fuel =
-      let t = treeOf items in
-      ended-left (expandRecipe fuel t)
-      (both-hold (expandRecipe-spends fuel t) (expand-keeps macrosMost macrosMost (operationNumbers t) fuel (size t + fuel) (element 1 t) start))
-      (λ p. p .0) (λ g s l p. p .1 .ground .0)
-
 module _ (items : List ℕ) (fuel : ℕ) (work core core₁ : List ℕ) (e : Ended) (b : Begun items fuel (length work) (length core))
-    (x : Expanded (ended (expandRecipe fuel (treeOf items))) core₁ e) (long : length core₁ ≡ length core) where
-  words-are : endNumbers e .length ≡ length (coreOf (ended (expandRecipe fuel (treeOf items))))
+    (x : Expanded (ended (expandRecipe macrosMost fuel (treeOf items))) core₁ e) (long : length core₁ ≡ length core) where
+  words-are : endNumbers e .length ≡ length (coreOf (ended (expandRecipe macrosMost fuel (treeOf items))))
   unfolding runNumbers
   words-are = ap (λ (n : Numbers). n .length) (x .numbers)
 
   pub expanded-fits : endNumbers e .length ≤ length core₁
   expanded-fits =
       let begun = begun-run items fuel (length work) (length core) b in
-      let fits : length (coreOf (ended (expandRecipe fuel (treeOf items)))) ≤ length core = rw begun at (run-core-fits items fuel (length work) (length core)) in
+      let fits : length (coreOf (ended (expandRecipe macrosMost fuel (treeOf items)))) ≤ length core = rw begun at (run-core-fits items fuel (length work) (length core)) in
       omega (arith, words-are)
 
   pub served-expanded : (core₂ work₂ : List ℕ) (r : Expansion) → Finished e core₁ core₂ r → work₂ ≡ replicate (length work) 0 → Served items fuel work work₂ core core₂ r
-  unfolding coreAfter workAfter keptTo filled
+  unfolding coreAfter workAfter keptTo leftAt filled
   served-expanded core₂ work₂ r f w =
-      let words = coreOf (ended (expandRecipe fuel (treeOf items))) in
-      let begun = sym (begun-run items fuel (length work) (length core) b) in
-      let kept : keptTo (endNumbers e .length) core₁ ≡ filled words core = rw (words-are, x .words, long) in
-      let none : replicate (length work) 0 ≡ filled [] work = let z : length work - 0 ≡ length work = omega arith in rw z in
+      let words = coreOf (ended (expandRecipe macrosMost fuel (treeOf items))) in
+      let ran = sym (begun-run items fuel (length work) (length core) b) in
+      let stage = sym (ended-begun (expandRecipe macrosMost fuel (treeOf items))) in
+      let kept : keptTo (endNumbers e .length) core₁ ≡ leftAt begun words core = rw (words-are, x .words, long) in
       record {
-        numbers = f .numbers ∙ x .numbers ∙ ap runNumbers begun;
-        core-after = f .table ∙ kept ∙ sym (begun-left words core items fuel) ∙ ap (λ (u : Run). coreAfter u core) begun;
-        work-after = w ∙ none ∙ sym (begun-left [] work items fuel) ∙ ap (λ (u : Run). workAfter u work) begun;
+        numbers = f .numbers ∙ x .numbers ∙ ap runNumbers ran;
+        core-after = f .table ∙ kept ∙ ap (λ (u : Stage). leftAt u words core) stage ∙ ap (λ (u : Run). coreAfter u core) ran;
+        work-after = w ∙ zeros-left work ∙ ap (λ (u : Stage). leftAt u [] work) stage ∙ ap (λ (u : Run). workAfter u work) ran;
       }

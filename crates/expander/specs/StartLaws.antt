@@ -118,11 +118,11 @@ module _ (items work core operations : List ℕ) (fuel : ℕ) (l : Lends items w
         })
 
     pub start-expanded : (macros : List ℕ) (last : Tables) (e : Ended) → ExpandsBy operations fuel (treeAt work′ body 0) from (tables work′ core macros) last e
-        → Expanded (ended (expandRecipe fuel (treeOf items))) (last .core) e
+        → Expanded (ended (expandRecipe macrosMost fuel (treeOf items))) (last .core) e
     unfolding expandRecipe start atStart stateAt macrosAt
     start-expanded macros last e x =
         let gas : ℕ = size (treeOf items) + fuel in
         let begun = subst (λ (q : Reached). ExpandsBy operations fuel (treeAt work′ body 0) q (tables work′ core macros) last e) from-is x in
-        expanded core (atStart top) last (expandRecipe fuel (treeOf items)) e refl
+        expanded core (atStart top) last (expandRecipe macrosMost fuel (treeOf items)) e refl
         (subst (λ t. Left wordsOf (atStart top) core last (endOf (expand macrosMost (operationNumbers (treeOf items)) fuel gas t start)) e) start-tree
         (begun (operationNumbers (treeOf items)) start-lent .means gas (omega (arith, start-size))))

@@ -2,6 +2,7 @@
 
 ghost use Prim.Native.Nat.{_+_, _*_, _≤_};
 ghost use lib.ListN.{length};
+ghost use Rattle.words.specs.Limits.{macrosMost};
 ghost use Rattle.recipe.specs.Table.{itemCount, treeOf};
 ghost use Rattle.expansion.specs.Run.{ended, expandRecipe};
 ghost use Rattle.turns.specs.Memory.{macroItems};
@@ -29,7 +30,7 @@ fn run(
     fuel: u32,
 ) -> Ended
     requires { ⌜ (Lends (now items) (now work) (now core) (now operations) fuel) × (itemCount (now items) + fuel ≤ macroItems * length (now known)) ⌝ }
-    ensures { λ r. ⌜ Expanded (ended (expandRecipe fuel (treeOf (now (items .entry))))) (now (core .exit)) r ⌝ }
+    ensures { λ r. ⌜ Expanded (ended (expandRecipe macrosMost fuel (treeOf (now (items .entry))))) (now (core .exit)) r ⌝ }
 {
     let top = arena::item_nodes::lay_out(items, work);
     let body = lists::element(work, top, 1);
@@ -46,7 +47,7 @@ pub fn expand_recipe(
     fuel: u32,
 ) -> Ended
     requires { ⌜ Lends (now items) (now work) (now core) (now operations) fuel ⌝ }
-    ensures { λ r. ⌜ Expanded (ended (expandRecipe fuel (treeOf (now (items .entry))))) (now (core .exit)) r ⌝ }
+    ensures { λ r. ⌜ Expanded (ended (expandRecipe macrosMost fuel (treeOf (now (items .entry))))) (now (core .exit)) r ⌝ }
 {
     if items.len() / 3 + fuel as usize <= MACRO_ITEMS * FEW_MACROS {
         let mut few = [0u32; FEW_MACROS];

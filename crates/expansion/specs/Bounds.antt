@@ -12,8 +12,8 @@ use Rattle.recipe.specs.TreeLaws.{element-size}
 use Rattle.recipe.specs.Table.{itemCount, treeOf}
 use Rattle.recipe.specs.TableWeight.{treeOf-size}
 use Rattle.expansion.specs.Computation.{State, start}
-use Rattle.expansion.specs.Run.{coreOf, ended, run}
-use Rattle.expansion.specs.RunLaws.{unbegun, Begun, run-holds}
+use Rattle.expansion.specs.Run.{coreOf, ended, unbegun, run}
+use Rattle.expansion.specs.RunLaws.{Begun, run-holds}
 use Rattle.expansion.specs.Bounds.Budget.{Spent}
 use Rattle.expansion.specs.Bounds.Gas.{expandRecipe-spends}
 
@@ -21,7 +21,7 @@ use Rattle.expansion.specs.Bounds.Gas.{expandRecipe-spends}
 pub run-sum : (items : List ℕ) (fuel work core : ℕ) → run items fuel work core .sum ≤ fuel
 unfolding unbegun ended
 run-sum items fuel work core =
-    run-holds (λ r. r .sum ≤ fuel) items fuel work core (λ b. expandRecipe-spends fuel (treeOf items))
+    run-holds (λ r. r .sum ≤ fuel) items fuel work core (λ b. expandRecipe-spends _ fuel (treeOf items))
     (λ g _. omega arith)
     (λ b t s l q. q .solvent .bounded)
     (λ b g s l r. r .bounded)
@@ -31,7 +31,7 @@ run-sum items fuel work core =
 pub run-steps : (items : List ℕ) (fuel work core : ℕ) → run items fuel work core .steps ≤ run items fuel work core .sum
 unfolding unbegun ended
 run-steps items fuel work core =
-    run-holds (λ r. r .steps ≤ r .sum) items fuel work core (λ b. expandRecipe-spends fuel (treeOf items))
+    run-holds (λ r. r .steps ≤ r .sum) items fuel work core (λ b. expandRecipe-spends _ fuel (treeOf items))
     (λ g _. omega arith)
     (λ b t s l q. q .solvent .paid)
     (λ b g s l r. r .paid)
@@ -45,7 +45,7 @@ module _ (items : List ℕ) (fuel work core : ℕ) where
   pub run-core : length (coreOf (run items fuel work core)) ≤ coreRate * (itemCount items + fuel)
   unfolding unbegun ended
   run-core =
-      run-holds (λ r. length (coreOf r) ≤ coreRate * (itemCount items + fuel)) items fuel work core (λ b. expandRecipe-spends fuel (treeOf items))
+      run-holds (λ r. length (coreOf r) ≤ coreRate * (itemCount items + fuel)) items fuel work core (λ b. expandRecipe-spends _ fuel (treeOf items))
       (λ g _. omega arith)
       (λ b t s l q. words-bound b q)
       (λ b g s l r. omega arith)
@@ -55,7 +55,7 @@ module _ (items : List ℕ) (fuel work core : ℕ) where
   pub run-core-fits : length (coreOf (run items fuel work core)) ≤ core
   unfolding unbegun ended
   run-core-fits =
-      run-holds (λ r. length (coreOf r) ≤ core) items fuel work core (λ b. expandRecipe-spends fuel (treeOf items))
+      run-holds (λ r. length (coreOf r) ≤ core) items fuel work core (λ b. expandRecipe-spends _ fuel (treeOf items))
       (λ g _. omega arith)
       (λ b t s l q. omega (arith, words-bound b q, b .core-room))
       (λ b g s l r. omega arith)

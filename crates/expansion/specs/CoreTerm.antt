@@ -23,8 +23,8 @@ use Rattle.recipe.specs.TableTidy.{treeOf-tidy}
 use Rattle.core_term.specs.Term.{Term}
 use Rattle.core_term.specs.Check.{outside, small, termOf}
 use Rattle.expansion.specs.Computation.{start}
-use Rattle.expansion.specs.Run.{accepted, told, wordsOf, coreOf, ended, operationNumbers, areOperations, expandRecipe, run}
-use Rattle.expansion.specs.RunLaws.{accepted≢refusedOn, accepted≢unfinished, unbegun, run-holds}
+use Rattle.expansion.specs.Run.{accepted, told, wordsOf, coreOf, ended, unbegun, operationNumbers, areOperations, expandRecipe, run}
+use Rattle.expansion.specs.RunLaws.{accepted≢refusedOn, accepted≢unfinished, run-holds}
 use Rattle.expansion.specs.CoreTerm.Worlds.{World, fine-plain}
 use Rattle.expansion.specs.CoreTerm.WorldState.{Closed}
 use Rattle.expansion.specs.CoreTerm.SoundTerms.{sound-termOf}
@@ -44,10 +44,10 @@ start-closed : Closed nowhere start
 unfolding nowhere
 start-closed = record { begun = λ n e. absurd (false≢true e); rules = λ n e. absurd (false≢true e) }
 
-expandRecipe-made : (fuel : ℕ) (items : List ℕ) → isLayout items ≡ true → MakesTerm macrosMost (operationNumbers (treeOf items)) fuel nowhere start (expandRecipe fuel (treeOf items))
+expandRecipe-made : (limit fuel : ℕ) (items : List ℕ) → isLayout items ≡ true → MakesTerm limit (operationNumbers (treeOf items)) fuel nowhere start (expandRecipe limit fuel (treeOf items))
 unfolding expandRecipe
-expandRecipe-made fuel items e =
-    expand-made macrosMost macrosMost (operationNumbers (treeOf items)) fuel (size (treeOf items) + fuel) nowhere _ (tidy-element 1 (tidy-weaken fine-plain (treeOf-tidy items e))) start start-closed
+expandRecipe-made limit fuel items e =
+    expand-made limit macrosMost (operationNumbers (treeOf items)) fuel (size (treeOf items) + fuel) nowhere _ (tidy-element 1 (tidy-weaken fine-plain (treeOf-tidy items e))) start start-closed
 
 pub operations-most : (t : Tree) → areOperations t ≡ true → length (operationNumbers t) ≤ operationsMost
 unfolding areOperations
@@ -58,8 +58,8 @@ operations-most t e =
 pub run-term : (items : List ℕ) (fuel work core : ℕ) → run items fuel work core .outcome ≡ accepted → CoreTerm (length (operationNumbers (treeOf items))) (coreOf (run items fuel work core))
 unfolding unbegun ended start nowhere
 run-term items fuel work core =
-    run-holds (λ r. r .outcome ≡ accepted → CoreTerm (length (operationNumbers (treeOf items))) (coreOf r)) items fuel work core (λ b. expandRecipe-made fuel items (b .layout))
-    (λ g _ e. absurd (accepted≢refusedOn g (sym e)))
+    run-holds (λ r. r .outcome ≡ accepted → CoreTerm (length (operationNumbers (treeOf items))) (coreOf r)) items fuel work core (λ b. expandRecipe-made _ fuel items (b .layout))
+    (λ g _ e. absurd (accepted≢refusedOn _ g (sym e)))
     (λ b t s l q e. record { term = t; words = refl; passes = sound-termOf _ (told t) (q .passed) (operations-most (treeOf items) (b .operations)) })
-    (λ b g s l r e. absurd (accepted≢refusedOn g (sym e)))
+    (λ b g s l r e. absurd (accepted≢refusedOn _ g (sym e)))
     (λ b l x e. absurd (accepted≢unfinished (sym e)))

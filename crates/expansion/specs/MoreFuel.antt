@@ -6,6 +6,7 @@ use mathlib.Core.Path.{_≡_}
 use mathlib.Core.List.{List}
 use Prim.Native.Nat.{ℕ, _+_, _*_, _≤_, _<_}
 use Rattle.words.specs.Limits.{fuelMost, workRate, coreRate}
+use Rattle.words.specs.Tables.{begun}
 use Rattle.recipe.specs.Table.{itemCount}
 use Rattle.expansion.specs.Run.{refusedOn, Run, run}
 
@@ -24,7 +25,7 @@ tried items t = run items (t .fuel) (t .work) (t .core)
 
 -- any outcome other than ground 18
 unfoldable pub Enough : Run → Type 0
-Enough r = r .outcome ≡ refusedOn 18 → ⊥
+Enough r = r .outcome ≡ refusedOn begun 18 → ⊥
 
 -- any outcome other than ground 18 at one fuel is the outcome at every larger fuel up to 8,192, with equal counts and term, where the
 -- lent tables pass ground 9 for both (each for its own fuel) and the items are unchanged: the whole run, what it shows with it
@@ -40,7 +41,7 @@ pub record Least (r : Run) (fuel : ℕ) (r′ : Run) : Type 0 where
   -- at every fuel from its sum on it is the same run
   pub from-sum : r .sum ≤ fuel → r′ ≡ r
   -- and at every fuel below it is 18
-  pub below-sum : fuel < r .sum → r′ .outcome ≡ refusedOn 18
+  pub below-sum : fuel < r .sum → r′ .outcome ≡ refusedOn begun 18
 
 unfoldable pub LeastFuel : Type 0
 LeastFuel =

@@ -4,6 +4,7 @@ use Prim.Native.Nat.{ℕ}
 use Prim.Native.String.{String}
 use Rattle.words.specs.Limits.{filingFuel, filingWork, filingCore}
 use Rattle.words.specs.Text.{bytes}
+use Rattle.words.specs.Tables.{testing, begun}
 use Rattle.reading.specs.Elements.{Answer, got, refusedFor}
 use Rattle.reading.specs.Read.{Recipe, recipeOf, itemWords}
 use Rattle.expansion.specs.Run.{Outcome, accepted, refusedOn, Run, coreOf}
@@ -23,9 +24,13 @@ pub record Row : Type 0 where
 unfoldable pub gives : String → (steps sum : ℕ) → List ℕ → Row
 gives text steps sum core = record { text = text; fuel = filingFuel; outcome = accepted; steps = steps; sum = sum; core = core }
 
+-- one that is turned back before it begins
+unfoldable pub turnsBack : String → (ground : ℕ) → Row
+turnsBack text ground = record { text = text; fuel = filingFuel; outcome = refusedOn testing ground; steps = 0; sum = 0; core = [] }
+
 -- a refused one: ground, steps, sum
 unfoldable pub refuses : String → (ground steps sum : ℕ) → Row
-refuses text ground steps sum = record { text = text; fuel = filingFuel; outcome = refusedOn ground; steps = steps; sum = sum; core = [] }
+refuses text ground steps sum = record { text = text; fuel = filingFuel; outcome = refusedOn begun ground; steps = steps; sum = sum; core = [] }
 
 -- the row with other fuel
 unfoldable pub withFuel : ℕ → Row → Row
@@ -37,7 +42,7 @@ withFuel fuel r = record { text = r .text; fuel = fuel; outcome = r .outcome; st
 unfoldable pub itemsOf : Answer Recipe → List ℕ
 unfolding itemWords
 itemsOf (got recipe) = itemWords recipe
-itemsOf (refusedFor g) = []
+itemsOf (refusedFor stage g) = []
 
 -- the run of a text in the filing program's tables
 unfoldable pub runOf : String → ℕ → Run

@@ -8,7 +8,7 @@ use Rattle.reading.specs.Read.{recipeOf}
 use Rattle.recipe.specs.Table.{itemCount}
 use Rattle.expansion.specs.Run.{coreOf}
 use Rattle.expansion.specs.Computed.{computed}
-use Rattle.expansion.specs.Row.{Row, gives, refuses, withFuel, itemsOf}
+use Rattle.expansion.specs.Row.{Row, gives, turnsBack, refuses, withFuel, itemsOf}
 
 -- the row that the definitions give in such tables
 unfoldable pub triedRow : Row → Row
@@ -20,7 +20,7 @@ triedRow r =
     record { text = r .text; fuel = r .fuel; outcome = run .outcome; steps = run .steps; sum = run .sum; core = coreOf run }
 
 unfoldable pub fuels : List Row
-unfolding gives refuses withFuel
+unfolding gives turnsBack refuses withFuel
 fuels =
     -- F1: 18 below the sum, accepted from the sum on
     withFuel 20 (refuses "() (let-syntax ((or2 (syntax-rules () ((_ a b) ((lambda (t) (if t t b)) a))))) (lambda (t) (or2 #f t)))" 18 0 0) ∷
@@ -48,7 +48,7 @@ fuels =
     withFuel 513 (refuses "() (letrec-syntax ((if (syntax-rules () ((_ a b c) (if a b c))))) (if 1 2 3))" 18 57 513) ∷
     withFuel 8192 (refuses "() (letrec-syntax ((if (syntax-rules () ((_ a b c) (if a b c))))) (if 1 2 3))" 18 910 8190) ∷
     -- F4: 8,192 is the last fuel
-    withFuel 8193 (refuses "() 1" 8 0 0) ∷
+    withFuel 8193 (turnsBack "() 1" 8) ∷
     []
 
 pub fuels-hold : map triedRow fuels ≡ fuels

@@ -1,10 +1,10 @@
 -- More recipes with known expansions: those of document 01 that E01 to E62 leave out, other fuel (F1 to F3), private names, operations.
 use mathlib.Core.Path.{_≡_, refl}
 use mathlib.Core.List.{List, [], _∷_, map}
-use Rattle.expansion.specs.Row.{Row, gives, refuses, withFuel, filed}
+use Rattle.expansion.specs.Row.{Row, gives, turnsBack, refuses, withFuel, filed}
 
 unfoldable pub recipes : List Row
-unfolding gives refuses withFuel
+unfolding gives turnsBack refuses withFuel
 recipes =
     -- List of pairs: one ellipsis over a list
     gives "(list) (let-syntax ((l (syntax-rules () ((_ (a b) ...) (list (list b a) ...))))) (l (1 2) (3 4)))"
@@ -69,13 +69,13 @@ recipes =
     -- Integers: -0 is 0
     gives "() (let-syntax ((m (syntax-rules () ((_ 0) 1)))) (m -0))" 1 1 (2 ∷ 1 ∷ []) ∷
     -- Ground 7: the first element is no list
-    refuses "1 2" 7 0 0 ∷
+    turnsBack "1 2" 7 ∷
     -- Ground 10: an operation below 8
-    refuses "(if) 1" 10 0 0 ∷
+    turnsBack "(if) 1" 10 ∷
     -- Ground 10: an operation twice
-    refuses "(a a) 1" 10 0 0 ∷
+    turnsBack "(a a) 1" 10 ∷
     -- Ground 10: an operation that is no name
-    refuses "(a (b)) 1" 10 0 0 ∷
+    turnsBack "(a (b)) 1" 10 ∷
     []
 
 pub recipes-hold : map filed recipes ≡ recipes

@@ -6,6 +6,7 @@ use Prim.Native.Nat.{ℕ, _+_}
 use Prim.Native.String.{String}
 use Rattle.words.specs.Limits.{filingFuel}
 use Rattle.words.specs.Text.{bytes}
+use Rattle.words.specs.Tables.{begun}
 use Rattle.recipe.specs.Tree.{size, element}
 use Rattle.recipe.specs.Table.{treeOf}
 use Rattle.reading.specs.Read.{recipeOf}
@@ -127,6 +128,6 @@ two = "() (let-syntax ((a (syntax-rules () ((_) 1))) (b (syntax-rules () ((_) 1)
 abbrev inside : String
 inside = "() (let-syntax ((a (syntax-rules () ((_) 1)))) (if 1 (let-syntax ((a (syntax-rules () ((_) 1))) (b (syntax-rules () ((_) 1)))) 1) 2))"
 
-pub limits-hold : limited 1 2 two ∷ limited 2 1 two ∷ limited 1 2 inside ∷ limited 2 1 inside ∷ [] ≡ refusedOn 13 ∷ accepted ∷ accepted ∷ refusedOn 13 ∷ []
+pub limits-hold : limited 1 2 two ∷ limited 2 1 two ∷ limited 1 2 inside ∷ limited 2 1 inside ∷ [] ≡ refusedOn begun 13 ∷ accepted ∷ accepted ∷ refusedOn begun 13 ∷ []
 unfolding limited
 limits-hold = refl

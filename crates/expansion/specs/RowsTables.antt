@@ -3,6 +3,7 @@ use mathlib.Core.Path.{_≡_, refl}
 use mathlib.Core.Bool.{true, false}
 use mathlib.Core.List.{List, [], _∷_, map}
 use Prim.Native.Nat.{ℕ, zero, suc}
+use Rattle.words.specs.Tables.{testing}
 use Rattle.recipe.specs.Name.{plainName}
 use Rattle.recipe.specs.Tree.{Tree, empty, name, pair}
 use Rattle.recipe.specs.Rows.{X1, X2, X3}
@@ -46,20 +47,20 @@ rows =
     -- the most fuel, and larger tables
     row X2 8192 200000 25000 accepted (2 ∷ 5 ∷ []) ∷
     -- F4: one work word too few, one core word too few
-    row X2 0 119 15 (refusedOn 9) [] ∷
-    row X2 0 120 14 (refusedOn 9) [] ∷
+    row X2 0 119 15 (refusedOn testing 9) [] ∷
+    row X2 0 120 14 (refusedOn testing 9) [] ∷
     -- fuel counts like items
-    row X2 1 143 18 (refusedOn 9) [] ∷
-    row X2 1 144 17 (refusedOn 9) [] ∷
+    row X2 1 143 18 (refusedOn testing 9) [] ∷
+    row X2 1 144 17 (refusedOn testing 9) [] ∷
     row X2 1 144 18 accepted (2 ∷ 5 ∷ []) ∷
     -- F9: a decimal's three words, and one core word too few
     row withDecimal 0 264 33 accepted (8 ∷ 1 ∷ 1 ∷ 0 ∷ 9 ∷ 80 ∷ 2 ∷ []) ∷
-    row withDecimal 0 264 32 (refusedOn 9) [] ∷
+    row withDecimal 0 264 32 (refusedOn testing 9) [] ∷
     -- F4: 7 before 8, 8 before 9, 9 before 10
-    row X3 8193 0 0 (refusedOn 7) [] ∷
-    row X2 8193 0 0 (refusedOn 8) [] ∷
-    row ifAsOperation 0 167 21 (refusedOn 9) [] ∷
-    row ifAsOperation 0 168 21 (refusedOn 10) [] ∷
+    row X3 8193 0 0 (refusedOn testing 7) [] ∷
+    row X2 8193 0 0 (refusedOn testing 8) [] ∷
+    row ifAsOperation 0 167 21 (refusedOn testing 9) [] ∷
+    row ifAsOperation 0 168 21 (refusedOn testing 10) [] ∷
     []
 
 pub rows-hold : map ran rows ≡ rows

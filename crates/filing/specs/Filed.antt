@@ -31,11 +31,11 @@ pub record Expanded (items : List ℕ) (fuel : ℕ) (names work work′ core cor
 module _ (fuel : ℕ) where
   unfoldable pub workLeft : (core : ℕ) → Answer Recipe → List ℕ → List ℕ
   workLeft core (got r) work = workAfter (run (itemWords r) fuel (length work) core) work
-  workLeft core (refusedFor g) work = work
+  workLeft core (refusedFor stage g) work = work
 
   unfoldable pub coreLeft : (work : ℕ) → Answer Recipe → List ℕ → List ℕ
   coreLeft work (got r) core = coreAfter (run (itemWords r) fuel work (length core)) core
-  coreLeft work (refusedFor g) core = core
+  coreLeft work (refusedFor stage g) core = core
 
 -- what a call answers and leaves
 pub record Filed (text : List ℕ) (fuel : ℕ) (items items′ names names′ work work′ core core′ out out′ : List ℕ) (r : Writing) : Type 0 where

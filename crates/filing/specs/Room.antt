@@ -18,7 +18,7 @@ use Rattle.core_term.specs.CheckLaws as C
 use Rattle.core_term.specs.TextRoom.{limit, number-room, text-room}
 use Rattle.expansion.specs.Run.{Outcome, accepted, refusedOn, unfinished, Run, coreOf, run}
 use Rattle.expansion.specs.Bounds.{run-sum, run-steps, run-core-fits}
-use Rattle.expansion.specs.Ways.Grounds.{RefusedOn, atOnce, later, run-ground}
+use Rattle.expansion.specs.Ways.Grounds.{ground-range, run-ground}
 use Rattle.output.specs.Output.{line, refusal, header, acceptance, printed, outputOf, filed, output}
 use Rattle.writer.specs.declared.Writing.{Writing}
 use Rattle.writer.specs.declared.Writing.the-variants.{Written, NoTerm, NoRoom}
@@ -72,19 +72,15 @@ module _ (fuel : ℕ) (small : fuel < limit) where
     abbrev it : Run
     it = run items fuel work core
 
-    grounds-few : (g : ℕ) → RefusedOn g it → g ≤ 18
-    grounds-few g (atOnce l e) = omega arith
-    grounds-few g (later l) = omega arith
-
     printed-room : (o : Outcome) → it .outcome ≡ o → length (printed names o it) ≤ outputMost
     unfolding printed
     printed-room accepted e =
         acceptance-room names (coreOf it) (it .steps) (it .sum) (omega (arith, run-steps items fuel work core, run-sum items fuel work core))
         (omega (arith, run-sum items fuel work core)) (omega (arith, run-core-fits items fuel work core))
-    printed-room (refusedOn g) e =
+    printed-room (refusedOn w g) e =
         omega (
           arith,
-          refusal-room g (it .steps) (it .sum) (omega (arith, grounds-few g (run-ground items fuel work core g e)))
+          refusal-room g (it .steps) (it .sum) (omega (arith, ground-range w g (run-ground items fuel work core w g e) .1))
               (omega (arith, run-steps items fuel work core, run-sum items fuel work core)) (omega (arith, run-sum items fuel work core)),
         )
     printed-room unfinished e = omega arith
@@ -96,7 +92,7 @@ module _ (fuel : ℕ) (small : fuel < limit) where
     where
       go : (a : Answer Recipe) → read txt items names ≡ a → length (outputOf fuel work core a) ≤ outputMost
       go (got r) e = printed-room (nameBytes r) (itemWords r) work core few (run (itemWords r) fuel work core .outcome) refl
-      go (refusedFor g) e = omega (arith, refusal-room g 0 0 (omega (arith, read-ground txt items names g e)) (omega arith) (omega arith))
+      go (refusedFor stage g) e = omega (arith, refusal-room g 0 0 (omega (arith, read-ground txt items names stage g e .1)) (omega arith) (omega arith))
 
 -- ---- in the filing program's tables
 

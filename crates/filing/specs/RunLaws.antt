@@ -49,7 +49,7 @@ module _ (items : List ℕ) (fuel : ℕ) (work work′ core core′ : List ℕ) 
   unfolding numbersOf runNumbers printedRun printed
   expanded-refused g n m h =
       let k = counts (Refused g n m) h in
-      expanded-by (rw (ran-refused items fuel work work′ core core′ r s g n m h, ap (λ (x : Numbers). x .steps) k, ap (λ (x : Numbers). x .sum) k))
+      expanded-by (rw (ran-refused items fuel work work′ core core′ r s g n m h .1, ap (λ (x : Numbers). x .steps) k, ap (λ (x : Numbers). x .sum) k))
 
 -- ---- reading
 
@@ -72,5 +72,5 @@ module _ (text items items′ names names′ : List ℕ) (r : Reading) (s : R.Se
       → Filed text fuel items items′ names names′ work work core core out out′ w
   unfolding filed outputOf workLeft coreLeft
   filed-refused g h x =
-      let e = refused-read text items items′ names names′ r s g h in
+      let e = refused-read text items items′ names names′ r s g h .1 in
       record { output = wrote-is (rw e) x; items-after = s .items; names-after = s .names; work-after = rw e; core-after = rw e }

@@ -5,15 +5,15 @@ use mathlib.Core.List.{List, []}
 use Prim.Native.Nat.{ℕ, _≤_, _<_}
 use native.Mathlib.Omega.{arith}
 use lib.ListN.{length}
-use borrow.Author.Tests.{le-leb, lt-leb}
-use Rattle.words.specs.Tables.{filled}
-use Rattle.expansion.specs.Run.{Outcome, accepted, refusedOn, unfinished, Run, coreOf, run}
+use Rattle.words.specs.Tables.{testing, begun, leftAt}
+use Rattle.expansion.specs.Run.{Outcome, accepted, refusedOn, unfinished, stageOf, Run, coreOf, run}
 use Rattle.expansion.specs.Bounds.{run-sum, run-core-fits}
 use Rattle.expansion.specs.Bounds.Gas.{run-finished}
-use Rattle.expansion.specs.Ways.Grounds.{RefusedOn, atOnce, later, run-ground}
+use Rattle.expansion.specs.RunLaws.{GroundIn}
+use Rattle.expansion.specs.Ways.Grounds.{run-ground}
 use Rattle.expansion.specs.MoreFuel.{Try, tried, Enough, LeastFuel}
 use Rattle.expansion.specs.MoreFuel.Claim.{least-fuel}
-use Rattle.expander.specs.Service.{Numbers, groundOf, runNumbers, leftBy, coreAfter, workAfter}
+use Rattle.expander.specs.Service.{Numbers, groundOf, runNumbers, coreAfter, workAfter}
 use Rattle.fuel_calls.specs.Statement.{Call, Early, Late, callGround, callSum, Kept, Wrote, Left, kept, wrote, Same, MoreFuelCalls, LeastFuelCalls}
 
 module _ {items : List ℕ} where
@@ -24,25 +24,27 @@ module _ {items : List ℕ} where
   abbrev runOf : Call items → Run
   runOf c = run items (c .fuel) (length (c .work)) (length (c .core))
 
-  -- ---- what a call leaves, by its run's outcome
+  -- ---- what a call leaves, by its run's stage
 
   module _ (c : Call items) (r : Run) (e : runOf c ≡ r) where
-    core-left : c .core′ ≡ leftBy (r .outcome) (coreOf r) (c .core)
+    core-left : c .core′ ≡ leftAt (stageOf (r .outcome)) (coreOf r) (c .core)
     unfolding coreAfter
     core-left = c .served .core-after ∙ ap (λ z. coreAfter z (c .core)) e
 
-    work-left : c .work′ ≡ leftBy (r .outcome) [] (c .work)
+    work-left : c .work′ ≡ leftAt (stageOf (r .outcome)) [] (c .work)
     unfolding workAfter
     work-left = c .served .work-after ∙ ap (λ z. workAfter z (c .work)) e
 
-    leaves-kept : ((words table : List ℕ) → leftBy (r .outcome) words table ≡ table) → Kept c
-    leaves-kept h = record { core = core-left ∙ h _ _; work = work-left ∙ h _ _ }
+    leaves-kept : stageOf (r .outcome) ≡ testing → Kept c
+    unfolding leftAt
+    leaves-kept h = record { core = core-left ∙ rw h; work = work-left ∙ rw h }
 
-    leaves-wrote : ((words table : List ℕ) → leftBy (r .outcome) words table ≡ filled words table) → Wrote (coreOf r) c
+    leaves-wrote : stageOf (r .outcome) ≡ begun → Wrote (coreOf r) c
+    unfolding leftAt
     leaves-wrote h = record {
       fits = subst (λ (z : Run). length (coreOf z) ≤ length (c .core)) e (run-core-fits items (c .fuel) (length (c .work)) (length (c .core)));
-      core = core-left ∙ h _ _;
-      work = work-left ∙ h _ _;
+      core = core-left ∙ rw h;
+      work = work-left ∙ rw h;
     }
 
   ground-is : (c : Call items) (o : Outcome) → runOf c .outcome ≡ o → callGround c ≡ groundOf o
@@ -56,24 +58,20 @@ module _ {items : List ℕ} where
   -- ---- two calls whose runs are one
 
   module _ (once again : Call items) (same : runOf again ≡ runOf once) where
-    both-kept : ((words table : List ℕ) → leftBy (runOf once .outcome) words table ≡ table) → Early (callGround once) → Left once again
+    both-kept : stageOf (runOf once .outcome) ≡ testing → Early (callGround once) → Left once again
     both-kept h g = kept g (leaves-kept once (runOf once) refl h) (leaves-kept again (runOf once) same h)
 
-    both-wrote : ((words table : List ℕ) → leftBy (runOf once .outcome) words table ≡ filled words table) → Late (callGround once) → Left once again
+    both-wrote : stageOf (runOf once .outcome) ≡ begun → Late (callGround once) → Left once again
     both-wrote h g = wrote g (coreOf (runOf once)) (leaves-wrote once (runOf once) refl h) (leaves-wrote again (runOf once) same h)
 
-    back-left : (g : ℕ) → runOf once .outcome ≡ refusedOn g → callGround once ≡ g → RefusedOn g (runOf once) → Left once again
-    unfolding leftBy
-    back-left g o y (atOnce l x) = both-kept (λ words table. rw (o, le-leb g 10 (l .1))) (omega (arith, y, l .0), omega (arith, y, l .1))
-    back-left g o y (later l) = let past : 10 < g = omega (arith, l .0) in both-wrote (λ words table. rw (o, lt-leb g 10 past)) (inr (omega (arith, y)))
-
     both-left : Left once again
-    unfolding leftBy groundOf
+    unfolding stageOf groundOf
     both-left = by (runOf once .outcome) refl
       where
         by : (o : Outcome) → runOf once .outcome ≡ o → Left once again
-        by accepted e = both-wrote (λ words table. rw e) (inl (ground-is once accepted e))
-        by (refusedOn g) e = back-left g e (ground-is once (refusedOn g) e) (run-ground items (once .fuel) _ _ g e)
+        by accepted e = both-wrote (rw e) (inl (ground-is once accepted e))
+        by (refusedOn testing g) e = both-kept (rw e) (subst (GroundIn testing) (sym (ground-is once _ e)) (run-ground items (once .fuel) _ _ testing g e))
+        by (refusedOn begun g) e = both-wrote (rw e) (inr (subst (GroundIn begun) (sym (ground-is once _ e)) (run-ground items (once .fuel) _ _ begun g e)))
         by unfinished e = absurd (run-finished items (once .fuel) _ _ e)
 
     same-calls : Same once again
@@ -82,10 +80,10 @@ module _ {items : List ℕ} where
 pub least-fuel-calls : LeastFuelCalls
 unfolding LeastFuelCalls LeastFuel Enough tried groundOf tryOf
 least-fuel-calls items once again enough =
-    let least = least-fuel items (tryOf once) (tryOf again) λ o. enough (ground-is once (refusedOn 18) o) in
+    let least = least-fuel items (tryOf once) (tryOf again) λ o. enough (ground-is once (refusedOn begun 18) o) in
     record {
       from-sum = λ h. same-calls once again (least .from-sum (omega (arith, h, sum-is once)));
-      below-sum = λ h. ground-is again (refusedOn 18) (least .below-sum (omega (arith, h, sum-is once)));
+      below-sum = λ h. ground-is again (refusedOn begun 18) (least .below-sum (omega (arith, h, sum-is once)));
     }
 
 pub more-fuel-calls : MoreFuelCalls

@@ -6,8 +6,9 @@ use mathlib.Core.List.{List, []}
 use Prim.Native.Nat.{ℕ, _+_, _*_, _≤_, _<_}
 use lib.ListN.{length}
 use Rattle.words.specs.Limits.{fuelMost, workRate, coreRate}
-use Rattle.words.specs.Tables.{filled}
+use Rattle.words.specs.Tables.{testing, begun, filled}
 use Rattle.recipe.specs.Table.{itemCount}
+use Rattle.expansion.specs.RunLaws.{GroundIn}
 use Rattle.expander.specs.declared.Expansion.{Expansion}
 use Rattle.expander.specs.Service.{numbersOf, Served}
 
@@ -24,13 +25,13 @@ pub record Call (items : List ℕ) : Type 0 where
   pub core-room : coreRate * (itemCount items + fuel) ≤ length core
   pub served : Served items fuel work work′ core core′ answer
 
--- the grounds that change no memory
+-- the grounds of tests, which touch nothing
 abbrev pub Early : (ground : ℕ) → Type 0
-Early g = (7 ≤ g) × (g ≤ 10)
+Early g = GroundIn testing g
 
--- accepted (0), and the grounds that zero both tables
+-- accepted (0), and the grounds of a run that has begun
 abbrev pub Late : (ground : ℕ) → Type 0
-Late g = (g ≡ 0) ⊎ (10 < g)
+Late g = (g ≡ 0) ⊎ GroundIn begun g
 
 module _ {items : List ℕ} where
   -- the ground and the sum of its answer

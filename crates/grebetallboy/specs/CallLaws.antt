@@ -16,7 +16,7 @@ use Rattle.writer.specs.Wrote.{Wrote}
 use Rattle.expansion.specs.Run.{run}
 use Rattle.expander.specs.declared.Expansion.{Expansion}
 use Rattle.expander.specs.Service as E
-use Rattle.comparison.specs.Compare.{Verdict, itemsLeft, namesLeft}
+use Rattle.comparison.specs.Compare.{Reply, itemsLeft, namesLeft}
 use Rattle.supplier.specs.declared.Comparison.{Comparison}
 use Rattle.supplier.specs.Service as C
 use Rattle.grebetallboy.specs.Calls.{told, tellsRead, tellsRun, tellsVerdict, verdictGround}
@@ -54,13 +54,13 @@ module _ {items work work′ core core′ counts′ : List ℕ} {fuel : ℕ} {r 
 
 -- writing: ground, output, length
 module _ {x : Option (List ℕ)} {out out′ counts′ : List ℕ} {r q : Writing} (counts : List ℕ) where
-  pub write-told : Wrote x out out′ r → r ≡ q → counts′ ≡ told (W.lengthOf q) 0 0 counts → (W.groundOf q ≡ W.ground out x) × (out′ ≡ W.after out x) × (counts′ ≡ told (W.size out x) 0 0 counts)
+  pub write-told : Wrote x out out′ r → r ≡ q → counts′ ≡ told (W.lengthOf q) 0 0 counts → (W.groundOf q ≡ W.ground (W.outcome out x)) × (out′ ≡ W.after (W.outcome out x) out) × (counts′ ≡ told (W.size (W.outcome out x)) 0 0 counts)
   write-told wrote e told-counts = (ap W.groundOf (sym e) ∙ wrote .number, wrote .left, told-counts ∙ ap (λ n. told n 0 0 counts) (ap W.lengthOf (sym e) ∙ wrote .value))
 
 -- comparing: ground, the text's two tables, answer
-module _ {v : Verdict} {a : Answer Recipe} {words words′ bytes bytes′ counts′ : List ℕ} {r q : Comparison} (counts : List ℕ) where
+module _ {v : Reply} {a : Answer Recipe} {words words′ bytes bytes′ counts′ : List ℕ} {r q : Comparison} (counts : List ℕ) where
   pub compare-told : C.Gives v a words words′ bytes bytes′ r → r ≡ q → counts′ ≡ tellsVerdict (C.verdictOf q) counts
-      → (verdictGround (C.verdictOf q) ≡ verdictGround v) × (words′ ≡ itemsLeft v a words) × (bytes′ ≡ namesLeft v a bytes) × (counts′ ≡ tellsVerdict v counts)
+      → (verdictGround (C.verdictOf q) ≡ verdictGround (v .verdict)) × (words′ ≡ itemsLeft v a words) × (bytes′ ≡ namesLeft v a bytes) × (counts′ ≡ tellsVerdict (v .verdict) counts)
   compare-told served e told-counts =
       let verdict = ap C.verdictOf (sym e) ∙ served .verdict in
       (ap verdictGround verdict, served .items, served .names, told-counts ∙ ap (λ w. tellsVerdict w counts) verdict)

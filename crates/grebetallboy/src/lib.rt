@@ -5,7 +5,7 @@
 ghost use mathlib.Core.Path.{_≡_};
 ghost use lib.ListN.{length};
 ghost use Rattle.reading.specs.Read.{read, readElements, readNumbers, itemsAfter, namesAfter};
-ghost use Rattle.writer.specs.Writing.{textOf, ground, size, after};
+ghost use Rattle.writer.specs.Writing.{textOf, outcome, ground, size, after};
 ghost use Rattle.expansion.specs.Run.{run};
 ghost use Rattle.expander.specs.Service.{runNumbers, coreAfter, workAfter};
 ghost use Rattle.comparison.specs.Compare.{compare, itemsLeft, namesLeft};
@@ -95,9 +95,9 @@ pub extern "C" fn grebetallboy_write(
     out: &mut [u8],
     counts: &mut [u64],
 ) -> u32
-    ensures { λ r. ⌜ (r ≡ ground (now (out .entry)) (textOf (now (words .entry)) operations (now (names .entry))))
-        × (now (out .exit) ≡ after (now (out .entry)) (textOf (now (words .entry)) operations (now (names .entry))))
-        × (now (counts .exit) ≡ told (size (now (out .entry)) (textOf (now (words .entry)) operations (now (names .entry)))) 0 0 (now (counts .entry))) ⌝ }
+    ensures { λ r. ⌜ (r ≡ ground (outcome (now (out .entry)) (textOf (now (words .entry)) operations (now (names .entry)))))
+        × (now (out .exit) ≡ after (outcome (now (out .entry)) (textOf (now (words .entry)) operations (now (names .entry)))) (now (out .entry)))
+        × (now (counts .exit) ≡ told (size (outcome (now (out .entry)) (textOf (now (words .entry)) operations (now (names .entry))))) 0 0 (now (counts .entry))) ⌝ }
 {
     match writer::write(words, operations, names, out) {
         Writing::Written(n) => {
@@ -126,10 +126,10 @@ pub extern "C" fn grebetallboy_compare(
     text_names: &mut [u8],
     counts: &mut [u64],
 ) -> u32
-    ensures { λ r. ⌜ (r ≡ verdictGround (compare (now (items .entry)) (now (names .entry)) (now (words .entry)) (now (text .entry)) (length (now («text_items» .entry))) (length (now («text_names» .entry)))))
+    ensures { λ r. ⌜ (r ≡ verdictGround (compare (now (items .entry)) (now (names .entry)) (now (words .entry)) (now (text .entry)) (length (now («text_items» .entry))) (length (now («text_names» .entry))) .verdict))
         × (now («text_items» .exit) ≡ itemsLeft (compare (now (items .entry)) (now (names .entry)) (now (words .entry)) (now (text .entry)) (length (now («text_items» .entry))) (length (now («text_names» .entry)))) (readElements 1 (now (text .entry)) (length (now («text_items» .entry))) (length (now («text_names» .entry)))) (now («text_items» .entry)))
         × (now («text_names» .exit) ≡ namesLeft (compare (now (items .entry)) (now (names .entry)) (now (words .entry)) (now (text .entry)) (length (now («text_items» .entry))) (length (now («text_names» .entry)))) (readElements 1 (now (text .entry)) (length (now («text_items» .entry))) (length (now («text_names» .entry)))) (now («text_names» .entry)))
-        × (now (counts .exit) ≡ tellsVerdict (compare (now (items .entry)) (now (names .entry)) (now (words .entry)) (now (text .entry)) (length (now («text_items» .entry))) (length (now («text_names» .entry)))) (now (counts .entry))) ⌝ }
+        × (now (counts .exit) ≡ tellsVerdict (compare (now (items .entry)) (now (names .entry)) (now (words .entry)) (now (text .entry)) (length (now («text_items» .entry))) (length (now («text_names» .entry))) .verdict) (now (counts .entry))) ⌝ }
 {
     match supplier::compare(items, names, words, text, text_items, text_names) {
         Comparison::Yes => {

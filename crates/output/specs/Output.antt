@@ -33,12 +33,12 @@ acceptance names steps sum (some t) = header steps sum ++ line (text (nameAt nam
 -- a run, with the name table of its recipe
 unfoldable pub printed : List ℕ → Outcome → Run → List ℕ
 printed names accepted r = acceptance names (r .steps) (r .sum) (termOf operationsMost (hasName names) (coreOf r))
-printed names (refusedOn ground) r = refusal ground (r .steps) (r .sum)
+printed names (refusedOn stage ground) r = refusal ground (r .steps) (r .sum)
 printed names unfinished r = []
 
 -- the answer of reading, with the lengths of the work and core tables
 unfoldable pub outputOf : (fuel work core : ℕ) → Answer Recipe → List ℕ
-outputOf fuel work core (refusedFor ground) = refusal ground 0 0
+outputOf fuel work core (refusedFor stage ground) = refusal ground 0 0
 outputOf fuel work core (got recipe) =
     let r = run (itemWords recipe) fuel work core in
     printed (nameBytes recipe) (r .outcome) r

@@ -1,57 +1,29 @@
 -- Demand 3 for two calls: by the service's promise (demands 1 and 2) they give equal answers and leave equal words in the work tables,
 -- and in the core tables but for the name words where a copy stands, whatever words they are lent.
 use mathlib.Core.Path.{_≡_, refl, ap, ap₂, sym, _∙_}
-use mathlib.Core.Bool.{Bool, true, cond, false≢true}
+use mathlib.Core.Bool.{Bool, true}
 use mathlib.Core.List.{List, [], _++_}
 use mathlib.Core.Option.{Option, none, some}
-use Prim.Native.Nat.{ℕ, _-_, _<_}
-use native.Mathlib.Omega.{arith}
-use lib.Dec.{leb}
+use Prim.Native.Nat.{ℕ, _-_}
 use lib.ListN.{length, replicate}
-use borrow.Author.Tests.{lt-leb}
 use Rattle.words.specs.Lists.{allOf, anyOf}
-use Rattle.words.specs.Tables.{filled}
+use Rattle.words.specs.Tables.{Stage, filled, leftAt}
 use Rattle.words.specs.TestLaws.{and-parts}
 use Rattle.recipe.specs.Name.{Name}
 use Rattle.recipe.specs.Table.{treeOf}
 use Rattle.core_term.specs.Term.{Term}
 use Rattle.core_term.specs.TermLaws.{onFormals-words}
-use Rattle.expansion.specs.Computation.{Event}
-use Rattle.expansion.specs.Run.{Outcome, accepted, refusedOn, unfinished, Run, run}
-use Rattle.expansion.specs.RunLaws.{unbegun}
-use Rattle.expansion.specs.Bounds.Gas.{run-finished}
-use Rattle.expansion.specs.Ways.Grounds.{RefusedOn, atOnce, later, run-ground}
+use Rattle.expansion.specs.Run.{stageOf, run}
+use Rattle.expansion.specs.RunLaws.{begun-stage, shows-begun}
 use Rattle.private_names.specs.Statement.{Choice, isOldItem, renamed, isReachedAt, hypotheses, Answer, answerOf, formalNumber, coreWith, answerWith, PrivateNames}
 use Rattle.private_names_proof.specs.Claim.{private-names}
 use Rattle.expander.specs.declared.Expansion.{Expansion}
-use Rattle.expander.specs.Service.{Numbers, numbersOf, groundOf, runNumbers, leftBy, coreAfter, workAfter, Served}
+use Rattle.expander.specs.Service.{Numbers, numbersOf, groundOf, runNumbers, coreAfter, workAfter, Served}
 
--- ---- what a call leaves goes by the lengths of its tables alone, where its run shows an event
-
+-- what a call leaves goes by the lengths of its tables alone, once it has begun
 filled-by-length : (words t u : List ℕ) → length t ≡ length u → filled words t ≡ filled words u
 unfolding filled
 filled-by-length words t u e = ap (λ n. words ++ replicate (n - length words) 0) e
-
-module _ (ws : List ℕ) (fuel work core : ℕ) (f : Event → Bool) (shown : anyOf f (run ws fuel work core .events) ≡ true) (words : List ℕ) where
-  abbrev it : Run
-  it = run ws fuel work core
-
-  past-tests : (table : List ℕ) (g : ℕ) → RefusedOn g it → cond (leb g 10) table (filled words table) ≡ filled words table
-  unfolding unbegun anyOf
-  past-tests table g (atOnce l e) = absurd (false≢true (sym (ap (λ (r : Run). anyOf f (r .events)) e) ∙ shown))
-  past-tests table g (later l) = let h : 10 < g = omega (arith, l .0) in rw (lt-leb g 10 h)
-
-  shown-left : (table : List ℕ) → leftBy (it .outcome) words table ≡ filled words table
-  unfolding leftBy
-  shown-left table = go (it .outcome) refl
-    where
-      go : (o : Outcome) → it .outcome ≡ o → leftBy o words table ≡ filled words table
-      go accepted e = refl
-      go (refusedOn g) e = past-tests table g (run-ground ws fuel work core g e)
-      go unfinished e = absurd (run-finished ws fuel work core e)
-
-  left-by-length : (t u : List ℕ) → length t ≡ length u → leftBy (it .outcome) words t ≡ leftBy (it .outcome) words u
-  left-by-length t u e = shown-left t ∙ filled-by-length words t u e ∙ sym (shown-left u)
 
 -- ---- two calls
 
@@ -69,7 +41,7 @@ with-length C m n (some t) = onFormals-words (formalNumber C m) (formalNumber C 
 abbrev pub coreLeft : (ws : List ℕ) (fuel : ℕ) (c : Choice) (work core : List ℕ) → ℕ → List ℕ
 coreLeft ws fuel c work core n =
     let r = run ws fuel (length work) (length core) in
-    leftBy (r .outcome) (coreWith (isOldItem (treeOf ws) c) n (r .term)) core
+    filled (coreWith (isOldItem (treeOf ws) c) n (r .term)) core
 
 -- with one fuel and lent tables of equal lengths: of a recipe, and of the recipe with a private name renamed. Numbers and work tables
 -- are equal; the core tables hold the first run's term, one with the old number and the other with the new where a copy stands
@@ -79,19 +51,20 @@ pub private-calls : (ws : List ℕ) (fuel : ℕ) (c : Choice) (work work′ work
     → Served ws fuel work work₁ core core₁ first
     → Served (renamed ws c) fuel work′ work₂ core′ core₂ second
     → (numbersOf second ≡ numbersOf first) × (core₁ ≡ coreLeft ws fuel c work core (c .old)) × (core₂ ≡ coreLeft ws fuel c work core (c .new)) × (work₂ ≡ work₁)
-unfolding PrivateNames hypotheses allOf answerOf answerWith runNumbers coreAfter workAfter
+unfolding PrivateNames hypotheses allOf answerOf answerWith runNumbers coreAfter workAfter leftAt
 private-calls ws fuel c work work′ work₁ work₂ core core′ core₁ core₂ first second x y h p q =
     let r = run ws fuel (length work) (length core) in
     let C = isOldItem (treeOf ws) c in
     let shown = and-parts (anyOf (isReachedAt (c .form)) (r .events)) _ h .0 in
-    let left = left-by-length ws fuel (length work) (length core) (isReachedAt (c .form)) shown in
+    let stage = begun-stage ws fuel (length work) (length core) (shows-begun ws fuel (length work) (length core) (isReachedAt (c .form)) shown) in
+    let left : (words table : List ℕ) → leftAt (stageOf (r .outcome)) words table ≡ filled words table = λ words table. ap (λ (w : Stage). leftAt w words table) stage in
     let named = private-names ws fuel (length work) (length core) c h in
     let e : answerOf (run (renamed ws c) fuel (length work′) (length core′)) ≡ answerWith C (c .new) r =
     ap₂ (λ m n. answerOf (run (renamed ws c) fuel m n)) x y ∙ named .1 in
     let same : numbersFor (answerWith C (c .new) r) ≡ numbersFor (answerWith C (c .old) r) =
     ap (λ (n : ℕ). record { ground = groundOf (r .outcome); steps = r .steps; sum = r .sum; length = n }) (with-length C (c .new) (c .old) (r .term)) in (
       q .numbers ∙ ap numbersFor e ∙ same ∙ sym (ap numbersFor (named .0)) ∙ sym (p .numbers),
-      p .core-after ∙ ap (λ (a : Answer). leftBy (a .outcome) (a .core) core) (named .0),
-      q .core-after ∙ ap (λ (a : Answer). leftBy (a .outcome) (a .core) core′) e ∙ left _ core′ core y,
-      q .work-after ∙ ap (λ (a : Answer). leftBy (a .outcome) [] work′) e ∙ left [] work′ work x ∙ sym (p .work-after),
+      p .core-after ∙ ap (λ (a : Answer). leftAt (stageOf (a .outcome)) (a .core) core) (named .0) ∙ left _ core,
+      q .core-after ∙ ap (λ (a : Answer). leftAt (stageOf (a .outcome)) (a .core) core′) e ∙ left _ core′ ∙ filled-by-length (coreWith C (c .new) (r .term)) core′ core y,
+      q .work-after ∙ ap (λ (a : Answer). leftAt (stageOf (a .outcome)) [] work′) e ∙ left [] work′ ∙ filled-by-length [] work′ work x ∙ sym (p .work-after ∙ left [] work),
     )

@@ -9,6 +9,7 @@ use Prim.Native.Nat.{ℕ, suc}
 use Prim.Native.String.{String}
 use Rattle.words.specs.Limits.{filingFuel, filingWork, filingCore}
 use Rattle.words.specs.Text.{bytes}
+use Rattle.words.specs.Tables.{testing, begun}
 use Rattle.recipe.specs.Table.{treeOf}
 use Rattle.reading.specs.Elements.{got, refusedFor}
 use Rattle.reading.specs.Read.{recipeOf, itemWords}
@@ -21,7 +22,7 @@ use Rattle.private_names.specs.Statement.{Choice, isOldItem, isCopy, ren
 -- the items of a recipe's text
 unfoldable pub itemsOf : String → List ℕ
 unfolding bytes recipeOf itemWords
-itemsOf text = elim (recipeOf (bytes text)) [ got r ↦ itemWords r | refusedFor g ↦ [] ]
+itemsOf text = elim (recipeOf (bytes text)) [ got r ↦ itemWords r | refusedFor stage g ↦ [] ]
 
 -- how many lookups of copies a run shows
 unfoldable pub copyLookups : (C : ℕ → Bool) → Events → ℕ
@@ -60,9 +61,13 @@ trial = trialTo 1000
 unfoldable pub gives : (steps sum : ℕ) → List ℕ → Answer
 gives steps sum core = record { outcome = accepted; steps = steps; sum = sum; core = core }
 
+-- one that is turned back by ground 7
+unfoldable pub turnedBack : Answer
+turnedBack = record { outcome = refusedOn testing 7; steps = 0; sum = 0; core = [] }
+
 -- a refused one: ground, steps, sum
 unfoldable pub refuses : (ground steps sum : ℕ) → Answer
-refuses ground steps sum = record { outcome = refusedOn ground; steps = steps; sum = sum; core = [] }
+refuses ground steps sum = record { outcome = refusedOn begun ground; steps = steps; sum = sum; core = [] }
 
 unfoldable pub finding : List Bool → ℕ → Answer → Answer → Finding
 finding hold lookups first second = record { hold = hold; lookups = lookups; first = first; second = second }
@@ -251,7 +256,7 @@ claims-hold = refl
 -- ---- one hypothesis fails, and the answers differ
 
 unfoldable pub failing : List (Trial × Finding)
-unfolding trial trialTo gives refuses finding
+unfolding trial trialTo gives refuses turnedBack finding
 failing =
     -- E25: a lookup of a copy finds a binding whose own name is none
     (
@@ -336,7 +341,7 @@ failing =
     -- the new name is past the last number: the table has no layout
     (
       trialTo 1024 "() (let-syntax ((m (syntax-rules () ((_) (lambda (t) t))))) (m))" 4 0 0 9,
-      finding (true ∷ true ∷ false ∷ true ∷ true ∷ []) 1 (gives 1 9 (7 ∷ 0 ∷ 1 ∷ 9 ∷ 0 ∷ 0 ∷ [])) (refuses 7 0 0),
+      finding (true ∷ true ∷ false ∷ true ∷ true ∷ []) 1 (gives 1 9 (7 ∷ 0 ∷ 1 ∷ 9 ∷ 0 ∷ 0 ∷ [])) turnedBack,
     ) ∷
     []
 

@@ -11,6 +11,7 @@ use Rattle.words.specs.Limits.{operationsMost, workRate, coreRate, macrosMost}
 use Rattle.words.specs.Lists.{allOf, anyOf}
 use Rattle.words.specs.TestLaws.{and-parts}
 use Rattle.words.specs.Each.{Each}
+use Rattle.words.specs.Tables.{begun}
 use Rattle.recipe.specs.Name.{Name, distinct}
 use Rattle.recipe.specs.Tree.{Tree, size, names, isName, elements, element, onNames}
 use Rattle.recipe.specs.TreeLaws.{onNames-size, onNames-element}
@@ -51,7 +52,7 @@ ended-first ρ raw starvations = refl
 ended-second : (ρ : Renaming) (raw : Raw ρ) {x y : Out (Term Name)} → OutRel (privately ρ raw) 0 (TermRel ρ) x y → answerOf (ended y) ≡ answerWith (ρ .isPrivate) (ρ .new) (ended x)
 unfolding answerOf answerWith coreWith ended
 ended-second ρ raw (dones r q) = λ i. record { outcome = accepted; steps = sym (q .steps) i; sum = sym (q .sum) i; core = encode (sym (second-told ρ r) i) }
-ended-second ρ raw (refusals {g = g} q) = λ i. record { outcome = refusedOn g; steps = sym (q .steps) i; sum = sym (q .sum) i; core = [] }
+ended-second ρ raw (refusals {g = g} q) = λ i. record { outcome = refusedOn begun g; steps = sym (q .steps) i; sum = sym (q .sum) i; core = [] }
 ended-second ρ raw starvations = refl
 
 -- ---- an expression and the renumbered one, from the start
@@ -90,11 +91,11 @@ same-test t u e = ap (λ z. allOf isName (elements z) && (leb (length (map (λ x
 expansionOf : ℕ → Tree → Tree → Out (Term Name)
 expansionOf fuel t e = expand macrosMost (operationNumbers t) fuel (size t + fuel) e start
 
-recipe-is : (fuel : ℕ) (t : Tree) → expandRecipe fuel t ≡ expansionOf fuel t (element 1 t)
+recipe-is : (fuel : ℕ) (t : Tree) → expandRecipe macrosMost fuel t ≡ expansionOf fuel t (element 1 t)
 unfolding expandRecipe expansionOf
 recipe-is fuel t = refl
 
-renamed-is : (fuel : ℕ) (f : Name → Name) (t : Tree) → element 0 (onNames f t) ≡ element 0 t → expandRecipe fuel (onNames f t) ≡ expansionOf fuel t (onNames f (element 1 t))
+renamed-is : (fuel : ℕ) (f : Name → Name) (t : Tree) → element 0 (onNames f t) ≡ element 0 t → expandRecipe macrosMost fuel (onNames f t) ≡ expansionOf fuel t (onNames f (element 1 t))
 unfolding expandRecipe expansionOf
 renamed-is fuel f t e =
     ap₂ (λ operations gas. expand macrosMost operations fuel (gas + fuel) (element 1 (onNames f t)) start) (same-operations (onNames f t) t e) (onNames-size f t)
@@ -164,7 +165,7 @@ module _ (ws : List ℕ) (fuel work core : ℕ) (c : Choice) (k : Case ws fuel w
     unfolding renamed
     second-is =
         begun-run (renamed ws c) fuel work core second-begun
-        ∙ ap (λ t. ended (expandRecipe fuel t)) (treeOf-renumber (isOldItem (treeOf ws) c) (c .new) ws)
+        ∙ ap (λ t. ended (expandRecipe macrosMost fuel t)) (treeOf-renumber (isOldItem (treeOf ws) c) (c .new) ws)
         ∙ ap ended (renamed-is fuel (renew ρ) (treeOf ws) same)
 
     answers : Claimed

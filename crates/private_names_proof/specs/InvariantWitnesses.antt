@@ -6,6 +6,7 @@ use Prim.Native.Nat.{ℕ}
 use Prim.Native.String.{String}
 use lib.Dec.{eqb}
 use Rattle.words.specs.Lists.{allOf, anyOf}
+use Rattle.words.specs.Tables.{begun}
 use Rattle.recipe.specs.Name.{bindingKey}
 use Rattle.recipe.specs.Tree.{Tree, names}
 use Rattle.recipe.specs.Table.{treeOf}
@@ -41,6 +42,6 @@ invariants-pass = refl
 unfoldable pub byNumber : Tree → State → Bool
 byNumber t s = allOf (λ x. allOf (λ y. not (eqb (x .number) (y .number)) || eqb (bindingKey (x .binding)) (bindingKey (y .binding))) (names t)) (names t)
 
-pub more-fails : tried byNumber or2 ∷ tried (areApart (eqb 37)) made ∷ [] ≡ (refusedOn 0, 1) ∷ (refusedOn 0, 1) ∷ []
+pub more-fails : tried byNumber or2 ∷ tried (areApart (eqb 37)) made ∷ [] ≡ (refusedOn begun 0, 1) ∷ (refusedOn begun 0, 1) ∷ []
 unfolding tried byNumber
 more-fails = refl

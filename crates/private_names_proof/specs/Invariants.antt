@@ -62,7 +62,7 @@ plain-sound = record {
   each = λ x p. tt;
 }
 
-recipe-follows : (test : Tree → State → Bool) → Follows (λ x. x .binding) (λ x. Unit {0}) IsConstant test → (ws : List ℕ) (fuel : ℕ) → isLayout ws ≡ true → watchedRecipe test fuel (treeOf ws) ≡ expandRecipe fuel (treeOf ws)
+recipe-follows : (test : Tree → State → Bool) → Follows (λ x. x .binding) (λ x. Unit {0}) IsConstant test → (ws : List ℕ) (fuel : ℕ) → isLayout ws ≡ true → watchedRecipe test fuel (treeOf ws) ≡ expandRecipe macrosMost fuel (treeOf ws)
 unfolding watchedRecipe expandRecipe start
 recipe-follows test follows ws fuel layout =
     let operations = operationNumbers (treeOf ws) in
@@ -96,7 +96,7 @@ start-after private = record { later = omega arith; rules = noneOf }
 -- ---- the invariants
 
 -- Marks are fresh: in each expression that a run comes to, every mark is that of a step already made. So the next step's mark is new.
-pub marks-are-fresh : (ws : List ℕ) (fuel : ℕ) → isLayout ws ≡ true → watchedRecipe areFresh fuel (treeOf ws) ≡ expandRecipe fuel (treeOf ws)
+pub marks-are-fresh : (ws : List ℕ) (fuel : ℕ) → isLayout ws ≡ true → watchedRecipe areFresh fuel (treeOf ws) ≡ expandRecipe macrosMost fuel (treeOf ws)
 marks-are-fresh = recipe-follows areFresh fresh-follows
 
 -- Marks stick: after k steps, a name that the next one inserts has all its marks and the new one, and a name of the use has its marks as
@@ -106,13 +106,13 @@ pub marks-stick : (k : ℕ) (x : Name) → Fresh k x
 marks-stick k x f = (inserted-marks k x f, used-marks k x f)
 
 -- In one tree number and marks determine the binding: in each expression that a run comes to.
-pub marks-determine-binding : (ws : List ℕ) (fuel : ℕ) → isLayout ws ≡ true → watchedRecipe haveOneBinding fuel (treeOf ws) ≡ expandRecipe fuel (treeOf ws)
+pub marks-determine-binding : (ws : List ℕ) (fuel : ℕ) → isLayout ws ≡ true → watchedRecipe haveOneBinding fuel (treeOf ws) ≡ expandRecipe macrosMost fuel (treeOf ws)
 marks-determine-binding = recipe-follows haveOneBinding binding-follows
 
 -- A copy and a name that is no copy are never the same: in each expression that a run comes to, where it comes to the form of that
 -- template other than through a macro's result.
 pub copies-stay-apart : (ws : List ℕ) (fuel work core : ℕ) (c : Choice) → anyOf (isReachedAt (c .form)) (run ws fuel work core .events) ≡ true
-    → watchedRecipe (areApart (isOldItem (treeOf ws) c)) fuel (treeOf ws) ≡ expandRecipe fuel (treeOf ws)
+    → watchedRecipe (areApart (isOldItem (treeOf ws) c)) fuel (treeOf ws) ≡ expandRecipe macrosMost fuel (treeOf ws)
 unfolding watchedRecipe expandRecipe
 copies-stay-apart ws fuel work core c h = located (find (c .form) (element 1 (treeOf ws)))
   where
@@ -120,7 +120,7 @@ copies-stay-apart ws fuel work core c h = located (find (c .form) (element 1 (tr
     begun = shows-begun ws fuel work core (isReachedAt (c .form)) h
 
     reaches : anyOf (isReachedAt (c .form)) (eventsOf (expand macrosMost (operationNumbers (treeOf ws)) fuel (size (treeOf ws) + fuel) (element 1 (treeOf ws)) start)) ≡ true
-    reaches = subst (λ l. anyOf (isReachedAt (c .form)) l ≡ true) (ap (λ r. r .events) (begun-run ws fuel work core begun) ∙ ended-events (expandRecipe fuel (treeOf ws))) h
+    reaches = subst (λ l. anyOf (isReachedAt (c .form)) l ≡ true) (ap (λ r. r .events) (begun-run ws fuel work core begun) ∙ ended-events (expandRecipe macrosMost fuel (treeOf ws))) h
 
     located : Unheaded (c .form) (element 1 (treeOf ws)) ⊎ ((l : List ℕ) × Headed (c .form) l (element 1 (treeOf ws)))
         → watched (areApart (isOldItem (treeOf ws) c)) macrosMost macrosMost (operationNumbers (treeOf ws)) fuel (size (treeOf ws) + fuel) (element 1 (treeOf ws)) start

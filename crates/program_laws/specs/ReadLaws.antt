@@ -5,7 +5,7 @@ use Prim.Native.Nat.{ℕ, _*_, _-_, _≤_}
 use native.Mathlib.Omega.{arith}
 use lib.ListN.{length, take, replicate}
 use Rattle.words.specs.Limits.{slotSize}
-use Rattle.words.specs.Tables.{filled}
+use Rattle.words.specs.Tables.{filled, Stage}
 use Rattle.datum.specs.Datum.{dataItems}
 use Rattle.reading.specs.Elements.{Answer, got, refusedFor}
 use Rattle.reading.specs.Read.{Recipe, read, readNumbers, itemWords, nameBytes, itemsAfter, namesAfter}
@@ -28,7 +28,7 @@ module _ (text items items′ names names′ : List ℕ) (r : Reading) (s : Serv
   unfolding read numbersOf
   recipe-read i n h = numbers-got 2 text (length items) (length names) i n (told-of (Read i n) h)
 
-  pub refused-read : (g : ℕ) → r ≡ Refused g → read′ ≡ refusedFor g
+  pub refused-read : (g : ℕ) → r ≡ Refused g → (stage : Stage) × (read′ ≡ refusedFor stage g)
   unfolding read numbersOf
   refused-read g h = numbers-refused 2 text (length items) (length names) g (told-of (Refused g) h)
 

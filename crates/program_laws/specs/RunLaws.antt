@@ -4,21 +4,16 @@ use mathlib.Core.List.{List}
 use Prim.Native.Nat.{ℕ, _-_, _≤_}
 use native.Mathlib.Omega.{arith}
 use lib.ListN.{length, take, replicate}
-use Rattle.words.specs.Tables.{filled}
+use Rattle.words.specs.Tables.{Stage, filled, leftAt}
 use Rattle.core_term.specs.PartsLaws.{encode-two}
-use Rattle.expansion.specs.Run.{told, Outcome, accepted, refusedOn, unfinished, Run, coreOf, run}
+use Rattle.expansion.specs.Run.{told, Outcome, accepted, refusedOn, unfinished, stageOf, Run, coreOf, run}
 use Rattle.expansion.specs.CoreTerm.{run-term}
 use Rattle.expansion.specs.Bounds.Gas.{run-finished}
-use Rattle.expansion.specs.Ways.Grounds.{RefusedOn, atOnce, later, run-ground}
+use Rattle.expansion.specs.Ways.Grounds.{ground-range, run-ground}
 use Rattle.expander.specs.declared.Expansion.{Expansion}
 use Rattle.expander.specs.declared.Expansion.the-variants.{Accepted, Refused}
-use Rattle.expander.specs.Service.{Numbers, numbersOf, groundOf, runNumbers, leftBy, coreAfter, Served}
+use Rattle.expander.specs.Service.{Numbers, numbersOf, groundOf, runNumbers, coreAfter, Served}
 use Rattle.program_laws.specs.Front.{front}
-
--- no ground is 0
-low : (g : ℕ) (r : Run) → RefusedOn g r → 7 ≤ g
-low g r (atOnce l e) = omega arith
-low g r (later l) = omega arith
 
 module _ (items : List ℕ) (fuel work core : ℕ) where
   abbrev it : Run
@@ -31,18 +26,18 @@ module _ (items : List ℕ) (fuel work core : ℕ) where
     where
       go : (o : Outcome) → it .outcome ≡ o → _≡_ {A = ℕ} 0 (groundOf o) → it .outcome ≡ accepted
       go accepted h z = h
-      go (refusedOn g) h z = absurd (omega (arith, low g it (run-ground items fuel work core g h)))
+      go (refusedOn w g) h z = absurd (omega (arith, ground-range w g (run-ground items fuel work core w g h) .0))
       go unfinished h z = absurd (run-finished items fuel work core h)
 
-  is-refused : (g n m : ℕ) → numbersOf (Refused g n m) ≡ runNumbers it → it .outcome ≡ refusedOn g
+  is-refused : (g n m : ℕ) → numbersOf (Refused g n m) ≡ runNumbers it → (w : Stage) × (it .outcome ≡ refusedOn w g)
   unfolding numbersOf runNumbers groundOf
   is-refused g n m e = go (it .outcome) refl (ap (λ (k : Numbers). k .ground) e) (ap (λ (k : Numbers). k .length) e)
     where
-      go : (o : Outcome) → it .outcome ≡ o → g ≡ groundOf o → _≡_ {A = ℕ} 0 (length (coreOf it)) → it .outcome ≡ refusedOn g
+      go : (o : Outcome) → it .outcome ≡ o → g ≡ groundOf o → _≡_ {A = ℕ} 0 (length (coreOf it)) → (w : Stage) × (it .outcome ≡ refusedOn w g)
       go accepted h z l =
           let t = run-term items fuel work core h in
           absurd (omega (arith, encode-two (told (t .term)), ap length (t .words)))
-      go (refusedOn k) h z l = h ∙ ap refusedOn (sym z)
+      go (refusedOn w k) h z l = (w, h ∙ ap (refusedOn w) (sym z))
       go unfinished h z l = absurd (run-finished items fuel work core h)
 
 module _ (items : List ℕ) (fuel : ℕ) (work work′ core core′ : List ℕ) (r : Expansion) (s : Served items fuel work work′ core core′ r) where
@@ -53,7 +48,7 @@ module _ (items : List ℕ) (fuel : ℕ) (work work′ core core′ : List ℕ) 
   pub run-told : (q : Expansion) → r ≡ q → numbersOf q ≡ runNumbers ran
   run-told q h = subst (λ (z : Expansion). numbersOf z ≡ runNumbers ran) h (s .numbers)
 
-  pub ran-refused : (g n m : ℕ) → r ≡ Refused g n m → ran .outcome ≡ refusedOn g
+  pub ran-refused : (g n m : ℕ) → r ≡ Refused g n m → (w : Stage) × (ran .outcome ≡ refusedOn w g)
   ran-refused g n m h = is-refused items fuel (length work) (length core) g n m (run-told (Refused g n m) h)
 
   module _ (n m l : ℕ) (h : r ≡ Accepted n m l) where
@@ -62,8 +57,8 @@ module _ (items : List ℕ) (fuel : ℕ) (work work′ core core′ : List ℕ) 
 
     -- the core table begins with the term
     pub term-front : (to : ℕ) → to ≡ l → (to ≤ length core′) × (take to core′ ≡ coreOf ran)
-    unfolding numbersOf runNumbers coreAfter leftBy filled
+    unfolding numbersOf runNumbers coreAfter stageOf leftAt filled
     term-front to w =
         front (coreOf ran) (replicate (length core - length (coreOf ran)) 0) core′ to
-        (s .core-after ∙ ap (λ (o : Outcome). leftBy o (coreOf ran) core) ran-accepted)
+        (s .core-after ∙ ap (λ (o : Outcome). leftAt (stageOf o) (coreOf ran) core) ran-accepted)
         (w ∙ ap (λ (k : Numbers). k .length) (run-told (Accepted n m l) h))

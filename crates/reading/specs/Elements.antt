@@ -5,19 +5,20 @@ use Prim.Native.Nat.{ℕ, suc, _-_}
 use lib.Dec.{eqb, leb}
 use lib.ListN.{length}
 use Rattle.words.specs.Limits.{elementsMost, namesMost, openListsMost}
+use Rattle.words.specs.Tables.{Stage, begun}
 use Rattle.datum.specs.Datum.{Datum, Data, constantD, nameD, listD, noneD, moreD}
 use Rattle.reading.specs.Meaning.{Meaning, begins, ends, constant, name, refused}
 use Rattle.reading.specs.Numbering.{numberOf, withName}
 
--- an answer, or the ground on which the text is refused
+-- an answer, or the stage and the ground at which a call is refused; the grounds of a text come once reading has begun
 pub data Answer (A : Type 0) : Type 0 where
   got : A → Answer A
-  refusedFor : (ground : ℕ) → Answer A
+  refusedFor : (stage : Stage) (ground : ℕ) → Answer A
 
--- on with an answer, or back with its ground
+-- on with an answer, or back with the refusal
 unfoldable pub then : {A B : Type 0} → Answer A → (A → Answer B) → Answer B
 then (got a) f = f a
-then (refusedFor g) f = refusedFor g
+then (refusedFor stage g) f = refusedFor stage g
 
 -- the elements so far of the inmost open list (of the text, where none is open) and of those around it, each from its last;
 -- the names so far; e; and how many elements the text still lacks
@@ -80,7 +81,7 @@ opened r = record { here = []; around = r .here ∷ r .around; known = r .known;
 
 -- the inmost open list is complete; ground 5 where none is open
 unfoldable pub closed : List (List Datum) → Reading → Answer Reading
-closed [] r = refusedFor 5
+closed [] r = refusedFor begun 5
 closed (l ∷ ls) r =
     got (record { here = listD (onto (r .here) noneD) ∷ l; around = ls; known = r .known; count = r .count; missing = r .missing })
 
@@ -90,7 +91,7 @@ isWithin r = leb (r .count) elementsMost && (leb (length (r .known)) namesMost &
 
 -- from r to q by a token that begins an element: ground 5 where it is one too many, 6 past a limit
 unfoldable pub begin : Reading → Reading → Answer Reading
-begin r q = cond (isComplete r) (refusedFor 5) (cond (isWithin q) (got q) (refusedFor 6))
+begin r q = cond (isComplete r) (refusedFor begun 5) (cond (isWithin q) (got q) (refusedFor begun 6))
 
 -- what one token makes of a reading: its own ground, then 5, then 6
 unfoldable pub takes : Meaning → Reading → Answer Reading
@@ -98,7 +99,7 @@ takes begins r = begin r (opened (counted r))
 takes ends r = closed (r .around) r
 takes (constant a) r = begin r (put (constantD a) (counted r))
 takes (name cs) r = begin r (named cs (counted r))
-takes (refused g) r = refusedFor g
+takes (refused g) r = refusedFor begun g
 
 -- one token after another, up to the first that is refused
 unfoldable pub takesAll : List Meaning → Reading → Answer Reading

@@ -4,4 +4,3 @@ pub mod Offsets
 pub mod Meanings
 pub mod Elements
 pub mod Spelling
-pub mod Grounds

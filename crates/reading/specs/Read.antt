@@ -1,11 +1,11 @@
 -- The meaning of reading: for a text and the lengths of the lent tables the answer, and what both tables hold afterwards.
 -- The interface is recipeOf, readElements, read, and the functions of the call's answer below them; contracts are equations with these.
 use mathlib.Core.Bool.{_||_, cond}
-use mathlib.Core.List.{List, map}
+use mathlib.Core.List.{List, [], map}
 use Prim.Native.Nat.{ℕ}
-use lib.Dec.{ltb, leb}
-use lib.ListN.{length, replicate}
-use Rattle.words.specs.Tables.{filled}
+use lib.Dec.{ltb}
+use lib.ListN.{length}
+use Rattle.words.specs.Tables.{testing, begun, leftAt}
 use Rattle.words.specs.Limits.{itemWordsLeast, nameBytesLeast, textBytesMost}
 use Rattle.datum.specs.Datum.{Data, noneD, datumItems, dataItems}
 use Rattle.datum.specs.NameTable.{slots}
@@ -21,7 +21,7 @@ pub record Recipe : Type 0 where
 
 -- at the end of the text: ground 5 where a list is open or an element missing
 unfoldable pub finished : Reading → Answer Recipe
-finished r = cond (isComplete r) (got (record { elements = onto (r .here) noneD; names = r .known })) (refusedFor 5)
+finished r = cond (isComplete r) (got (record { elements = onto (r .here) noneD; names = r .known })) (refusedFor begun 5)
 
 -- grounds 3 to 6 of a text that has so many elements, over the names that have numbers before it
 unfoldable pub recipeOver : List (List ℕ) → ℕ → List ℕ → Answer Recipe
@@ -38,12 +38,13 @@ unfoldable pub recipeOf : List ℕ → Answer Recipe
 unfolding elementsOf
 recipeOf text = elementsOf 2 text
 
--- the call: how many elements a text has, the text and the lengths of the two lent tables
+-- the call: how many elements a text has, the text and the lengths of the two lent tables; two tests of what is lent, and past them
+-- the text is read
 unfoldable pub readElements : ℕ → List ℕ → ℕ → ℕ → Answer Recipe
 unfolding elementsOf
 readElements wanted text items names =
-    cond (ltb items itemWordsLeast || ltb names nameBytesLeast) (refusedFor 1)
-    (cond (ltb textBytesMost (length text)) (refusedFor 2)
+    cond (ltb items itemWordsLeast || ltb names nameBytesLeast) (refusedFor testing 1)
+    (cond (ltb textBytesMost (length text)) (refusedFor testing 2)
     (elementsOf wanted text))
 
 -- the call for a recipe text
@@ -62,7 +63,7 @@ pub record Numbers : Type 0 where
 unfoldable pub readNumbers : Answer Recipe → Numbers
 unfolding dataItems
 readNumbers (got r) = record { ground = 0; items = dataItems (r .elements); names = length (r .names) }
-readNumbers (refusedFor g) = record { ground = g; items = 0; names = 0 }
+readNumbers (refusedFor stage g) = record { ground = g; items = 0; names = 0 }
 
 -- ---- the tables
 
@@ -76,18 +77,14 @@ unfoldable pub nameBytes : Recipe → List ℕ
 unfolding slots
 nameBytes r = slots (r .names)
 
--- a refused call: grounds 1 and 2 change nothing, the others zero the table
-unfoldable pub cleared : ℕ → List ℕ → List ℕ
-cleared g table = cond (leb g 2) table (replicate (length table) 0)
-
--- the lent item table after the call, from what it held before
+-- the lent item table after the call, from what it held before; a refused call leaves no words in it
 unfoldable pub itemsAfter : Answer Recipe → List ℕ → List ℕ
-unfolding filled cleared itemWords
-itemsAfter (got r) table = filled (itemWords r) table
-itemsAfter (refusedFor g) table = cleared g table
+unfolding leftAt itemWords
+itemsAfter (got r) table = leftAt begun (itemWords r) table
+itemsAfter (refusedFor stage g) table = leftAt stage [] table
 
 -- the lent name table after the call, from what it held before
 unfoldable pub namesAfter : Answer Recipe → List ℕ → List ℕ
-unfolding filled cleared nameBytes
-namesAfter (got r) table = filled (nameBytes r) table
-namesAfter (refusedFor g) table = cleared g table
+unfolding leftAt nameBytes
+namesAfter (got r) table = leftAt begun (nameBytes r) table
+namesAfter (refusedFor stage g) table = leftAt stage [] table

@@ -114,9 +114,9 @@ pub names-hold : drop 448 (namesAfter (recipeOf (bytes "x y")) (replicate 641 9)
 unfolding recipeOf bytes namesAfter slot
 names-hold = refl
 
--- a text that is refused leaves zeros
-pub cleared-hold : itemsAfter (recipeOf (bytes "() A")) (replicate 7 9) ≡ replicate 7 0
-unfolding recipeOf bytes itemsAfter
+-- a text that is refused leaves zeros, and a test leaves the table as it was
+pub cleared-hold : itemsAfter (recipeOf (bytes "() A")) (replicate 7 9) ∷ itemsAfter (read (bytes "() A") 7 65536) (replicate 7 9) ∷ [] ≡ replicate 7 0 ∷ replicate 7 9 ∷ []
+unfolding recipeOf read bytes itemsAfter
 cleared-hold = refl
 
 -- integers as their words

@@ -9,6 +9,7 @@ use lib.ListN.{length}
 use borrow.Author.Tests.{le-leb}
 use Rattle.words.specs.Limits.{itemWordsLeast, nameBytesLeast, textBytesMost}
 use Rattle.words.specs.Lists.{within, allOf, equal}
+use Rattle.words.specs.Tables.{Stage}
 use Rattle.words.specs.TestLaws.{and-left, within-most}
 use Rattle.words.specs.ListLaws.{either, all-append}
 use Rattle.datum.specs.Datum.{Datum, constantD, dataItems}
@@ -18,8 +19,10 @@ use Rattle.reading.specs.Meaning.{Meaning, begins, ends, constant, name, refuse
 use Rattle.reading.specs.Numbering.{baseNames, numberOf, withName}
 use Rattle.reading.specs.Elements.{Answer, got, refusedFor, then, Reading, start, isComplete, counted, put, named, opened, closed, isWithin, begin, takes, takesAll}
 use Rattle.reading.specs.Read.{Recipe, finished, recipeOver, elementsOf, readElements, read, Numbers, readNumbers, nameBytes}
-use Rattle.reading.specs.Laws.Grounds.{ground-high}
 use Rattle.reading_layout.specs.Items.{data-positive}
+
+abbrev pub IsGround : ℕ → Type 0
+IsGround g = (1 ≤ g) × (g ≤ 6)
 
 -- a name or ground of a meaning, the names or the ground of an answer
 abbrev Short : Meaning → Type 0
@@ -27,11 +30,11 @@ Short (name cs) = isShort cs ≡ true
 Short begins = 0 ≤ 0
 Short ends = 0 ≤ 0
 Short (constant a) = 0 ≤ 0
-Short (refused g) = g ≤ 6
+Short (refused g) = IsGround g
 
 abbrev ShortAnswer : {A : Type 0} → (A → List (List ℕ)) → Answer A → Type 0
 ShortAnswer names (got a) = allOf isShort (names a) ≡ true
-ShortAnswer names (refusedFor g) = g ≤ 6
+ShortAnswer names (refusedFor stage g) = IsGround g
 
 abbrev ShortReading : Answer Reading → Type 0
 ShortReading = ShortAnswer (λ r. r .known)
@@ -97,7 +100,7 @@ takes-short (refused g) r s h = s
 then-short : (a : Answer Reading) (f : Reading → Answer Reading) → ShortReading a → ((r : Reading) → allOf isShort (r .known) ≡ true → ShortReading (f r)) → ShortReading (then a f)
 unfolding then
 then-short (got r) f h k = k r h
-then-short (refusedFor g) f h k = h
+then-short (refusedFor stage g) f h k = h
 
 all-short : (ts : List Token) (r : Reading) → allOf isShort (r .known) ≡ true → ShortReading (takesAll (map meaningOf ts) r)
 unfolding takesAll
@@ -108,7 +111,7 @@ all-short (t ∷ ts) r h =
 finished-short : (a : Answer Reading) → ShortReading a → ShortRecipe (then a finished)
 unfolding then finished
 finished-short (got r) h = either (isComplete r) (λ c. rw c h) (λ c. rw c (omega arith))
-finished-short (refusedFor g) h = h
+finished-short (refusedFor stage g) h = h
 
 -- ---- texts
 
@@ -129,26 +132,8 @@ elements-read-short wanted text items names =
 pub names-short : (wanted : ℕ) (text : List ℕ) (items names : ℕ) (r : Recipe) → readElements wanted text items names ≡ got r → allOf isShort (r .names) ≡ true
 names-short wanted text items names r e = subst ShortRecipe e (elements-read-short wanted text items names)
 
-pub elements-ground : (wanted : ℕ) (text : List ℕ) (items names : ℕ) (g : ℕ) → readElements wanted text items names ≡ refusedFor g → g ≤ 6
-elements-ground wanted text items names g e = subst ShortRecipe e (elements-read-short wanted text items names)
-
--- a ground is not 0, by which a call is accepted
-abbrev SomeAnswer : Answer Recipe → Type 0
-SomeAnswer (got r) = 0 ≤ 0
-SomeAnswer (refusedFor g) = 1 ≤ g
-
-elements-some : (wanted : ℕ) (text : List ℕ) (items names : ℕ) → SomeAnswer (readElements wanted text items names)
-unfolding readElements
-elements-some wanted text items names =
-    either (ltb items itemWordsLeast || ltb names nameBytesLeast) (λ e. rw e (omega arith))
-    (λ e. either (ltb textBytesMost (length text)) (λ l. rw (e, l) (omega arith)) (λ l. rw (e, l) (later (elementsOf wanted text) refl)))
-  where
-    later : (a : Answer Recipe) → elementsOf wanted text ≡ a → SomeAnswer a
-    later (got r) e = omega arith
-    later (refusedFor g) e = omega (arith, ground-high wanted text g e)
-
-ground-some : (wanted : ℕ) (text : List ℕ) (items names : ℕ) (g : ℕ) → readElements wanted text items names ≡ refusedFor g → 1 ≤ g
-ground-some wanted text items names g e = subst SomeAnswer e (elements-some wanted text items names)
+elements-ground : (wanted : ℕ) (text : List ℕ) (items names : ℕ) (stage : Stage) (g : ℕ) → readElements wanted text items names ≡ refusedFor stage g → IsGround g
+elements-ground wanted text items names stage g e = subst ShortRecipe e (elements-read-short wanted text items names)
 
 -- the recipe behind an answer, and the ground, by the answer's numbers
 module _ (wanted : ℕ) (text : List ℕ) (items names : ℕ) where
@@ -161,15 +146,15 @@ module _ (wanted : ℕ) (text : List ℕ) (items names : ℕ) where
     where
       go : (a : Answer Recipe) → answer ≡ a → record { ground = 0; items = i; names = n } ≡ readNumbers a → (x : Recipe) × (answer ≡ got x) × (i ≡ dataItems (x .elements)) × (n ≡ length (x .names))
       go (got x) e k = (x, e, ap (λ (m : Numbers). m .items) k, ap (λ (m : Numbers). m .names) k)
-      go (refusedFor g) e k = absurd (omega (arith, ground-some wanted text items names g e, ap (λ (m : Numbers). m .ground) k))
+      go (refusedFor stage g) e k = absurd (omega (arith, elements-ground wanted text items names stage g e .0, ap (λ (m : Numbers). m .ground) k))
 
-  pub numbers-refused : (g : ℕ) → record { ground = g; items = 0; names = 0 } ≡ readNumbers answer → answer ≡ refusedFor g
+  pub numbers-refused : (g : ℕ) → record { ground = g; items = 0; names = 0 } ≡ readNumbers answer → (stage : Stage) × (answer ≡ refusedFor stage g)
   unfolding readNumbers
   numbers-refused g k = go answer refl k
     where
-      go : (a : Answer Recipe) → answer ≡ a → record { ground = g; items = 0; names = 0 } ≡ readNumbers a → answer ≡ refusedFor g
+      go : (a : Answer Recipe) → answer ≡ a → record { ground = g; items = 0; names = 0 } ≡ readNumbers a → (stage : Stage) × (answer ≡ refusedFor stage g)
       go (got x) e k = absurd (omega (arith, data-positive (x .elements), ap (λ (m : Numbers). m .items) k))
-      go (refusedFor j) e k = e ∙ ap refusedFor (sym (ap (λ (m : Numbers). m .ground) k))
+      go (refusedFor stage j) e k = (stage, e ∙ ap (refusedFor stage) (sym (ap (λ (m : Numbers). m .ground) k)))
 
 read-short : (text : List ℕ) (items names : ℕ) → ShortRecipe (read text items names)
 unfolding read
@@ -179,5 +164,5 @@ pub read-slots : (text : List ℕ) (items names : ℕ) (r : Recipe) → read tex
 unfolding nameBytes
 read-slots text items names r e = length-slots (r .names) (subst ShortRecipe e (read-short text items names))
 
-pub read-ground : (text : List ℕ) (items names : ℕ) (g : ℕ) → read text items names ≡ refusedFor g → g ≤ 6
-read-ground text items names g e = subst ShortRecipe e (read-short text items names)
+pub read-ground : (text : List ℕ) (items names : ℕ) (stage : Stage) (g : ℕ) → read text items names ≡ refusedFor stage g → IsGround g
+read-ground text items names stage g e = subst ShortRecipe e (read-short text items names)

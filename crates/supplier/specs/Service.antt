@@ -7,7 +7,7 @@ use Prim.Native.Nat.{ℕ}
 use lib.ListN.{length}
 use Rattle.reading.specs.Elements.{Answer}
 use Rattle.reading.specs.Read.{Recipe, readElements}
-use Rattle.comparison.specs.Compare.{Verdict, yes, no, refusedOn, compare, itemsLeft, namesLeft}
+use Rattle.comparison.specs.Compare.{Verdict, yes, no, refusedOn, Reply, compare, itemsLeft, namesLeft}
 use Rattle.supplier.specs.declared.Comparison.{Comparison}
 use Rattle.supplier.specs.declared.Comparison.the-variants.{Yes, No, Refused}
 
@@ -21,9 +21,9 @@ isRefusal yes = false
 isRefusal no = false
 isRefusal (refusedOn g) = true
 
--- what a call answers and leaves in the two tables lent for the text, by the definition's verdict and reading
-pub record Gives (v : Verdict) (text : Answer Recipe) (words words′ bytes bytes′ : List ℕ) (r : Comparison) : Type 0 where
-  pub verdict : verdictOf r ≡ v
+-- what a call answers and leaves in the two tables lent for the text, by the definition's reply and reading
+pub record Gives (v : Reply) (text : Answer Recipe) (words words′ bytes bytes′ : List ℕ) (r : Comparison) : Type 0 where
+  pub verdict : verdictOf r ≡ v .verdict
   pub items : words′ ≡ itemsLeft v text words
   pub names : bytes′ ≡ namesLeft v text bytes
 

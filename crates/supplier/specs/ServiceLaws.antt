@@ -5,21 +5,19 @@ use mathlib.Core.List.{List, [], map}
 use mathlib.Core.Option.{Option, none, some}
 use Prim.Native.Nat.{ℕ, _*_, _-_, _≤_, _<_}
 use native.Mathlib.Omega.{arith}
-use lib.Dec.{leb}
 use lib.ListN.{length, take, replicate, length-append}
 use lib.Seq.{take-at, length-take-le}
-use borrow.Author.Tests.{le-leb, lt-leb, leb-true, leb-false}
 use Rattle.words.specs.Limits.{namesMost}
-use Rattle.words.specs.Lists.{within, allOf, anyOf, equal}
-use Rattle.words.specs.ListLaws.{either, never}
-use Rattle.words.specs.Tables.{filled}
-use Rattle.words.specs.TestLaws.{or-left, or-right, or-none, within-is, outside-below}
+use Rattle.words.specs.Lists.{allOf}
+use Rattle.words.specs.ListLaws.{never}
+use Rattle.words.specs.Tables.{Stage, filled, leftAt}
+use Rattle.words.specs.TableLaws.{zeros-left}
 use Rattle.datum.specs.Datum.{dataItems}
 use Rattle.datum.specs.NameTable.{nameAt, hasName}
 use Rattle.reading.specs.Elements.{Answer, got, refusedFor}
-use Rattle.reading.specs.Read.{Recipe, readElements, itemWords, nameBytes, cleared, itemsAfter, namesAfter}
+use Rattle.reading.specs.Read.{Recipe, readElements, itemWords, nameBytes, itemsAfter, namesAfter}
 use Rattle.reading_layout.specs.Items.{data-length}
-use Rattle.reading_layout.specs.Answers.{elements-ground, numbers-got, numbers-refused}
+use Rattle.reading_layout.specs.Answers.{numbers-got, numbers-refused}
 use Rattle.reader.specs.declared.Reading.{Reading}
 use Rattle.reader.specs.declared.Reading.the-variants as RV
 use Rattle.reader.specs.Served as R
@@ -29,11 +27,8 @@ use Rattle.core_term.specs.Words.{encode}
 use Rattle.core_term.specs.Check.{termOf, isSome, isTerm}
 use Rattle.core_term.specs.CheckLaws.{isTerm-some}
 use Rattle.expansion.specs.Run.{operationNumbers, areOperations}
-use Rattle.comparison.specs.Expression.{Expression}
-use Rattle.comparison.specs.Grammar.{theOne, after, expressionOf}
-use Rattle.comparison.specs.Closed.{closed}
-use Rattle.comparison.specs.Agrees.{agrees}
-use Rattle.comparison.specs.Compare.{Verdict, yes, no, refusedOn, decided, held, require, spelledOperations, ourTerm, withTerm, comparison, compare, zeroes, leftBy, readWords, itemsLeft, namesLeft}
+use Rattle.comparison.specs.Grammar.{after, expressionOf}
+use Rattle.comparison.specs.Compare.{Verdict, yes, no, refusedOn, decided, held, Reply, unread, replied, require, spelledOperations, ourTerm, withTerm, comparison, compare, kept, leftBy, readWords, itemsLeft, namesLeft}
 use Rattle.supplier.specs.declared.Comparison.{Comparison}
 use Rattle.supplier.specs.declared.Comparison.the-variants.{Refused}
 use Rattle.supplier.specs.Names.{Slot}
@@ -54,41 +49,23 @@ module _ (wanted : ℕ) (text words words′ bytes bytes′ : List ℕ) where
   unfolding R.numbersOf
   answer-got i n s = numbers-got wanted text (length words) (length bytes) i n (s .numbers)
 
-  answer-refused : (g : ℕ) → R.ServedElements wanted text words words′ bytes bytes′ (RV.Refused g) → answerOf ≡ refusedFor g
+  answer-refused : (g : ℕ) → R.ServedElements wanted text words words′ bytes bytes′ (RV.Refused g) → (stage : Stage) × (answerOf ≡ refusedFor stage g)
   unfolding R.numbersOf
   answer-refused g s = numbers-refused wanted text (length words) (length bytes) g (s .numbers)
 
--- ---- grounds 21 and 22 zero the tables
+-- ---- yes and no leave the reading, a refusal nothing of it
 
-abbrev groundOf : Verdict → ℕ
-groundOf yes = 0
-groundOf no = 0
-groundOf (refusedOn g) = g
+kept-read : (v : Verdict) → isRefusal v ≡ false → (ws : List ℕ) → kept v ws ≡ ws
+unfolding isRefusal kept
+kept-read yes h ws = refl
+kept-read no h ws = refl
+kept-read (refusedOn g) h ws = never refl h
 
-zeroes-late : (v : Verdict) (g : ℕ) → v ≡ refusedOn g → 21 ≤ groundOf v → zeroes g ≡ true
-unfolding zeroes
-zeroes-late v g e h = let l : 21 ≤ g = omega (arith, h, ap groundOf e) in or-right (within 3 6 g) (leb 21 g) (le-leb 21 g l)
-
-decided-zeroes : (theirs ours : ℕ → List ℕ) (operations : List (List ℕ)) (t : Plain) (o : Option Expression) (g : ℕ) → decided theirs ours operations t o ≡ refusedOn g → zeroes g ≡ true
-unfolding decided isRefusal
-decided-zeroes theirs ours operations t none g e = zeroes-late (refusedOn 21) g e (omega arith)
-decided-zeroes theirs ours operations t (some x) g e =
-    either (closed (λ n. anyOf (equal (theirs n)) operations) [] x)
-    (λ c. either (agrees theirs ours operations [] x t) (λ a. never refl (sym (ap isRefusal (rw (c, a) at e)))) (λ a. never refl (sym (ap isRefusal (rw (c, a) at e)))))
-    (λ c. zeroes-late (refusedOn 22) g (rw c at e) (omega arith))
-
--- yes and no leave the reading, these grounds nothing
-left-read : (v : Verdict) → isRefusal v ≡ false → (ws table : List ℕ) → leftBy v ws table ≡ filled ws table
-unfolding isRefusal leftBy
-left-read yes h ws table = refl
-left-read no h ws table = refl
-left-read (refusedOn g) h ws table = never refl h
-
-left-zero : (v : Verdict) → isRefusal v ≡ true → ((g : ℕ) → v ≡ refusedOn g → zeroes g ≡ true) → (ws table : List ℕ) → leftBy v ws table ≡ replicate (length table) 0
-unfolding isRefusal leftBy
-left-zero yes h z ws table = never h refl
-left-zero no h z ws table = never h refl
-left-zero (refusedOn g) h z ws table = rw (z g refl)
+kept-none : (v : Verdict) → isRefusal v ≡ true → (ws : List ℕ) → kept v ws ≡ []
+unfolding isRefusal kept
+kept-none yes h ws = never h refl
+kept-none no h ws = never h refl
+kept-none (refusedOn g) h ws = refl
 
 -- ---- a text that was read
 
@@ -152,54 +129,40 @@ module _ (text words words′ bytes bytes′ : List ℕ) (q : Reading) (p : R.Se
           ∙ sym (ap (held (nameAt ours) spelled t) is-read
           ∙ ap (λ o. decided (nameAt (nameBytes recipe)) (nameAt ours) spelled t (after o expressionOf)) (the-element text (length words) (length bytes) recipe is-read))
 
-      held-zeroes : (k : ℕ) → verdictOf r ≡ refusedOn k → zeroes k ≡ true
-      unfolding held
-      held-zeroes k e =
-          decided-zeroes (nameAt (nameBytes recipe)) (nameAt ours) spelled t (after (theOne (recipe .elements)) expressionOf) k
-          (sym (ap (held (nameAt ours) spelled t) is-read) ∙ sym element-verdict ∙ e)
-
       -- by what is left in both tables
-      gives : (words″ bytes″ : List ℕ) → words″ ≡ leftBy (verdictOf r) (itemWords recipe) words → bytes″ ≡ leftBy (verdictOf r) (nameBytes recipe) bytes
-          → Gives (held (nameAt ours) spelled t answer) answer words words″ bytes bytes″ r
-      unfolding itemsLeft namesLeft readWords
+      gives : (words″ bytes″ : List ℕ) → words″ ≡ filled (kept (verdictOf r) (itemWords recipe)) words → bytes″ ≡ filled (kept (verdictOf r) (nameBytes recipe)) bytes
+          → Gives (replied answer (held (nameAt ours) spelled t answer)) answer words words″ bytes bytes″ r
+      unfolding replied itemsLeft namesLeft leftBy readWords leftAt
       gives words″ bytes″ x y =
-          subst (λ (v : Verdict). Gives v answer words words″ bytes bytes″ r) element-verdict
-          (record {
-            verdict = refl;
-            items = x ∙ sym (ap (λ (a : Answer Recipe). leftBy (verdictOf r) (readWords itemWords a) words) is-read);
-            names = y ∙ sym (ap (λ (a : Answer Recipe). leftBy (verdictOf r) (readWords nameBytes a) bytes) is-read);
-          })
+          subst (λ (v : Verdict). Gives (replied answer v) answer words words″ bytes bytes″ r) element-verdict
+          (subst (λ (a : Answer Recipe). Gives (replied a (verdictOf r)) a words words″ bytes bytes″ r) (sym is-read)
+          (record { verdict = refl; items = x; names = y }))
 
     pub text-kept : isRefusal (verdictOf r) ≡ false → TextRight our ours operations text words words′ bytes bytes′ r
     text-kept k t g w =
-        gives t g w words′ bytes′ (items-read ∙ sym (left-read (verdictOf r) k (itemWords recipe) words)) (names-read ∙ sym (left-read (verdictOf r) k (nameBytes recipe) bytes))
+        let same = kept-read (verdictOf r) k in
+        gives t g w words′ bytes′ (items-read ∙ ap (λ (l : List ℕ). filled l words) (sym (same (itemWords recipe))))
+        (names-read ∙ ap (λ (l : List ℕ). filled l bytes) (sym (same (nameBytes recipe))))
 
     pub text-zeroed : isRefusal (verdictOf r) ≡ true → (words″ bytes″ : List ℕ) → words″ ≡ replicate (length words) 0 → bytes″ ≡ replicate (length bytes) 0
         → TextRight our ours operations text words words″ bytes bytes″ r
+    unfolding leftAt
     text-zeroed k words″ bytes″ x y t g w =
-        let z = left-zero (verdictOf r) k (held-zeroes t g w) in
-        gives t g w words″ bytes″ (x ∙ sym (z (itemWords recipe) words)) (y ∙ sym (z (nameBytes recipe) bytes))
+        let none = kept-none (verdictOf r) k in
+        gives t g w words″ bytes″ (x ∙ zeros-left words ∙ ap (λ (l : List ℕ). filled l words) (sym (none (itemWords recipe))))
+        (y ∙ zeros-left bytes ∙ ap (λ (l : List ℕ). filled l bytes) (sym (none (nameBytes recipe))))
 
--- ---- a text that was not
-
--- what reading leaves of a table is what the call leaves
-cleared-left : (g : ℕ) (ws table : List ℕ) → g ≤ 6 → cleared g table ≡ leftBy (refusedOn g) ws table
-unfolding cleared leftBy zeroes
-cleared-left g ws table h =
-    either (leb g 2)
-    (λ e. let z : zeroes g ≡ false = or-none (within 3 6 g) (leb 21 g) (outside-below 3 6 g (omega (arith, leb-true g 2 e))) (lt-leb 21 g (omega (arith, h))) in rw (e, z))
-    (λ e. let z : zeroes g ≡ true = or-left (within 3 6 g) (leb 21 g) (within-is 3 6 g (omega (arith, leb-false g 2 e)) h) in rw (e, z))
+-- ---- a text that was not: what reading leaves of a table is what the call leaves
 
 pub text-unread : (text words words′ bytes bytes′ : List ℕ) (q : Reading) → R.ServedElements 1 text words words′ bytes bytes′ q → (g : ℕ) → q ≡ RV.Refused g
     → (our ours operations : List ℕ) → TextRight our ours operations text words words′ bytes bytes′ (Refused g)
-unfolding verdictOf held itemsLeft namesLeft itemsAfter namesAfter
+unfolding verdictOf held replied itemsLeft namesLeft leftBy readWords itemsAfter namesAfter
 text-unread text words words′ bytes bytes′ q s g k our ours operations t good w =
-    let e = answer-refused 1 text words words′ bytes bytes′ g (subst (λ (z : Reading). R.ServedElements 1 text words words′ bytes bytes′ z) k s) in
-    let h = elements-ground 1 text (length words) (length bytes) g e in
+    let e = answer-refused 1 text words words′ bytes bytes′ g (subst (λ (z : Reading). R.ServedElements 1 text words words′ bytes bytes′ z) k s) .1 in
     record {
       verdict = rw e;
-      items = s .items ∙ rw e (cleared-left g _ words h);
-      names = s .names ∙ rw e (cleared-left g _ bytes h);
+      items = s .items ∙ rw e;
+      names = s .names ∙ rw e;
     }
 
 -- ---- the tests before it
@@ -208,24 +171,27 @@ module _ (items names words text : List ℕ) (textItems textNames : List ℕ) wh
   abbrev numbers : List ℕ
   numbers = operationNumbers (treeOf items)
 
-  abbrev verdict : Verdict
-  verdict = compare items names words text (length textItems) (length textNames)
+  abbrev text-read : Answer Recipe
+  text-read = readElements 1 text (length textItems) (length textNames)
+
+  abbrev reply : Reply
+  reply = compare items names words text (length textItems) (length textNames)
 
   -- nothing is read from the text: both tables are as they were
-  untouched : (g : ℕ) → verdict ≡ refusedOn g → zeroes g ≡ false → Compared items names words text textItems textItems textNames textNames (Refused g)
-  unfolding verdictOf itemsLeft namesLeft leftBy
-  untouched g e z =
-      subst (λ (v : Verdict). Gives v (readElements 1 text (length textItems) (length textNames)) textItems textItems textNames textNames (Refused g)) (sym e)
-      (record { verdict = refl; items = rw z; names = rw z })
+  untouched : (g : ℕ) → reply ≡ unread g → Compared items names words text textItems textItems textNames textNames (Refused g)
+  unfolding verdictOf unread itemsLeft namesLeft leftBy
+  untouched g e =
+      subst (λ (v : Reply). Gives v text-read textItems textItems textNames textNames (Refused g)) (sym e)
+      (record { verdict = refl; items = refl; names = refl })
 
   pub compared-7 : isLayout items ≡ false → Compared items names words text textItems textItems textNames textNames (Refused 7)
-  unfolding compare comparison require zeroes within
-  compared-7 h = untouched 7 (rw h) refl
+  unfolding compare comparison require
+  compared-7 h = untouched 7 (rw h)
 
   module _ (a : isLayout items ≡ true) where
     pub compared-10 : areOperations (treeOf items) ≡ false → Compared items names words text textItems textItems textNames textNames (Refused 10)
-    unfolding compare comparison require zeroes within
-    compared-10 h = untouched 10 (rw (a, h)) refl
+    unfolding compare comparison require
+    compared-10 h = untouched 10 (rw (a, h))
 
     -- the operations' numbers are the first of a list
     module _ (b : areOperations (treeOf items) ≡ true) (list : List ℕ) (count : ℕ) (l : count ≤ length list) (o : take count list ≡ numbers) where
@@ -233,10 +199,10 @@ module _ (items names words text : List ℕ) (textItems textNames : List ℕ) wh
       counted = sym (length-take-le count list l) ∙ ap length o
 
       pub compared-term : isTerm count (hasName names) words ≡ false → Compared items names words text textItems textItems textNames textNames (Refused 19)
-      unfolding compare comparison require zeroes within ourTerm isTerm isSome withTerm
-      compared-term h = untouched 19 (rw (a, b) (go (termOf (length numbers) (hasName names) words) (rw counted at h))) refl
+      unfolding compare comparison require ourTerm isTerm isSome withTerm
+      compared-term h = untouched 19 (rw (a, b) (go (termOf (length numbers) (hasName names) words) (rw counted at h)))
         where
-          go : (x : Option Plain) → isSome x ≡ false → withTerm x (λ t. require 19 (allOf (hasName names) numbers) (held (nameAt names) (spelledOperations items names) t (readElements 1 text (length textItems) (length textNames)))) ≡ refusedOn 19
+          go : (x : Option Plain) → isSome x ≡ false → withTerm x (λ t. require 19 (allOf (hasName names) numbers) (replied text-read (held (nameAt names) (spelledOperations items names) t text-read))) ≡ unread 19
           go none k = refl
           go (some t) k = never refl k
 
@@ -245,8 +211,8 @@ module _ (items names words text : List ℕ) (textItems textNames : List ℕ) wh
         term = isTerm-some (length numbers) (hasName names) words (subst (λ (k : ℕ). isTerm k (hasName names) words ≡ true) counted h)
 
         pub compared-slots : allOf (hasName names) (take count list) ≡ false → Compared items names words text textItems textItems textNames textNames (Refused 19)
-        unfolding compare comparison require zeroes within ourTerm withTerm
-        compared-slots k = untouched 19 (rw (a, b, term .1, sym (ap (allOf (hasName names)) o) ∙ k)) refl
+        unfolding compare comparison require ourTerm withTerm
+        compared-slots k = untouched 19 (rw (a, b, term .1, sym (ap (allOf (hasName names)) o) ∙ k))
 
         pub compared-text : allOf (hasName names) (take count list) ≡ true → (textItems′ textNames′ : List ℕ) (r : Comparison)
             → TextRight words names (take count list) text textItems textItems′ textNames textNames′ r → Compared items names words text textItems textItems′ textNames textNames′ r

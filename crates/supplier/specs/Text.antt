@@ -10,7 +10,7 @@ use Rattle.reading.specs.Read.{readElements}
 use Rattle.core_term.specs.Term.{Plain}
 use Rattle.core_term.specs.Words.{encode}
 use Rattle.comparison.specs.Grammar.{expressionOf}
-use Rattle.comparison.specs.Compare.{decided, held}
+use Rattle.comparison.specs.Compare.{decided, held, replied}
 use Rattle.supplier.specs.declared.Comparison.{Comparison}
 use Rattle.supplier.specs.Names.{Slot}
 use Rattle.supplier.specs.Items.{DatumAt}
@@ -31,5 +31,5 @@ ElementRight items theirs words ours operations r =
 abbrev pub TextRight : (words ours operations text items items′ names names′ : List ℕ) → Comparison → Type 0
 TextRight words ours operations text items items′ names names′ r =
     (t : Plain) → isGoodTerm ours (length operations) t ≡ true → words ≡ encode t
-    → Gives (held (nameAt ours) (map (nameAt ours) operations) t (readElements 1 text (length items) (length names))) (readElements 1 text (length items) (length names))
+    → let answer = readElements 1 text (length items) (length names) in Gives (replied answer (held (nameAt ours) (map (nameAt ours) operations) t answer)) answer
     items items′ names names′ r

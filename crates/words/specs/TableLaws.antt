@@ -1,12 +1,17 @@
 -- Laws of zeroing a table, of words or of bytes.
 use mathlib.Core.Path.{_≡_, refl, ap, _∙_}
-use mathlib.Core.List.{List, _++_, append-nil}
+use mathlib.Core.List.{List, [], _++_, append-nil}
 use Prim.Native.Nat.{ℕ, _+_, _-_, _≤_, _<_}
 use native.Mathlib.Omega.{arith}
 use lib.ListN.{length, drop, set, replicate, length-append, length-drop, length-replicate}
 use lib.Seq.{drop-length}
 use borrow.Author.Fill.{fill-more}
-use Rattle.words.specs.Tables.{Zeroed}
+use Rattle.words.specs.Tables.{filled, begun, leftAt, Zeroed}
+
+-- a refusal that comes once a call has begun leaves zeros
+pub zeros-left : (table : List ℕ) → replicate (length table) 0 ≡ leftAt begun [] table
+unfolding leftAt filled
+zeros-left table = let e : length table - 0 ≡ length table = omega arith in rw e
 
 zeroed-sized : (n : ℕ) (lent : List ℕ) → n ≤ length lent → length (replicate n 0 ++ drop n lent) ≡ length lent
 zeroed-sized n lent h = simp (length-append, length-replicate, length-drop) (omega arith)

@@ -1,10 +1,11 @@
 -- Writing, as document 01 has it: the ground, the length and the output of every call.
 use mathlib.Core.Bool.{cond}
-use mathlib.Core.List.{List, _++_}
+use mathlib.Core.List.{List, [], _++_}
 use mathlib.Core.Option.{Option, none, some}
 use Prim.Native.Nat.{ℕ}
 use lib.Dec.{leb}
 use lib.ListN.{length, drop}
+use Rattle.words.specs.Tables.{Stage, testing, leftAt}
 use Rattle.datum.specs.NameTable.{nameAt, hasName}
 use Rattle.core_term.specs.Term.{Plain}
 use Rattle.core_term.specs.Check.{termOf}
@@ -35,16 +36,26 @@ textFor names (some t) = some (text (nameAt names) t)
 unfoldable pub textOf : List ℕ → ℕ → List ℕ → Option (List ℕ)
 textOf ws operations names = textFor names (termOf operations (hasName names) ws)
 
-module _ (out : List ℕ) where
-  unfoldable pub ground : Option (List ℕ) → ℕ
-  ground none = 19
-  ground (some x) = cond (leb (length x) (length out)) 0 20
+-- a text that is laid, or the stage and the ground at which a call is refused
+pub data Outcome : Type 0 where
+  laid : (text : List ℕ) → Outcome
+  refusedOn : (stage : Stage) (ground : ℕ) → Outcome
 
-  unfoldable pub size : Option (List ℕ) → ℕ
-  size none = 0
-  size (some x) = cond (leb (length x) (length out)) (length x) 0
+-- 19, then 20: both are tests, made before a byte is laid
+unfoldable pub outcome : (out : List ℕ) → Option (List ℕ) → Outcome
+outcome out none = refusedOn testing 19
+outcome out (some x) = cond (leb (length x) (length out)) (laid x) (refusedOn testing 20)
 
-  -- the text, then the output as it was lent
-  unfoldable pub after : Option (List ℕ) → List ℕ
-  after none = out
-  after (some x) = cond (leb (length x) (length out)) (x ++ drop (length x) out) out
+unfoldable pub ground : Outcome → ℕ
+ground (laid x) = 0
+ground (refusedOn stage g) = g
+
+unfoldable pub size : Outcome → ℕ
+size (laid x) = length x
+size (refusedOn stage g) = 0
+
+-- the text, then the output as it was lent
+unfoldable pub after : Outcome → List ℕ → List ℕ
+unfolding leftAt
+after (laid x) out = x ++ drop (length x) out
+after (refusedOn stage g) out = leftAt stage [] out

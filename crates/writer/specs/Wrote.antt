@@ -8,13 +8,13 @@ use lib.Dec.{leb}
 use lib.ListN.{length}
 use Rattle.core_term.specs.TextRoom.{textRate, textWordsMost}
 use Rattle.writer.specs.declared.Writing.{Writing}
-use Rattle.writer.specs.Writing.{groundOf, lengthOf, ground, size, after}
+use Rattle.writer.specs.Writing.{groundOf, lengthOf, outcome, ground, size, after}
 
 -- what a call answers and leaves, where its words have this text or, without one, are no term
 pub record Wrote (x : Option (List ℕ)) (out out′ : List ℕ) (r : Writing) : Type 0 where
-  pub number : groundOf r ≡ ground out x
-  pub value : lengthOf r ≡ size out x
-  pub left : out′ ≡ after out x
+  pub number : groundOf r ≡ ground (outcome out x)
+  pub value : lengthOf r ≡ size (outcome out x)
+  pub left : out′ ≡ after (outcome out x) out
 
 -- ---- whether a text fits, which is known before a byte is laid
 

@@ -9,6 +9,7 @@ use lib.Dec.{leb}
 use lib.ListN.{length, drop}
 use borrow.Author.Tests.{leb-true, leb-false, le-leb, lt-leb}
 use Rattle.words.specs.Lists.{allOf}
+use Rattle.words.specs.Tables.{testing}
 use Rattle.words.specs.TestLaws.{and-parts}
 use Rattle.datum.specs.NameTable.{nameAt, hasName}
 use Rattle.core_term.specs.Node.{Node, isNode, variableN, operationN, constantN, nameN, listN, ifN, lambdaN, applicationN}
@@ -38,60 +39,64 @@ use Rattle.writer.specs.Called.{namesFrom, calledIn, IsTerm, said}
 use Rattle.writer.specs.Opened.{spelled, named}
 use Rattle.writer.specs.Walk.{spelling, Fits, Begins, Walked}
 use Rattle.writer.specs.WalkLaws.{walked-by, stopped-by}
-use Rattle.writer.specs.Writing.{groundOf, lengthOf, textFor, textOf, ground, size, after}
+use Rattle.writer.specs.Writing.{groundOf, lengthOf, textFor, textOf, Outcome, laid, refusedOn, outcome, ground, size, after}
 use Rattle.writer.specs.Wrote.{hasRoom, Measured, Wrote}
 
 -- ---- no term
 
 pub no-term : (ws : List ℕ) (operations : ℕ) (names out : List ℕ) → termOf operations (hasName names) ws ≡ none → Wrote (textOf ws operations names) out out NoTerm
-unfolding textOf textFor groundOf lengthOf ground size after
+unfolding textOf textFor groundOf lengthOf outcome ground size after
 no-term ws operations names out h = rw h (record { number = refl; value = refl; left = refl })
 
 -- ---- a text
 
 module _ (x out : List ℕ) where
   pub wrote-all : length x ≤ length out → (n : ℕ) (out′ : List ℕ) → n ≡ length x → out′ ≡ x ++ drop (length x) out → Wrote (some x) out out′ (Written n)
-  unfolding groundOf lengthOf ground size after
+  unfolding groundOf lengthOf outcome ground size after
   wrote-all h n out′ e l = let k = le-leb (length x) (length out) h in record { number = rw k; value = rw k e; left = rw k l }
 
   pub wrote-none : length out < length x → (out′ : List ℕ) → out′ ≡ out → Wrote (some x) out out′ NoRoom
-  unfolding groundOf lengthOf ground size after
+  unfolding groundOf lengthOf outcome ground size after
   wrote-none h out′ l = let k = lt-leb (length x) (length out) h in record { number = rw k; value = rw k; left = rw k l }
 
 -- ---- what an answer says
 
 pub written-fits : (o : Option (List ℕ)) (out out′ : List ℕ) (n : ℕ) → Wrote o out out′ (Written n) → n ≤ length out
-unfolding lengthOf size
+unfolding lengthOf outcome size
 written-fits none out out′ n w = omega (arith, w .value)
 written-fits (some x) out out′ n w = go (leb (length x) (length out)) refl (w .value)
   where
-    go : (b : Bool) → leb (length x) (length out) ≡ b → n ≡ cond b (length x) 0 → n ≤ length out
+    go : (b : Bool) → leb (length x) (length out) ≡ b → n ≡ size (cond b (laid x) (refusedOn testing 20)) → n ≤ length out
     go true k v = omega (arith, leb-true (length x) (length out) k)
     go false k v = omega arith
 
 module _ (x out out′ : List ℕ) where
+  -- by whether it fits
+  abbrev by : Bool → Outcome
+  by fits = cond fits (laid x) (refusedOn testing 20)
+
   pub written-is : (n : ℕ) → Wrote (some x) out out′ (Written n) → (n ≡ length x) × (length x ≤ length out) × (out′ ≡ x ++ drop (length x) out)
-  unfolding groundOf lengthOf ground size after
+  unfolding groundOf lengthOf outcome ground size after
   written-is n w = go (leb (length x) (length out)) refl (w .number) (w .value) (w .left)
     where
-      go : (b : Bool) → leb (length x) (length out) ≡ b → _≡_ {A = ℕ} 0 (cond b 0 20) → n ≡ cond b (length x) 0 → out′ ≡ cond b (x ++ drop (length x) out) out
+      go : (b : Bool) → leb (length x) (length out) ≡ b → _≡_ {A = ℕ} 0 (ground (by b)) → n ≡ size (by b) → out′ ≡ after (by b) out
           → (n ≡ length x) × (length x ≤ length out) × (out′ ≡ x ++ drop (length x) out)
       go true k g v l = (v, leb-true (length x) (length out) k, l)
       go false k g v l = absurd (omega arith)
 
   pub no-room-is : Wrote (some x) out out′ NoRoom → (length out < length x) × (out′ ≡ out)
-  unfolding groundOf ground after
+  unfolding groundOf outcome ground after
   no-room-is w = go (leb (length x) (length out)) refl (w .number) (w .left)
     where
-      go : (b : Bool) → leb (length x) (length out) ≡ b → _≡_ {A = ℕ} 20 (cond b 0 20) → out′ ≡ cond b (x ++ drop (length x) out) out → (length out < length x) × (out′ ≡ out)
+      go : (b : Bool) → leb (length x) (length out) ≡ b → _≡_ {A = ℕ} 20 (ground (by b)) → out′ ≡ after (by b) out → (length out < length x) × (out′ ≡ out)
       go true k g l = absurd (omega arith)
       go false k g l = (leb-false (length x) (length out) k, l)
 
   pub not-no-term : Wrote (some x) out out′ NoTerm → ⊥
-  unfolding groundOf ground
+  unfolding groundOf outcome ground
   not-no-term w = go (leb (length x) (length out)) (w .number)
     where
-      go : (b : Bool) → _≡_ {A = ℕ} 19 (cond b 0 20) → ⊥
+      go : (b : Bool) → _≡_ {A = ℕ} 19 (ground (by b)) → ⊥
       go true g = omega arith
       go false g = omega arith
 

@@ -25,20 +25,25 @@ fn number(s: &str) -> Option<(u32, &str)> {
 /// A recipe, its fuel, and ground, steps, sum and words.
 pub type Row = (String, u32, (u32, u32, u32, Vec<u32>));
 
-/// `gives "recipe" steps sum (word ∷ .. ∷ [])` and `refuses "recipe" ground steps sum`, under `withFuel n (` at times.
+/// `gives "recipe" steps sum (word ∷ .. ∷ [])`, `refuses "recipe" ground steps sum` and `turnsBack "recipe" ground`, under
+/// `withFuel n (` at times.
 fn rows_of(specs: &str) -> Vec<Row> {
     let mut rows = Vec::new();
-    for (at, word) in specs.match_indices("gives \"").chain(specs.match_indices("refuses \"")) {
+    for (at, word) in ["gives \"", "refuses \"", "turnsBack \""].into_iter().flat_map(|word| specs.match_indices(word)) {
         let fuel = specs[..at].trim_end().strip_suffix('(').and_then(|s| s.trim_end().rsplit_once("withFuel "));
         let fuel = fuel.and_then(|(_, n)| n.trim().parse().ok()).unwrap_or(512);
         let (recipe, rest) = quoted(&specs[at + word.len() - 1..]).unwrap();
         let (a, rest) = number(rest).unwrap();
-        let (b, rest) = number(rest).unwrap();
-        let answer = if word.starts_with("gives") {
-            let (words, _) = rest.split_once('(').unwrap().1.split_once(')').unwrap();
-            (0, a, b, words.split('∷').filter_map(|w| w.trim().parse().ok()).collect())
+        let answer = if word.starts_with("turnsBack") {
+            (a, 0, 0, Vec::new())
         } else {
-            (a, b, number(rest).unwrap().0, Vec::new())
+            let (b, rest) = number(rest).unwrap();
+            if word.starts_with("gives") {
+                let (words, _) = rest.split_once('(').unwrap().1.split_once(')').unwrap();
+                (0, a, b, words.split('∷').filter_map(|w| w.trim().parse().ok()).collect())
+            } else {
+                (a, b, number(rest).unwrap().0, Vec::new())
+            }
         };
         rows.push((recipe, fuel, answer));
     }

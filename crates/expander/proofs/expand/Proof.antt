@@ -31,14 +31,21 @@ returns c =
 
 returns-2 : tie.Need-returns-2
 returns-2 c =
-    let a = c .before .before .before .before .before .before .before .before .args in
-    served-fuel (a .items .now) (a .fuel) (a .work .now) (a .core .now) (layout (c .before .before .before)) (sym (c .before .before .fuel-fits .ensures) ∙ not-true _ (c .before .if2 .taken)) _ (c .refused2 .ensures)
+    let at-if2 = c .before in
+    let at-fuel-fits = at-if2 .before in
+    let past-layout = at-fuel-fits .before in
+    let a = past-layout .before .before .before .before .before .args in
+    served-fuel (a .items .now) (a .fuel) (a .work .now) (a .core .now) (layout past-layout) (sym (at-fuel-fits .fuel-fits .ensures) ∙ not-true _ (at-if2 .if2 .taken)) _ (c .refused2 .ensures)
 
 returns-3 : tie.Need-returns-3
 unfolding itemCount
 returns-3 c =
-    let a = c .before .before .before .before .before .before .before .before .before .before .args in
-    served-tables (a .items .now) (a .fuel) (a .work .now) (a .core .now) (layout (c .before .before .before .before .before)) (fuelled (c .before .before .before)) (sym (c .before .before .tables-fit .ensures) ∙ not-true _ (c .before .if3 .taken)) _ (c .refused3 .ensures)
+    let at-if3 = c .before in
+    let at-tables-fit = at-if3 .before in
+    let past-fuel = at-tables-fit .before in
+    let past-layout = past-fuel .before .before in
+    let a = past-layout .before .before .before .before .before .args in
+    served-tables (a .items .now) (a .fuel) (a .work .now) (a .core .now) (layout past-layout) (fuelled past-fuel) (sym (at-tables-fit .tables-fit .ensures) ∙ not-true _ (at-if3 .if3 .taken)) _ (c .refused3 .ensures)
 
 operations-requires : tie.Need-operations-requires
 operations-requires c κs =
@@ -46,26 +53,40 @@ operations-requires c κs =
 
 returns-4 : tie.Need-returns-4
 returns-4 c =
-    let a = c .before .before .before .before .before .before .before .before .before .before .before .before .before .before .args in
-    served-operations (a .items .now) (a .fuel) (a .work .now) (a .core .now) (layout (c .before .before .before .before .before .before .before .before .before)) (fuelled (c .before .before .before .before .before .before .before)) (roomy (c .before .before .before .before .before)) (sym (c .before .before .before .operations2 .ensures .0) ∙ not-true _ (c .before .if4 .taken)) _ (c .refused4 .ensures)
+    let at-if4 = c .before in
+    let at-operations2 = at-if4 .before .before in
+    let past-tables = at-operations2 .before .before in
+    let past-fuel = past-tables .before .before in
+    let past-layout = past-fuel .before .before in
+    let a = past-layout .before .before .before .before .before .args in
+    served-operations (a .items .now) (a .fuel) (a .work .now) (a .core .now) (layout past-layout) (fuelled past-fuel) (roomy past-tables) (sym (at-operations2 .operations2 .ensures .0) ∙ not-true _ (at-if4 .if4 .taken)) _ (c .refused4 .ensures)
 
 expand-recipe-requires : tie.Need-expand-recipe-requires
 expand-recipe-requires c κs =
-    let a = c .before .before .before .before .before .before .before .before .before .before .before .before .before .before .before .before .args in
-    let good = not-false _ (c .before .before .before .if4 .left) in
-    lends (a .items .now) (a .fuel) (a .work .now) (a .core .now) (layout (c .before .before .before .before .before .before .before .before .before .before .before)) (fuelled (c .before .before .before .before .before .before .before .before .before)) (roomy (c .before .before .before .before .before .before .before)) _ (sym (c .before .before .before .before .before .operations2 .ensures .0) ∙ good) (c .before .before .before .before .before .operations2 .ensures .1 good) (c .before .before .before .before .before .operations2 .kept .1 .0)
+    let at-if4 = c .before .before .before in
+    let at-operations2 = at-if4 .before .before in
+    let past-tables = at-operations2 .before .before in
+    let past-fuel = past-tables .before .before in
+    let past-layout = past-fuel .before .before in
+    let a = past-layout .before .before .before .before .before .args in
+    let good = not-false _ (at-if4 .if4 .left) in
+    lends (a .items .now) (a .fuel) (a .work .now) (a .core .now) (layout past-layout) (fuelled past-fuel) (roomy past-tables) _ (sym (at-operations2 .operations2 .ensures .0) ∙ good) (at-operations2 .operations2 .ensures .1 good) (at-operations2 .operations2 .kept .1 .0)
 
 finish-requires : tie.Need-finish-requires
 finish-requires c κs =
-    let a = c .before .before .before .before .before .before .before .before .before .before .before .before .before .before .before .before .before .before .before .before .before .before .before .before .before .before .args in
-    let lent = expand-recipe-requires (c .before .before .before .before .before .before .before .before .before .before) (c .before .before .before .before .before .before .before .before .before .expand-recipe .lifetimes) in
-    expanded-fits (a .items .now) (a .fuel) (a .work .now) (a .core .now) _ _ (lent .begun) (c .before .before .before .before .before .before .before .before .before .expand-recipe .ensures) (c .before .before .before .before .before .before .before .before .before .expand-recipe .kept .1 .1 .0)
+    let at-expand-recipe = c .before .before .before .before .before .before .before .before .before in
+    let a = at-expand-recipe .before .before .before .before .before .before .before .before .before .before .before .before .before .before .before .before .before .args in
+    let lent = expand-recipe-requires (at-expand-recipe .before) (at-expand-recipe .expand-recipe .lifetimes) in
+    expanded-fits (a .items .now) (a .fuel) (a .work .now) (a .core .now) _ _ (lent .begun) (at-expand-recipe .expand-recipe .ensures) (at-expand-recipe .expand-recipe .kept .1 .1 .0)
 
 returns-5 : tie.Need-returns-5
 returns-5 c =
-    let a = c .before .before .before .before .before .before .before .before .before .before .before .before .before .before .before .before .before .before .before .before .before .before .before .before .before .before .before .before .before .args in
-    let lent = expand-recipe-requires (c .before .before .before .before .before .before .before .before .before .before .before .before .before) (c .before .before .before .before .before .before .before .before .before .before .before .before .expand-recipe .lifetimes) in
-    served-expanded (a .items .now) (a .fuel) (a .work .now) (a .core .now) _ _ (lent .begun) (c .before .before .before .before .before .before .before .before .before .before .before .before .expand-recipe .ensures) (c .before .before .before .before .before .before .before .before .before .before .before .before .expand-recipe .kept .1 .1 .0) _ _ _ (c .before .before .finish .ensures) (c .before .before .before .before .before .before .zero-words .ensures ∙ ap (λ (n : ℕ). replicate n 0) (c .before .before .before .before .before .before .before .before .before .before .before .before .expand-recipe .kept .1 .0))
+    let at-finish = c .before .before in
+    let at-zero-words = at-finish .before .before .before .before in
+    let at-expand-recipe = at-zero-words .before .before .before .before .before .before in
+    let a = at-expand-recipe .before .before .before .before .before .before .before .before .before .before .before .before .before .before .before .before .before .args in
+    let lent = expand-recipe-requires (at-expand-recipe .before) (at-expand-recipe .expand-recipe .lifetimes) in
+    served-expanded (a .items .now) (a .fuel) (a .work .now) (a .core .now) _ _ (lent .begun) (at-expand-recipe .expand-recipe .ensures) (at-expand-recipe .expand-recipe .kept .1 .1 .0) _ _ _ (at-finish .finish .ensures) (at-zero-words .zero-words .ensures ∙ ap (λ (n : ℕ). replicate n 0) (at-expand-recipe .expand-recipe .kept .1 .0))
 
 pub expand-spec : {M : Type 1} → statement M
 expand-spec =

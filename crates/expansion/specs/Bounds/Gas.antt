@@ -8,21 +8,21 @@ use Rattle.recipe.specs.Tree.{Tree, size, element}
 use Rattle.recipe.specs.TreeLaws.{element-size}
 use Rattle.recipe.specs.Table.{treeOf}
 use Rattle.expansion.specs.Computation.{start}
-use Rattle.expansion.specs.Run.{unfinished, ended, operationNumbers, expandRecipe, run}
-use Rattle.expansion.specs.RunLaws.{accepted≢unfinished, refusedOn≢unfinished, unbegun, run-holds}
+use Rattle.expansion.specs.Run.{unfinished, ended, unbegun, operationNumbers, expandRecipe, run}
+use Rattle.expansion.specs.RunLaws.{accepted≢unfinished, refusedOn≢unfinished, run-holds}
 use Rattle.expansion.specs.Bounds.Budget.{SpendsTerm, expand-spends}
 
 -- a recipe's expansion is not out of gas, and spends no more than it may
-pub expandRecipe-spends : (fuel : ℕ) (t : Tree) → SpendsTerm fuel (size (element 1 t)) start (expandRecipe fuel t)
+pub expandRecipe-spends : (limit fuel : ℕ) (t : Tree) → SpendsTerm fuel (size (element 1 t)) start (expandRecipe limit fuel t)
 unfolding expandRecipe start
-expandRecipe-spends fuel t =
-    expand-spends macrosMost macrosMost (operationNumbers t) fuel (size t + fuel) (element 1 t) start (record { paid = omega arith; bounded = omega arith }) (omega (arith, element-size 1 t))
+expandRecipe-spends limit fuel t =
+    expand-spends limit macrosMost (operationNumbers t) fuel (size t + fuel) (element 1 t) start (record { paid = omega arith; bounded = omega arith }) (omega (arith, element-size 1 t))
 
 pub run-finished : (items : List ℕ) (fuel work core : ℕ) → run items fuel work core .outcome ≡ unfinished → ⊥
 unfolding unbegun ended
 run-finished items fuel work core =
-    run-holds (λ r. r .outcome ≡ unfinished → ⊥) items fuel work core (λ b. expandRecipe-spends fuel (treeOf items))
-    (λ g _. refusedOn≢unfinished g)
+    run-holds (λ r. r .outcome ≡ unfinished → ⊥) items fuel work core (λ b. expandRecipe-spends _ fuel (treeOf items))
+    (λ g _. refusedOn≢unfinished _ g)
     (λ b t s l q. accepted≢unfinished)
-    (λ b g s l r. refusedOn≢unfinished g)
+    (λ b g s l r. refusedOn≢unfinished _ g)
     (λ b l x. absurd x)

@@ -8,6 +8,7 @@ use lib.Dec.{leb}
 use borrow.Author.Tests.{leb-true, leb-false, le-leb}
 use Rattle.words.specs.Limits.{macrosMost}
 use Rattle.words.specs.TestLaws.{and-both}
+use Rattle.words.specs.Tables.{begun}
 use Rattle.recipe.specs.Name.{Name}
 use Rattle.recipe.specs.Tree.{Tree, size, element}
 use Rattle.recipe.specs.Table.{isLayout, treeOf}
@@ -26,7 +27,7 @@ use Rattle.expansion.specs.MoreFuel.Alike.{expand-tries}
 -- the run on a fuel, and the run on more: the same, or 18 and a sum past the fuel
 data Runs (fuel : ℕ) : Run → Run → Type 0 where
   same : {r : Run} → Runs fuel r r
-  differ : {r r′ : Run} → r .outcome ≡ refusedOn 18 → fuel < r′ .sum → Runs fuel r r′
+  differ : {r r′ : Run} → r .outcome ≡ refusedOn begun 18 → fuel < r′ .sum → Runs fuel r r′
 
 require-runs : (fuel g : ℕ) (b : Bool) {r r′ : Run} → Runs fuel r r′ → Runs fuel (require g b r) (require g b r′)
 unfolding require
@@ -42,11 +43,11 @@ ended-runs fuel more k s (short (isRefused h)) p q = differ refl h
 ended-runs fuel more k s (short (isStarved h)) p (isStarved q) = absurd q
 ended-runs fuel more k s starves (isStarved p) q = absurd p
 
-recipe-runs : (fuel more : ℕ) → fuel ≤ more → (t : Tree) → Runs fuel (ended (expandRecipe fuel t)) (ended (expandRecipe more t))
+recipe-runs : (limit fuel more : ℕ) → fuel ≤ more → (t : Tree) → Runs fuel (ended (expandRecipe limit fuel t)) (ended (expandRecipe limit more t))
 unfolding expandRecipe
-recipe-runs fuel more h t =
-    let r = expand-tries macrosMost macrosMost (operationNumbers t) fuel more (size t + fuel) (size t + more) h (omega arith) (element 1 t) start in
-    ended-runs fuel more _ start (r .beside) (expandRecipe-spends fuel t) (expandRecipe-spends more t)
+recipe-runs limit fuel more h t =
+    let r = expand-tries limit macrosMost (operationNumbers t) fuel more (size t + fuel) (size t + more) h (omega arith) (element 1 t) start in
+    ended-runs fuel more _ start (r .beside) (expandRecipe-spends limit fuel t) (expandRecipe-spends limit more t)
 
 -- tried again with more
 more-least : (fuel more : ℕ) {r r′ : Run} → Runs fuel r r′ → fuel ≤ more → r .sum ≤ fuel → Enough r → Least r more r′
@@ -61,7 +62,7 @@ less-least fuel (differ x y) b = record { from-sum = λ l. absurd (omega arith);
 
 module _ (items : List ℕ) where
   -- a try passes grounds 8 and 9, and nothing else asks for its lengths
-  tried-is : (t : Try items) → tried items t ≡ require 7 (isLayout items) (require 10 (areOperations (treeOf items)) (ended (expandRecipe (t .fuel) (treeOf items))))
+  tried-is : (t : Try items) → tried items t ≡ require 7 (isLayout items) (require 10 (areOperations (treeOf items)) (ended (expandRecipe macrosMost (t .fuel) (treeOf items))))
   unfolding tried run
   tried-is t =
       ap (require 7 (isLayout items))
@@ -70,7 +71,7 @@ module _ (items : List ℕ) where
 
   tried-runs : (once again : Try items) → once .fuel ≤ again .fuel → Runs (once .fuel) (tried items once) (tried items again)
   tried-runs once again h =
-      rw (tried-is once, tried-is again) (require-runs _ 7 _ (require-runs _ 10 _ (recipe-runs (once .fuel) (again .fuel) h (treeOf items))))
+      rw (tried-is once, tried-is again) (require-runs _ 7 _ (require-runs _ 10 _ (recipe-runs _ (once .fuel) (again .fuel) h (treeOf items))))
 
   tried-sum : (t : Try items) → tried items t .sum ≤ t .fuel
   unfolding tried

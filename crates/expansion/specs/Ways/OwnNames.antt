@@ -7,8 +7,8 @@ use native.Mathlib.Omega.{arith}
 use Rattle.recipe.specs.Name.{Binding, variable, macro, Name}
 use Rattle.recipe.specs.Table.{treeOf}
 use Rattle.expansion.specs.Computation.{start, looked, quoted, reached, binds, Events}
-use Rattle.expansion.specs.Run.{run, ended, expandRecipe}
-use Rattle.expansion.specs.RunLaws.{unbegun, run-holds}
+use Rattle.expansion.specs.Run.{run, ended, unbegun, expandRecipe}
+use Rattle.expansion.specs.RunLaws.{run-holds}
 use Rattle.expansion.specs.Outcomes.{both-hold}
 use Rattle.expansion.specs.Bounds.Gas.{expandRecipe-spends}
 use Rattle.expansion.specs.Ways.Bindings.{variableNumber, macroNumber, boundBy, upFrom}
@@ -118,7 +118,7 @@ pub run-inOrder : (items : List ℕ) (fuel work core : ℕ) → InOrder (run ite
 unfolding unbegun ended expandRecipe start boundBy upFrom
 run-inOrder items fuel work core =
     run-holds (λ r. InOrder (r .events)) items fuel work core
-    (λ b. both-hold (expandRecipe-spends fuel (treeOf items)) (expand-keeps _ _ _ fuel _ _ start))
+    (λ b. both-hold (expandRecipe-spends _ fuel (treeOf items)) (expand-keeps _ _ _ fuel _ _ start))
     (λ g _. record { v = 0; m = 0; variables = refl; macros = refl })
     (λ b t s l q. record { v = q .1 .v; m = q .1 .m; variables = q .1 .variables-bound; macros = q .1 .macros-bound })
     (λ b g s l q. record { v = q .1 .way .v; m = q .1 .way .m; variables = q .1 .way .variables-bound; macros = q .1 .way .macros-bound })

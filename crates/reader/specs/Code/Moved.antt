@@ -14,7 +14,7 @@ use Rattle.reader.specs.declared.element.Move.{Move}
 use Rattle.reader.specs.declared.element.Move.the-variants.{On, Done, Refused}
 use Rattle.reading.specs.Elements.{Answer, got, refusedFor, then, Reading, takesAll}
 use Rattle.reading.specs.Read.{Recipe, finished, itemWords, nameBytes}
-use Rattle.words.specs.Tables.{filled}
+use Rattle.words.specs.Tables.{filled, begun}
 use Rattle.lexer.specs.Told.{meaningsFrom}
 use Rattle.reader.specs.Code.Index.{Indexed}
 use Rattle.reader.specs.Code.Placed.{Holds}
@@ -54,7 +54,7 @@ pub record Whole (outcome : Answer Recipe) (i n : ℕ) (words bytes : List ℕ) 
 abbrev pub Moved : List ℕ → ℕ → Reading → List ℕ → List ℕ → List ℕ → Move → Type 0
 Moved text at r words bytes index (On p c) = Onward text at r p c words bytes index
 Moved text at r words bytes index (Done i n) = Whole (outcomeFrom text at r) i n words bytes
-Moved text at r words bytes index (Refused g) = outcomeFrom text at r ≡ refusedFor g
+Moved text at r words bytes index (Refused g) = outcomeFrom text at r ≡ refusedFor begun g
 
 -- what one call promises, for every reading that the code may hold
 abbrev pub Advanced : List ℕ → ℕ → Place → List ℕ → List ℕ → List ℕ → List ℕ → List ℕ → List ℕ → Move → Type 0

@@ -21,7 +21,7 @@ use Rattle.reading.specs.Numbering.{datumWords, dataWords}
 use Rattle.reading.specs.Elements.{Answer, got, refusedFor, then, Reading, onto, noneOpen, isComplete, counted, put, opened, closed, takes, takesAll}
 use Rattle.reading.specs.Laws.Elements.{got-only, never-got, begin-got}
 use Rattle.reading.specs.Read.{finished, itemWords, nameBytes}
-use Rattle.words.specs.Tables.{filled}
+use Rattle.words.specs.Tables.{filled, begun}
 use Rattle.lexer.specs.Told.{meaningsFrom, Took}
 use Rattle.reader.specs.Code.Index.{Indexed}
 use Rattle.reader.specs.Code.Placed.{Holds, Stepped, IndexedAfter, withToken, NumberKind, TokenPut, itemsOf, wordsOf, itemsAround, wordsAround, nextItem, placed}
@@ -44,8 +44,8 @@ module _ (text : List ℕ) (at : ℕ) (r : Reading) (words bytes index : List �
     same = rw (t .means, e);
   }
   onward (got q) e (SV.Refused g) h = absurd h
-  onward (refusedFor g) e (SV.Went p) h = absurd h
-  onward (refusedFor g) e (SV.Refused k) h = rw (t .means, e, h)
+  onward (refusedFor stage g) e (SV.Went p) h = absurd h
+  onward (refusedFor stage g) e (SV.Refused k) h = rw (t .means, e, h .0, h .1)
 
   pub stepped-moved : (s : S.Step) (v : Move) → v ≡ movedBy s c → Stepped (takes m r) words bytes s → Moved text at r words bytes index v
   stepped-moved s v e h = subst (Moved text at r words bytes index) (sym e) (onward (takes m r) refl s h)
@@ -89,7 +89,7 @@ no-places places e w = rw e
 
 -- ---- a token that is refused
 
-pub refused-moved : (text : List ℕ) (at : ℕ) (r : Reading) (g next : ℕ) → Took text at (refused g) next → outcomeFrom text at r ≡ refusedFor g
+pub refused-moved : (text : List ℕ) (at : ℕ) (r : Reading) (g next : ℕ) → Took text at (refused g) next → outcomeFrom text at r ≡ refusedFor begun g
 unfolding outcomeFrom takesAll then takes
 refused-moved text at r g next t = rw (t .means)
 
@@ -100,7 +100,7 @@ module _ (text : List ℕ) (at : ℕ) (r : Reading) (p : Place) (words bytes ind
   unfolding outcomeFrom takesAll then
   at-end = rw e
 
-  end-refused : isComplete r ≡ false → outcomeFrom text at r ≡ refusedFor 5
+  end-refused : isComplete r ≡ false → outcomeFrom text at r ≡ refusedFor begun 5
   unfolding finished
   end-refused c = at-end ∙ rw c
 

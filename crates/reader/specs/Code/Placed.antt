@@ -17,7 +17,7 @@ use Rattle.reading.specs.Numbering.{datumWords}
 use Rattle.reading.specs.Meaning.{Meaning, begins, ends, name, number}
 use Rattle.reading.specs.Elements.{Answer, got, refusedFor, Reading, noneOpen, begin, takes}
 use Rattle.reading.specs.Laws.Elements.{Within}
-use Rattle.words.specs.Tables.{filled}
+use Rattle.words.specs.Tables.{filled, begun}
 use Rattle.reader.specs.Code.Index.{Indexed}
 use Rattle.reader.specs.Code.Stored.{namesIn}
 
@@ -83,8 +83,8 @@ pub record Holds (r : Reading) (p : Place) (words bytes : List ℕ) : Type 0 whe
 abbrev pub Stepped : Answer Reading → List ℕ → List ℕ → Step → Type 0
 Stepped (got q) items names (Went p) = Holds q p items names
 Stepped (got q) items names (Refused g) = ⊥
-Stepped (refusedFor g) items names (Went p) = ⊥
-Stepped (refusedFor g) items names (Refused h) = h ≡ g
+Stepped (refusedFor stage g) items names (Went p) = ⊥
+Stepped (refusedFor stage g) items names (Refused h) = (stage ≡ begun) × (h ≡ g)
 
 -- ---- numbers of a place, for safety
 

@@ -4,7 +4,7 @@ use mathlib.Core.List.{List, []}
 use Prim.Native.Nat.{ℕ, _-_, _≤_, _<_}
 use native.Mathlib.Omega.{arith}
 use lib.ListN.{length, replicate}
-use borrow.Author.Tests.{lt-ltb, le-ltb, lt-leb}
+use borrow.Author.Tests.{lt-ltb, le-ltb}
 use Rattle.words.specs.Limits.{itemWordsLeast, nameBytesLeast, textBytesMost}
 use Rattle.words.specs.Lists.{allOf}
 use Rattle.datum.specs.NameTable.{slots}
@@ -24,13 +24,13 @@ use Rattle.reading.specs.Read.{
   elementsOf,
   readElements,
   readNumbers,
-  cleared,
   itemWords,
   nameBytes,
   itemsAfter,
   namesAfter,
 }
-use Rattle.words.specs.Tables.{filled}
+use Rattle.words.specs.Tables.{filled, testing, begun, leftAt}
+use Rattle.words.specs.TableLaws.{zeros-left}
 use Rattle.reader.specs.Code.Index.{indexSize}
 use Rattle.reader.specs.Code.IndexLaws.{indexed-none}
 use Rattle.reader.specs.Code.Stored.{NameTable}
@@ -38,7 +38,6 @@ use Rattle.lexer.specs.Told.{meaningsFrom}
 use Rattle.reader.specs.Code.Placed.{Holds, itemsOf, itemsAround, wordsOf, wordsAround, openPair, nextItem, placed}
 use Rattle.reader.specs.Code.PlacedLaws.{filled-same}
 use Rattle.reader.specs.Code.Moved.{outcomeFrom, Whole, Moved, Advanced}
-use Rattle.reading.specs.Laws.Grounds.{ground-high}
 use Rattle.reader.specs.Served.{numbersOf, ServedElements}
 use Rattle.reader.specs.Code.Reached.{Reached}
 
@@ -92,7 +91,7 @@ module _ (wanted : ℕ) (text words bytes index : List ℕ) where
     pub reached-done : (i n : ℕ) → m ≡ MV.Done i n → Whole (elementsOf wanted text) i n words′ bytes′
     reached-done i n e = subst (λ o. Whole o i n words′ bytes′) (r .same) (here (MV.Done i n) e)
 
-    pub reached-refused : (g : ℕ) → m ≡ MV.Refused g → elementsOf wanted text ≡ refusedFor g
+    pub reached-refused : (g : ℕ) → m ≡ MV.Refused g → elementsOf wanted text ≡ refusedFor begun g
     reached-refused g e = sym (r .same) ∙ here (MV.Refused g) e
 
 -- ---- the call
@@ -104,18 +103,18 @@ module _ (wanted : ℕ) (text words bytes : List ℕ) where
 
   -- grounds 1 and 2 change nothing
   pub served-few-items : length words < itemWordsLeast → ServedElements wanted text words words bytes bytes (Refused 1)
-  unfolding readElements numbersOf readNumbers itemsAfter namesAfter cleared
-  served-few-items h = served-by (refusedFor 1) words bytes (Refused 1) (rw (lt-ltb _ _ h)) refl refl refl
+  unfolding readElements numbersOf readNumbers itemsAfter namesAfter leftAt
+  served-few-items h = served-by (refusedFor testing 1) words bytes (Refused 1) (rw (lt-ltb _ _ h)) refl refl refl
 
   module _ (i : itemWordsLeast ≤ length words) where
     pub served-few-names : length bytes < nameBytesLeast → ServedElements wanted text words words bytes bytes (Refused 1)
-    unfolding readElements numbersOf readNumbers itemsAfter namesAfter cleared
-    served-few-names h = served-by (refusedFor 1) words bytes (Refused 1) (rw (le-ltb _ _ i, lt-ltb _ _ h)) refl refl refl
+    unfolding readElements numbersOf readNumbers itemsAfter namesAfter leftAt
+    served-few-names h = served-by (refusedFor testing 1) words bytes (Refused 1) (rw (le-ltb _ _ i, lt-ltb _ _ h)) refl refl refl
 
     module _ (n : nameBytesLeast ≤ length bytes) where
       pub served-long : textBytesMost < length text → ServedElements wanted text words words bytes bytes (Refused 2)
-      unfolding readElements numbersOf readNumbers itemsAfter namesAfter cleared
-      served-long h = served-by (refusedFor 2) words bytes (Refused 2) (rw (le-ltb _ _ i, le-ltb _ _ n, lt-ltb _ _ h)) refl refl refl
+      unfolding readElements numbersOf readNumbers itemsAfter namesAfter leftAt
+      served-long h = served-by (refusedFor testing 2) words bytes (Refused 2) (rw (le-ltb _ _ i, le-ltb _ _ n, lt-ltb _ _ h)) refl refl refl
 
       module _ (t : length text ≤ textBytesMost) (words′ bytes′ : List ℕ) where
         read-is : readElements wanted text (length words) (length bytes) ≡ elementsOf wanted text
@@ -130,13 +129,12 @@ module _ (wanted : ℕ) (text words bytes : List ℕ) where
             served-by (got (w .recipe)) words′ bytes′ (Read k m) (read-is ∙ w .accepted) (rw (w .itemCount, w .nameCount))
             (w .items ∙ filled-same (itemWords (w .recipe)) words′ words e) (w .names ∙ filled-same (nameBytes (w .recipe)) bytes′ bytes f)
 
-        -- a text that is refused: both tables wholly zero
-        pub served-refused : (g : ℕ) → elementsOf wanted text ≡ refusedFor g → words′ ≡ replicate (length words) 0 → bytes′ ≡ replicate (length bytes) 0
+        -- a text that is refused: both tables zeroed
+        pub served-refused : (g : ℕ) → elementsOf wanted text ≡ refusedFor begun g → words′ ≡ replicate (length words) 0 → bytes′ ≡ replicate (length bytes) 0
             → ServedElements wanted text words words′ bytes bytes′ (Refused g)
-        unfolding numbersOf readNumbers itemsAfter namesAfter cleared
+        unfolding numbersOf readNumbers itemsAfter namesAfter leftAt
         served-refused g e z y =
-            let h : 2 < g = ground-high wanted text g e in
-            served-by (refusedFor g) words′ bytes′ (Refused g) (read-is ∙ e) refl (z ∙ rw (lt-leb g 2 h)) (y ∙ rw (lt-leb g 2 h))
+            served-by (refusedFor begun g) words′ bytes′ (Refused g) (read-is ∙ e) refl (z ∙ zeros-left words) (y ∙ zeros-left bytes)
 
 -- ---- a table that was zeroed
 

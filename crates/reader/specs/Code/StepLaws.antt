@@ -33,7 +33,7 @@ use Rattle.reading.specs.Elements.{
   takes,
 }
 use Rattle.reading.specs.Laws.Elements.{Within, within-is, begin-is}
-use Rattle.words.specs.Tables.{filled}
+use Rattle.words.specs.Tables.{filled, begun}
 use Rattle.reader.specs.Code.Placed.{
   put3,
   itemsOf,
@@ -78,7 +78,7 @@ complete-is r p words bytes h = rw (none-open (r .around), h .depth, h .missing)
 abbrev by : Bool → Bool → ℕ
 by c d = cond c 5 (cond d 0 6)
 
-tested : (q : Reading) (a b c d : Bool) → a ≡ c → b ≡ d → (by c d ≡ 0 → ⊥) → cond a (refusedFor 5) (cond b (got q) (refusedFor 6)) ≡ refusedFor (by c d)
+tested : (q : Reading) (a b c d : Bool) → a ≡ c → b ≡ d → (by c d ≡ 0 → ⊥) → cond a (refusedFor begun 5) (cond b (got q) (refusedFor begun 6)) ≡ refusedFor begun (by c d)
 tested q a b true d e f h = rw e
 tested q a b false true e f h = absurd (h refl)
 tested q a b false false e f h = rw (e, f)
@@ -97,7 +97,7 @@ module _ (r : Reading) (p : Place) (words bytes : List ℕ) (h : Holds r p words
   unfolding isWithin
   same-within = rw (k, d, c, h .count)
 
-  pub ground-back : (groundAt p known depth ≡ 0 → ⊥) → begin r q ≡ refusedFor (groundAt p known depth)
+  pub ground-back : (groundAt p known depth ≡ 0 → ⊥) → begin r q ≡ refusedFor begun (groundAt p known depth)
   unfolding begin groundAt
   ground-back n = tested q _ _ _ _ same-complete same-within n
 
@@ -274,8 +274,8 @@ module _ (r : Reading) (p : Place) (words bytes : List ℕ) (h : Holds r p words
 
 -- ---- the code's answers
 
-stepped-back : (a : Answer Reading) (words bytes : List ℕ) (g h : ℕ) → a ≡ refusedFor g → h ≡ g → Stepped a words bytes (Refused h)
-stepped-back a words bytes g h e f = subst (λ x. Stepped x words bytes (Refused h)) (sym e) f
+stepped-back : (a : Answer Reading) (words bytes : List ℕ) (g h : ℕ) → a ≡ refusedFor begun g → h ≡ g → Stepped a words bytes (Refused h)
+stepped-back a words bytes g h e f = subst (λ x. Stepped x words bytes (Refused h)) (sym e) (refl, f)
 
 stepped-got : (a : Answer Reading) (words bytes : List ℕ) (q : Reading) (p : Place) → a ≡ got q → Holds q p words bytes
     → Stepped a words bytes (Went p)
@@ -368,7 +368,7 @@ closeStepped r p words bytes h (l ∷ ls) e n = close-holds r p words bytes h l 
 
 closeRefused : (r : Reading) (words bytes : List ℕ) (a : List (List Datum)) → length a ≡ 0 → Stepped (closed a r) words bytes (Refused 5)
 unfolding closed
-closeRefused r words bytes [] e = refl
+closeRefused r words bytes [] e = (refl, refl)
 closeRefused r words bytes (l ∷ ls) e = absurd (omega arith)
 
 module _ (r : Reading) (p : Place) (words bytes : List ℕ) (h : Holds r p words bytes) where

@@ -9,6 +9,7 @@ use lib.ListN.{length, length-append}
 use lib.Seq.{append-snoc}
 use borrow.Author.Tests.{leb-true, le-leb}
 use Rattle.words.specs.Limits.{elementsMost, namesMost, openListsMost}
+use Rattle.words.specs.Tables.{Stage}
 use Rattle.words.specs.TestLaws.{and-left, and-right}
 use Rattle.words.specs.ListLaws.{either, never}
 use Rattle.datum.specs.Constant.{Constant}
@@ -60,13 +61,13 @@ module _ {A : Type 0} where
   pub got-only : {a b : A} → got a ≡ got b → a ≡ b
   got-only h = cc
 
-  pub never-got : {P : Type 0} {g : ℕ} {a : A} → _≡_ {A = Answer A} (refusedFor g) (got a) → P
+  pub never-got : {P : Type 0} {stage : Stage} {g : ℕ} {a : A} → _≡_ {A = Answer A} (refusedFor stage g) (got a) → P
   never-got h = let e : _≡_ {A = ℕ} 0 1 = cc in absurd (omega arith)
 
 pub then-got : {A B : Type 0} (a : Answer A) (f : A → Answer B) (b : B) → then a f ≡ got b → (x : A) × (a ≡ got x) × (f x ≡ got b)
 unfolding then
 then-got (got x) f b h = (x, refl, h)
-then-got (refusedFor g) f b h = never-got h
+then-got (refusedFor stage g) f b h = never-got h
 
 -- ---- limits
 

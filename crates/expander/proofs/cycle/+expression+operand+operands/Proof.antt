@@ -99,107 +99,139 @@ expression-loop-holds t c =
 
 expression-turn-requires : (t : ℕ) → expression-lts.Need-turn-requires (expression-claims t) (expression-at t) expression.Post expression-Inv-loop expression-μ-loop
 expression-turn-requires t c κs =
-    let lends = c .before .before .before .before .before .before .before .before .pre .1 .0 in
+    let at-loop = c .before .before .before in
+    let pre = at-loop .before .before .before .before .before .pre in
+    let lends = pre .1 .0 in
     let o = lends .operations in
     let lent = lends .lent in
-    let pre = c .before .before .before .before .before .before .before .before .pre in
-    let loop = c .before .before .before .loop in
+    let loop = at-loop .loop in
     (loop .inv o lent .placed, going-ready o _ _ _ _ _ _ _ _ (loop .inv o lent) (pre .1 .2))
 
 expression-loop-less : (t : ℕ) → expression-lts.Need-loop-less (expression-claims t) (expression-at t) expression.Post expression-Inv-loop expression-μ-loop
 expression-loop-less t c =
-    let lends = c .before .before .before .before .before .before .before .before .before .before .before .before .before .before .before .before .before .before .pre .1 .0 in
+    let at-n = c .before in
+    let at-turn = at-n .before .before .before .before .before .before .before .before in
+    let at-loop = at-turn .before .before .before .before in
+    let entry = at-loop .before .before .before .before .before in
+    let lends = entry .pre .1 .0 in
     let o = lends .operations in
     let lent = lends .lent in
-    let entry = c .before .before .before .before .before .before .before .before .before .before .before .before .before .before .before .before .before .before in
-    let loop = c .before .before .before .before .before .before .before .before .before .before .before .before .before .loop in
-    let turn = c .before .before .before .before .before .before .before .before .before .turn in
+    let loop = at-loop .loop in
+    let turn = at-turn .turn in
     let after = tables (turn .last .0) (turn .last .1 .0) (turn .last .1 .1 .0) in
-    again-falls o (entry .args .fuel) _ _ _ _ _ _ _ (loop .inv o lent) after (turn .result) (turn .ensures o lent) _ _ _ (c .before .n .given .1)
+    again-falls o (entry .args .fuel) _ _ _ _ _ _ _ (loop .inv o lent) after (turn .result) (turn .ensures o lent) _ _ _ (at-n .n .given .1)
 
 expression-loop-again : (t : ℕ) → expression-lts.Need-loop-again (expression-claims t) (expression-at t) expression.Post expression-Inv-loop expression-μ-loop
 expression-loop-again t c =
-    let entry = c .before .before .before .before .before .before .before .before .before .before .before .before .before .before .before .before .before .before in
-    let loop = c .before .before .before .before .before .before .before .before .before .before .before .before .before .loop in
-    let turn = c .before .before .before .before .before .before .before .before .before .turn in
+    let at-n = c .before in
+    let at-turn = at-n .before .before .before .before .before .before .before .before in
+    let at-loop = at-turn .before .before .before .before in
+    let entry = at-loop .before .before .before .before .before in
+    let loop = at-loop .loop in
+    let turn = at-turn .turn in
     let after = tables (turn .last .0) (turn .last .1 .0) (turn .last .1 .1 .0) in
-    λ o lent. again-going o (entry .args .fuel) _ _ _ _ _ _ _ (loop .inv o lent) after (turn .result) (turn .ensures o lent) _ _ _ (c .before .n .given .1)
+    λ o lent. again-going o (entry .args .fuel) _ _ _ _ _ _ _ (loop .inv o lent) after (turn .result) (turn .ensures o lent) _ _ _ (at-n .n .given .1)
 
 expression-operands-requires : (t : ℕ) → expression-lts.Need-operands-requires (expression-claims t) (expression-at t) expression.Post expression-Inv-loop expression-μ-loop
 expression-operands-requires t c κs =
-    let lends = c .before .before .before .before .before .before .before .before .before .before .before .before .before .before .before .before .before .before .before .before .before .pre .1 .0 in
+    let at-l = c .before .before .before .before in
+    let at-turn = at-l .before .before .before .before .before .before .before .before in
+    let at-loop = at-turn .before .before .before .before in
+    let entry = at-loop .before .before .before .before .before in
+    let lends = entry .pre .1 .0 in
     let o = lends .operations in
     let lent = lends .lent in
-    let entry = c .before .before .before .before .before .before .before .before .before .before .before .before .before .before .before .before .before .before .before .before .before in
-    let loop = c .before .before .before .before .before .before .before .before .before .before .before .before .before .before .before .before .loop in
-    let turn = c .before .before .before .before .before .before .before .before .before .before .before .before .turn in
+    let loop = at-loop .loop in
+    let turn = at-turn .turn in
     let after = tables (turn .last .0) (turn .last .1 .0) (turn .last .1 .1 .0) in
-    let asks = spread-asks o (entry .args .fuel) _ _ _ _ _ _ _ (loop .inv o lent) after (turn .result) (turn .ensures o lent) _ _ _ (c .before .before .before .before .l .given .1) (entry .pre .1 .2) in
+    let asks = spread-asks o (entry .args .fuel) _ _ _ _ _ _ _ (loop .inv o lent) after (turn .result) (turn .ensures o lent) _ _ _ (at-l .l .given .1) (entry .pre .1 .2) in
     (omega (arith, entry .pre .0, asks .0), (entry .pre .1 .0, asks .1, asks .2))
 
 expression-same-length : (t : ℕ) → expression-lts.Need-same-length (expression-claims t) (expression-at t) expression.Post expression-Inv-loop expression-μ-loop
 expression-same-length t c =
-    let lends = c .before .before .before .before .before .before .before .before .before .before .before .before .before .before .before .before .before .before .before .before .before .before .before .before .before .before .before .before .pre .1 .0 in
+    let at-operands = c .before .before .before .before .before .before in
+    let at-turn = at-operands .before .before .before .before .before .before .before .before .before .before .before .before .before in
+    let at-loop = at-turn .before .before .before .before in
+    let lends = at-loop .before .before .before .before .before .pre .1 .0 in
     let o = lends .operations in
     let lent = lends .lent in
-    let loop = c .before .before .before .before .before .before .before .before .before .before .before .before .before .before .before .before .before .before .before .before .before .before .before .loop in
-    let turn = c .before .before .before .before .before .before .before .before .before .before .before .before .before .before .before .before .before .before .before .turn in
-    let operands = c .before .before .before .before .before .before .operands in
+    let loop = at-loop .loop in
+    let turn = at-turn .turn in
+    let operands = at-operands .operands in
     operands .kept .0 ∙ turn .kept .0 ∙ loop .inv o lent .kept .work-long
 
 expression-same-length-2 : (t : ℕ) → expression-lts.Need-same-length-2 (expression-claims t) (expression-at t) expression.Post expression-Inv-loop expression-μ-loop
 expression-same-length-2 t c =
-    let lends = c .before .before .before .before .before .before .before .before .before .before .before .before .before .before .before .before .before .before .before .before .before .before .before .before .before .before .before .before .pre .1 .0 in
+    let at-operands = c .before .before .before .before .before .before in
+    let at-turn = at-operands .before .before .before .before .before .before .before .before .before .before .before .before .before in
+    let at-loop = at-turn .before .before .before .before in
+    let lends = at-loop .before .before .before .before .before .pre .1 .0 in
     let o = lends .operations in
     let lent = lends .lent in
-    let loop = c .before .before .before .before .before .before .before .before .before .before .before .before .before .before .before .before .before .before .before .before .before .before .before .loop in
-    let turn = c .before .before .before .before .before .before .before .before .before .before .before .before .before .before .before .before .before .before .before .turn in
-    let operands = c .before .before .before .before .before .before .operands in
+    let loop = at-loop .loop in
+    let turn = at-turn .turn in
+    let operands = at-operands .operands in
     operands .kept .1 .0 ∙ turn .kept .1 .0 ∙ loop .inv o lent .kept .core-long
 
 expression-same-length-3 : (t : ℕ) → expression-lts.Need-same-length-3 (expression-claims t) (expression-at t) expression.Post expression-Inv-loop expression-μ-loop
 expression-same-length-3 t c =
-    let lends = c .before .before .before .before .before .before .before .before .before .before .before .before .before .before .before .before .before .before .before .before .before .before .before .before .before .before .before .before .pre .1 .0 in
+    let at-operands = c .before .before .before .before .before .before in
+    let at-turn = at-operands .before .before .before .before .before .before .before .before .before .before .before .before .before in
+    let at-loop = at-turn .before .before .before .before in
+    let lends = at-loop .before .before .before .before .before .pre .1 .0 in
     let o = lends .operations in
     let lent = lends .lent in
-    let loop = c .before .before .before .before .before .before .before .before .before .before .before .before .before .before .before .before .before .before .before .before .before .before .before .loop in
-    let turn = c .before .before .before .before .before .before .before .before .before .before .before .before .before .before .before .before .before .before .before .turn in
-    let operands = c .before .before .before .before .before .before .operands in
+    let loop = at-loop .loop in
+    let turn = at-turn .turn in
+    let operands = at-operands .operands in
     operands .kept .1 .1 .0 ∙ turn .kept .1 .1 .0 ∙ loop .inv o lent .kept .macros-long
 
 expression-returns : (t : ℕ) → expression-lts.Need-returns (expression-claims t) (expression-at t) expression.Post expression-Inv-loop expression-μ-loop
 expression-returns t c =
-    let entry = c .before .before .before .before .before .before .before .before .before .before .before .before .before .before .before .before .before .before .before .before .before .before .before .before .before .before .before .before in
-    let loop = c .before .before .before .before .before .before .before .before .before .before .before .before .before .before .before .before .before .before .before .before .before .before .before .loop in
-    let turn = c .before .before .before .before .before .before .before .before .before .before .before .before .before .before .before .before .before .before .before .turn in
+    let at-operands = c .before .before .before .before .before .before in
+    let at-l = at-operands .before .before .before .before .before in
+    let at-turn = at-l .before .before .before .before .before .before .before .before in
+    let at-loop = at-turn .before .before .before .before in
+    let entry = at-loop .before .before .before .before .before in
+    let loop = at-loop .loop in
+    let turn = at-turn .turn in
     let after = tables (turn .last .0) (turn .last .1 .0) (turn .last .1 .1 .0) in
-    λ o lent. spread-over o (entry .args .fuel) _ _ _ _ _ _ _ (loop .inv o lent) after (turn .result) (turn .ensures o lent) _ _ _ (c .before .before .before .before .before .before .before .before .before .before .before .l .given .1) _ _ (c .before .before .before .before .before .before .operands .ensures o lent)
+    λ o lent. spread-over o (entry .args .fuel) _ _ _ _ _ _ _ (loop .inv o lent) after (turn .result) (turn .ensures o lent) _ _ _ (at-l .l .given .1) _ _ (at-operands .operands .ensures o lent)
 
 expression-same-length-4 : (t : ℕ) → expression-lts.Need-same-length-4 (expression-claims t) (expression-at t) expression.Post expression-Inv-loop expression-μ-loop
 expression-same-length-4 t c =
-    let lends = c .before .before .before .before .before .before .before .before .before .before .before .before .before .before .before .before .before .before .pre .1 .0 in
-    let loop = c .before .before .before .before .before .before .before .before .before .before .before .before .before .loop in
-    c .before .before .before .before .before .before .before .before .before .turn .kept .0 ∙ loop .inv (lends .operations) (lends .lent) .kept .work-long
+    let at-turn = c .before .before .before .before .before .before .before .before .before in
+    let at-loop = at-turn .before .before .before .before in
+    let lends = at-loop .before .before .before .before .before .pre .1 .0 in
+    let loop = at-loop .loop in
+    at-turn .turn .kept .0 ∙ loop .inv (lends .operations) (lends .lent) .kept .work-long
 
 expression-same-length-5 : (t : ℕ) → expression-lts.Need-same-length-5 (expression-claims t) (expression-at t) expression.Post expression-Inv-loop expression-μ-loop
 expression-same-length-5 t c =
-    let lends = c .before .before .before .before .before .before .before .before .before .before .before .before .before .before .before .before .before .before .pre .1 .0 in
-    let loop = c .before .before .before .before .before .before .before .before .before .before .before .before .before .loop in
-    c .before .before .before .before .before .before .before .before .before .turn .kept .1 .0 ∙ loop .inv (lends .operations) (lends .lent) .kept .core-long
+    let at-turn = c .before .before .before .before .before .before .before .before .before in
+    let at-loop = at-turn .before .before .before .before in
+    let lends = at-loop .before .before .before .before .before .pre .1 .0 in
+    let loop = at-loop .loop in
+    at-turn .turn .kept .1 .0 ∙ loop .inv (lends .operations) (lends .lent) .kept .core-long
 
 expression-same-length-6 : (t : ℕ) → expression-lts.Need-same-length-6 (expression-claims t) (expression-at t) expression.Post expression-Inv-loop expression-μ-loop
 expression-same-length-6 t c =
-    let lends = c .before .before .before .before .before .before .before .before .before .before .before .before .before .before .before .before .before .before .pre .1 .0 in
-    let loop = c .before .before .before .before .before .before .before .before .before .before .before .before .before .loop in
-    c .before .before .before .before .before .before .before .before .before .turn .kept .1 .1 .0 ∙ loop .inv (lends .operations) (lends .lent) .kept .macros-long
+    let at-turn = c .before .before .before .before .before .before .before .before .before in
+    let at-loop = at-turn .before .before .before .before in
+    let lends = at-loop .before .before .before .before .before .pre .1 .0 in
+    let loop = at-loop .loop in
+    at-turn .turn .kept .1 .1 .0 ∙ loop .inv (lends .operations) (lends .lent) .kept .macros-long
 
 expression-returns-2 : (t : ℕ) → expression-lts.Need-returns-2 (expression-claims t) (expression-at t) expression.Post expression-Inv-loop expression-μ-loop
 expression-returns-2 t c =
-    let entry = c .before .before .before .before .before .before .before .before .before .before .before .before .before .before .before .before .before .before in
-    let loop = c .before .before .before .before .before .before .before .before .before .before .before .before .before .loop in
-    let turn = c .before .before .before .before .before .before .before .before .before .turn in
+    let at-e = c .before in
+    let at-turn = at-e .before .before .before .before .before .before .before .before in
+    let at-loop = at-turn .before .before .before .before in
+    let entry = at-loop .before .before .before .before .before in
+    let loop = at-loop .loop in
+    let turn = at-turn .turn in
     let after = tables (turn .last .0) (turn .last .1 .0) (turn .last .1 .1 .0) in
-    λ o lent. over-right o (entry .args .fuel) _ _ _ _ _ _ _ (loop .inv o lent) after (turn .result) (turn .ensures o lent) _ (c .before .e .given .1)
+    λ o lent. over-right o (entry .args .fuel) _ _ _ _ _ _ _ (loop .inv o lent) after (turn .result) (turn .ensures o lent) _ (at-e .e .given .1)
 
 operand-bare-name-requires : (t : ℕ) → operand-lts.Need-bare-name-requires (operand-claims t) (operand-at t) operand.Post
 operand-bare-name-requires t c κs =
@@ -209,10 +241,13 @@ operand-bare-name-requires t c κs =
 
 operand-returns : (t : ℕ) → operand-lts.Need-returns (operand-claims t) (operand-at t) operand.Post
 operand-returns t c =
-    let entry = c .before .before .before .before .before .before .before .before .before .before .before .before in
+    let at-bare-name = c .before .before in
+    let at-if1 = at-bare-name .before .before .before in
+    let at-word = at-if1 .before in
+    let entry = at-word .before .before .before .before .before .before in
     let a = entry .args in
-    let name = c .before .before .bare-name in
-    λ o lent. name-expands (a .work .now) (a .core .now) (a .known .now) (a .fuel) (a .node) (a .wrap) (a .from) (entry .pre .1 .1) (entry .pre .1 .2) _ (c .before .before .before .before .before .before .word .ensures) o (c .before .before .before .before .before .if1 .taken) _ (name .result) (found-in o (a .operations .now) (nameAt (a .work .now) (a .node) (a .wrap)) lent (λ f. Leaf (nameEnd f) 2 (a .from) (a .core .now) (name .last .1 .0) (name .result)) (name .ensures))
+    let name = at-bare-name .bare-name in
+    λ o lent. name-expands (a .work .now) (a .core .now) (a .known .now) (a .fuel) (a .node) (a .wrap) (a .from) (entry .pre .1 .1) (entry .pre .1 .2) _ (at-word .word .ensures) o (at-if1 .if1 .taken) _ (name .result) (found-in o (a .operations .now) (nameAt (a .work .now) (a .node) (a .wrap)) lent (λ f. Leaf (nameEnd f) 2 (a .from) (a .core .now) (name .last .1 .0) (name .result)) (name .ensures))
 
 operand-expression-requires : (t : ℕ) → operand-lts.Need-expression-requires (operand-claims t) (operand-at t) operand.Post
 operand-expression-requires t c κs =
@@ -225,22 +260,37 @@ operand-returns-2 t c =
 
 operand-returns-3 : (t : ℕ) → operand-lts.Need-returns-3 (operand-claims t) (operand-at t) operand.Post
 operand-returns-3 t c =
-    let entry = c .before .before .before .before .before .before .before .before .before .before in
+    let at-if3 = c .before in
+    let at-word = at-if3 .before .before .before in
+    let entry = at-word .before .before .before .before .before .before in
     let a = entry .args in
-    λ o lent. empty-expands (a .work .now) (a .core .now) (a .known .now) (a .fuel) (a .node) (a .wrap) (a .from) (entry .pre .1 .1) (entry .pre .1 .2) _ (c .before .before .before .before .word .ensures) o (c .before .if3 .taken) _ (c .refuse .ensures)
+    λ o lent. empty-expands (a .work .now) (a .core .now) (a .known .now) (a .fuel) (a .node) (a .wrap) (a .from) (entry .pre .1 .1) (entry .pre .1 .2) _ (at-word .word .ensures) o (at-if3 .if3 .taken) _ (c .refuse .ensures)
 
 operand-constant-requires : (t : ℕ) → operand-lts.Need-constant-requires (operand-claims t) (operand-at t) operand.Post
 operand-constant-requires t c κs =
-    let entry = c .before .before .before .before .before .before .before .before .before .before .before .before .before .before in
+    let at-word3 = c .before in
+    let at-word2 = at-word3 .before .before in
+    let at-if3 = at-word2 .before .before in
+    let at-if2 = at-if3 .before in
+    let at-if1 = at-if2 .before in
+    let at-word = at-if1 .before in
+    let entry = at-word .before .before .before .before .before .before in
     let a = entry .args in
-    constant-asks (a .work .now) (a .core .now) (a .known .now) (a .fuel) (a .node) (a .wrap) (a .from) (entry .pre .1 .1) (entry .pre .1 .2) _ (c .before .before .before .before .before .before .before .before .word .ensures) (c .before .before .before .before .before .if3 .left) (c .before .before .before .before .before .before .before .if1 .left) (c .before .before .before .before .before .before .if2 .left) _ _ (c .before .before .before .word2 .ensures) (c .before .word3 .ensures)
+    constant-asks (a .work .now) (a .core .now) (a .known .now) (a .fuel) (a .node) (a .wrap) (a .from) (entry .pre .1 .1) (entry .pre .1 .2) _ (at-word .word .ensures) (at-if3 .if3 .left) (at-if1 .if1 .left) (at-if2 .if2 .left) _ _ (at-word2 .word2 .ensures) (at-word3 .word3 .ensures)
 
 operand-returns-4 : (t : ℕ) → operand-lts.Need-returns-4 (operand-claims t) (operand-at t) operand.Post
 operand-returns-4 t c =
-    let entry = c .before .before .before .before .before .before .before .before .before .before .before .before .before .before .before .before .before in
+    let at-constant = c .before .before in
+    let at-word3 = at-constant .before .before in
+    let at-word2 = at-word3 .before .before in
+    let at-if3 = at-word2 .before .before in
+    let at-if2 = at-if3 .before in
+    let at-if1 = at-if2 .before in
+    let at-word = at-if1 .before in
+    let entry = at-word .before .before .before .before .before .before in
     let a = entry .args in
-    let constant = c .before .before .constant in
-    λ o lent. constant-expands (a .work .now) (a .core .now) (a .known .now) (a .fuel) (a .node) (a .wrap) (a .from) (entry .pre .1 .1) (entry .pre .1 .2) _ (c .before .before .before .before .before .before .before .before .before .before .before .word .ensures) (c .before .before .before .before .before .before .before .before .if3 .left) (c .before .before .before .before .before .before .before .before .before .before .if1 .left) (c .before .before .before .before .before .before .before .before .before .if2 .left) _ _ (c .before .before .before .before .before .before .word2 .ensures) (c .before .before .before .before .word3 .ensures) o _ (constant .result) (constant .ensures)
+    let constant = at-constant .constant in
+    λ o lent. constant-expands (a .work .now) (a .core .now) (a .known .now) (a .fuel) (a .node) (a .wrap) (a .from) (entry .pre .1 .1) (entry .pre .1 .2) _ (at-word .word .ensures) (at-if3 .if3 .left) (at-if1 .if1 .left) (at-if2 .if2 .left) _ _ (at-word2 .word2 .ensures) (at-word3 .word3 .ensures) o _ (constant .result) (constant .ensures)
 
 operands-loop-holds : (t : ℕ) → operands-lts.Need-loop-holds (operands-claims t) (operands-at t) operands.Post operands-Inv-loop operands-μ-loop
 operands-loop-holds t c =
@@ -249,68 +299,95 @@ operands-loop-holds t c =
 
 operands-operand-requires : (t : ℕ) → operands-lts.Need-operand-requires (operands-claims t) (operands-at t) operands.Post operands-Inv-loop operands-μ-loop
 operands-operand-requires t c κs =
-    let lends = c .before .before .before .before .before .before .before .before .before .before .before .before .before .pre .1 .0 in
+    let at-reference = c .before .before .before in
+    let at-if1 = at-reference .before .before in
+    let at-word = at-if1 .before in
+    let at-loop = at-word .before .before in
+    let entry = at-loop .before .before .before .before .before in
+    let lends = entry .pre .1 .0 in
     let o = lends .operations in
     let lent = lends .lent in
-    let entry = c .before .before .before .before .before .before .before .before .before .before .before .before .before in
-    let loop = c .before .before .before .before .before .before .before .before .loop in
-    let word = c .before .before .before .before .before .before .word in
-    let head = c .before .before .before .reference in
-    let asks = operand-asks o (entry .args .fuel) _ _ _ _ _ _ _ (loop .inv o lent) (entry .pre .1 .2) _ (word .ensures) (c .before .before .before .before .before .if1 .taken) _ (head .ensures) in
+    let loop = at-loop .loop in
+    let word = at-word .word in
+    let head = at-reference .reference in
+    let asks = operand-asks o (entry .args .fuel) _ _ _ _ _ _ _ (loop .inv o lent) (entry .pre .1 .2) _ (word .ensures) (at-if1 .if1 .taken) _ (head .ensures) in
     (omega (arith, entry .pre .0, asks .0), (entry .pre .1 .0, asks .1, asks .2))
 
 operands-returns : (t : ℕ) → operands-lts.Need-returns (operands-claims t) (operands-at t) operands.Post operands-Inv-loop operands-μ-loop
 operands-returns t c =
-    let entry = c .before .before .before .before .before .before .before .before .before .before .before .before .before .before .before .before .before .before .before .before .before .before in
-    let loop = c .before .before .before .before .before .before .before .before .before .before .before .before .before .before .before .before .before .loop in
-    let word = c .before .before .before .before .before .before .before .before .before .before .before .before .before .before .before .word in
-    let head = c .before .before .before .before .before .before .before .before .before .before .before .before .reference in
-    let operand = c .before .before .before .before .before .before .before .before .operand in
+    let at-operand = c .before .before .before .before .before .before .before .before in
+    let at-reference = at-operand .before .before .before .before in
+    let at-if1 = at-reference .before .before in
+    let at-word = at-if1 .before in
+    let at-loop = at-word .before .before in
+    let entry = at-loop .before .before .before .before .before in
+    let loop = at-loop .loop in
+    let word = at-word .word in
+    let head = at-reference .reference in
+    let operand = at-operand .operand in
     let after = tables (operand .last .0) (operand .last .1 .0) (operand .last .1 .1 .0) in
-    λ o lent. operand-refused o (entry .args .fuel) _ _ _ _ _ _ _ (loop .inv o lent) (entry .pre .1 .2) _ (word .ensures) (c .before .before .before .before .before .before .before .before .before .before .before .before .before .before .if1 .taken) _ (head .ensures) after (operand .result) (operand .ensures o lent) _ _ _ (c .enum-told .given .1)
+    λ o lent. operand-refused o (entry .args .fuel) _ _ _ _ _ _ _ (loop .inv o lent) (entry .pre .1 .2) _ (word .ensures) (at-if1 .if1 .taken) _ (head .ensures) after (operand .result) (operand .ensures o lent) _ _ _ (c .enum-told .given .1)
 
 operands-loop-less : (t : ℕ) → operands-lts.Need-loop-less (operands-claims t) (operands-at t) operands.Post operands-Inv-loop operands-μ-loop
 operands-loop-less t c =
-    let lends = c .before .before .before .before .before .before .before .before .before .before .before .before .before .before .before .before .before .before .before .before .before .before .before .before .before .pre .1 .0 in
+    let at-ended = c .before .before .before in
+    let at-operand = at-ended .before .before .before .before .before .before .before .before in
+    let at-reference = at-operand .before .before .before .before in
+    let at-if1 = at-reference .before .before in
+    let at-word = at-if1 .before in
+    let at-loop = at-word .before .before in
+    let entry = at-loop .before .before .before .before .before in
+    let lends = entry .pre .1 .0 in
     let o = lends .operations in
     let lent = lends .lent in
-    let entry = c .before .before .before .before .before .before .before .before .before .before .before .before .before .before .before .before .before .before .before .before .before .before .before .before .before in
-    let loop = c .before .before .before .before .before .before .before .before .before .before .before .before .before .before .before .before .before .before .before .before .loop in
-    let word = c .before .before .before .before .before .before .before .before .before .before .before .before .before .before .before .before .before .before .word in
-    let head = c .before .before .before .before .before .before .before .before .before .before .before .before .before .before .before .reference in
-    let operand = c .before .before .before .before .before .before .before .before .before .before .before .operand in
+    let loop = at-loop .loop in
+    let word = at-word .word in
+    let head = at-reference .reference in
+    let operand = at-operand .operand in
     let after = tables (operand .last .0) (operand .last .1 .0) (operand .last .1 .1 .0) in
     let tail = c .reference2 in
-    next-falls o (entry .args .fuel) _ _ _ _ _ _ _ (loop .inv o lent) (entry .pre .1 .2) _ (word .ensures) (c .before .before .before .before .before .before .before .before .before .before .before .before .before .before .before .before .before .if1 .taken) _ (head .ensures) after (operand .result) (operand .ensures o lent) _ (c .before .before .before .ended .given .1) _ (tail .ensures)
+    next-falls o (entry .args .fuel) _ _ _ _ _ _ _ (loop .inv o lent) (entry .pre .1 .2) _ (word .ensures) (at-if1 .if1 .taken) _ (head .ensures) after (operand .result) (operand .ensures o lent) _ (at-ended .ended .given .1) _ (tail .ensures)
 
 operands-loop-again : (t : ℕ) → operands-lts.Need-loop-again (operands-claims t) (operands-at t) operands.Post operands-Inv-loop operands-μ-loop
 operands-loop-again t c =
-    let entry = c .before .before .before .before .before .before .before .before .before .before .before .before .before .before .before .before .before .before .before .before .before .before .before .before .before in
-    let loop = c .before .before .before .before .before .before .before .before .before .before .before .before .before .before .before .before .before .before .before .before .loop in
-    let word = c .before .before .before .before .before .before .before .before .before .before .before .before .before .before .before .before .before .before .word in
-    let head = c .before .before .before .before .before .before .before .before .before .before .before .before .before .before .before .reference in
-    let operand = c .before .before .before .before .before .before .before .before .before .before .before .operand in
+    let at-ended = c .before .before .before in
+    let at-operand = at-ended .before .before .before .before .before .before .before .before in
+    let at-reference = at-operand .before .before .before .before in
+    let at-if1 = at-reference .before .before in
+    let at-word = at-if1 .before in
+    let at-loop = at-word .before .before in
+    let entry = at-loop .before .before .before .before .before in
+    let loop = at-loop .loop in
+    let word = at-word .word in
+    let head = at-reference .reference in
+    let operand = at-operand .operand in
     let after = tables (operand .last .0) (operand .last .1 .0) (operand .last .1 .1 .0) in
     let tail = c .reference2 in
-    λ o lent. operand-walking o (entry .args .fuel) _ _ _ _ _ _ _ (loop .inv o lent) (entry .pre .1 .2) _ (word .ensures) (c .before .before .before .before .before .before .before .before .before .before .before .before .before .before .before .before .before .if1 .taken) _ (head .ensures) after (operand .result) (operand .ensures o lent) _ (c .before .before .before .ended .given .1) _ (tail .ensures)
+    λ o lent. operand-walking o (entry .args .fuel) _ _ _ _ _ _ _ (loop .inv o lent) (entry .pre .1 .2) _ (word .ensures) (at-if1 .if1 .taken) _ (head .ensures) after (operand .result) (operand .ensures o lent) _ (at-ended .ended .given .1) _ (tail .ensures)
 
 operands-same-length : (t : ℕ) → operands-lts.Need-same-length (operands-claims t) (operands-at t) operands.Post operands-Inv-loop operands-μ-loop
 operands-same-length t c =
-    let lends = c .before .before .before .before .before .before .before .before .before .before .before .before .before .before .before .before .before .before .before .before .before .before .pre .1 .0 in
-    let loop = c .before .before .before .before .before .before .before .before .before .before .before .before .before .before .before .before .before .loop in
-    c .before .before .before .before .before .before .before .before .operand .kept .0 ∙ loop .inv (lends .operations) (lends .lent) .kept .work-long
+    let at-operand = c .before .before .before .before .before .before .before .before in
+    let at-loop = at-operand .before .before .before .before .before .before .before .before .before in
+    let lends = at-loop .before .before .before .before .before .pre .1 .0 in
+    let loop = at-loop .loop in
+    at-operand .operand .kept .0 ∙ loop .inv (lends .operations) (lends .lent) .kept .work-long
 
 operands-same-length-2 : (t : ℕ) → operands-lts.Need-same-length-2 (operands-claims t) (operands-at t) operands.Post operands-Inv-loop operands-μ-loop
 operands-same-length-2 t c =
-    let lends = c .before .before .before .before .before .before .before .before .before .before .before .before .before .before .before .before .before .before .before .before .before .before .pre .1 .0 in
-    let loop = c .before .before .before .before .before .before .before .before .before .before .before .before .before .before .before .before .before .loop in
-    c .before .before .before .before .before .before .before .before .operand .kept .1 .0 ∙ loop .inv (lends .operations) (lends .lent) .kept .core-long
+    let at-operand = c .before .before .before .before .before .before .before .before in
+    let at-loop = at-operand .before .before .before .before .before .before .before .before .before in
+    let lends = at-loop .before .before .before .before .before .pre .1 .0 in
+    let loop = at-loop .loop in
+    at-operand .operand .kept .1 .0 ∙ loop .inv (lends .operations) (lends .lent) .kept .core-long
 
 operands-same-length-3 : (t : ℕ) → operands-lts.Need-same-length-3 (operands-claims t) (operands-at t) operands.Post operands-Inv-loop operands-μ-loop
 operands-same-length-3 t c =
-    let lends = c .before .before .before .before .before .before .before .before .before .before .before .before .before .before .before .before .before .before .before .before .before .before .pre .1 .0 in
-    let loop = c .before .before .before .before .before .before .before .before .before .before .before .before .before .before .before .before .before .loop in
-    c .before .before .before .before .before .before .before .before .operand .kept .1 .1 .0 ∙ loop .inv (lends .operations) (lends .lent) .kept .macros-long
+    let at-operand = c .before .before .before .before .before .before .before .before in
+    let at-loop = at-operand .before .before .before .before .before .before .before .before .before in
+    let lends = at-loop .before .before .before .before .before .pre .1 .0 in
+    let loop = at-loop .loop in
+    at-operand .operand .kept .1 .1 .0 ∙ loop .inv (lends .operations) (lends .lent) .kept .macros-long
 
 operands-same-length-4 : (t : ℕ) → operands-lts.Need-same-length-4 (operands-claims t) (operands-at t) operands.Post operands-Inv-loop operands-μ-loop
 operands-same-length-4 t c =

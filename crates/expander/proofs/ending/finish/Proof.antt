@@ -6,19 +6,29 @@ use Rattle.expander.specs.ServiceLaws.{done-fits, finished-done, finishe
 
 sub-zero-words : tie.Need-sub-zero-words
 sub-zero-words c =
-    done-fits (c .before .before .before .before .before .args .ended) _ _ (c .before .before .ended .given .1) (c .before .before .before .before .before .pre)
+    let at-ended = c .before .before in
+    let at-args = at-ended .before .before .before in
+    done-fits (at-args .args .ended) _ _ (at-ended .ended .given .1) (at-args .pre)
 
 part-zero-words-start : tie.Need-part-zero-words-start
 part-zero-words-start c =
-    done-fits (c .before .before .before .before .before .args .ended) _ _ (c .before .before .ended .given .1) (c .before .before .before .before .before .pre)
+    let at-ended = c .before .before in
+    let at-args = at-ended .before .before .before in
+    done-fits (at-args .args .ended) _ _ (at-ended .ended .given .1) (at-args .pre)
 
 returns : tie.Need-returns
 returns c =
-    finished-done (c .before .before .before .before .before .before .before .before .before .args .ended) _ (c .before .before .before .before .before .before .before .before .before .args .core .now) _ (c .before .before .before .before .before .before .ended .given .1) (done-fits (c .before .before .before .before .before .before .before .before .before .args .ended) _ _ (c .before .before .before .before .before .before .ended .given .1) (c .before .before .before .before .before .before .before .before .before .pre)) (c .before .before .zero-words .ensures)
+    let at-zero-words = c .before .before in
+    let at-ended = at-zero-words .before .before .before .before in
+    let at-args = at-ended .before .before .before in
+    finished-done (at-args .args .ended) _ (at-args .args .core .now) _ (at-ended .ended .given .1) (done-fits (at-args .args .ended) _ _ (at-ended .ended .given .1) (at-args .pre)) (at-zero-words .zero-words .ensures)
 
 returns-2 : tie.Need-returns-2
 returns-2 c =
-    finished-refused (c .before .before .before .before .before .before .before .before .args .ended) _ _ _ (c .before .before .before .before .before .before .before .before .args .core .now) _ (c .before .before .before .before .before .ended2 .given .1) (c .before .before .zero-words2 .ensures)
+    let at-zero-words2 = c .before .before in
+    let at-ended2 = at-zero-words2 .before .before .before in
+    let a = at-ended2 .before .before .before .args in
+    finished-refused (a .ended) _ _ _ (a .core .now) _ (at-ended2 .ended2 .given .1) (at-zero-words2 .zero-words2 .ensures)
 
 pub finish-spec : {M : Type 1} → statement M
 finish-spec =

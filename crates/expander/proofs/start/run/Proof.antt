@@ -13,12 +13,15 @@ lay-out-requires c κs =
 
 expression-requires : tie.Need-expression-requires
 expression-requires c κs =
-    let entry = c .before .before .before .before .before .before .before .before .before .before .before .before .before .before .before in
+    let at-start = c .before .before .before in
+    let at-element = at-start .before in
+    let at-lay-out = at-element .before .before .before .before in
+    let entry = at-lay-out .before .before .before .before .before .before .before in
     let a = entry .args in
     let l = entry .pre .0 in
-    let laid = c .before .before .before .before .before .before .before .before .lay-out in
-    let second = c .before .before .before .before .element .ensures in
-    let from-is = c .before .before .before .start .ensures in (
+    let laid = at-lay-out .lay-out in
+    let second = at-element .element .ensures in
+    let from-is = at-start .start .ensures in (
       start-lending (a .items .now) (a .work .now) (a .core .now) (a .operations .now) (a .fuel) l,
       start-placed (a .items .now) (a .work .now) (a .core .now) (a .operations .now) (a .fuel) l _ _ _ (laid .ensures) second _ from-is,
       start-ready (a .items .now) (a .work .now) (a .core .now) (a .operations .now) (a .fuel) l _ _ _ (laid .ensures) second _ from-is _ (laid .kept .1 .0) (entry .pre .1),
@@ -26,12 +29,16 @@ expression-requires c κs =
 
 returns : tie.Need-returns
 returns c =
-    let entry = c .before .before .before .before .before .before .before .before .before .before .before .before .before .before .before .before .before .before .before .before .before .before in
+    let at-expression = c .before .before .before .before .before .before in
+    let at-start = at-expression .before .before .before .before in
+    let at-element = at-start .before in
+    let at-lay-out = at-element .before .before .before .before in
+    let entry = at-lay-out .before .before .before .before .before .before .before in
     let a = entry .args in
-    let laid = c .before .before .before .before .before .before .before .before .before .before .before .before .before .before .before .lay-out .ensures in
-    let second = c .before .before .before .before .before .before .before .before .before .before .before .element .ensures in
-    let from-is = c .before .before .before .before .before .before .before .before .before .before .start .ensures in
-    start-expanded (a .items .now) (a .work .now) (a .core .now) (a .operations .now) (a .fuel) (entry .pre .0) _ _ _ laid second _ from-is _ _ _ (c .before .before .before .before .before .before .expression .ensures)
+    let laid = at-lay-out .lay-out .ensures in
+    let second = at-element .element .ensures in
+    let from-is = at-start .start .ensures in
+    start-expanded (a .items .now) (a .work .now) (a .core .now) (a .operations .now) (a .fuel) (entry .pre .0) _ _ _ laid second _ from-is _ _ _ (at-expression .expression .ensures)
 
 pub run-spec : {M : Type 1} → statement M
 run-spec =
