@@ -14,6 +14,7 @@ use Rattle.words.specs.Lists.{within, equal}
 use Rattle.words.specs.TestLaws.{iff-eq, within-is, within-parts}
 use Rattle.words.specs.ListLaws.{either, equal-true}
 use Rattle.recipe.specs.Name.{Binding, variable, macro, Name, plainName, bindingKey, markName, bindName, giveBinding, same, toggle}
+use Rattle.arena.specs.Offsets.{TAG, INNER, STEP, OUTER, KEY, BOUND-KEY, BOUND-NUMBER, BOUND-COUNT, BOUND-NEWEST}
 use Rattle.arena.specs.Arena.{wordAt, falling, referenceAt, bindingOf, giveKey, stepLimit, marked, newest, byTag, markOn, joinOn, ownMarks, sameMarks, isOwn, rebound, binderOn, wrapStep, wrapFrom, wrapAt}
 
 -- ---- words and references
@@ -111,13 +112,13 @@ module _ (a b : List ℕ) (f g : ℕ → Name → Name) (w : ℕ) (some-word : 0
 
   binder-agree : (x : Name) → binderOn a f w x ≡ binderOn b g w x
   unfolding binderOn
-  binder-agree x = ap (rebound a f w) (inner-agree 2 (omega arith) x) ∙ rebound-agree (g (referenceAt b w 2) x)
+  binder-agree x = ap (rebound a f w) (inner-agree 2 (omega arith) x) ∙ rebound-agree (g (referenceAt b w INNER) x)
 
   step-agree : (x : Name) → wrapStep a f w x ≡ wrapStep b g w x
   unfolding wrapStep
   step-agree x =
       rw (wordAt-below a b w 1 (omega arith) e)
-      (byTag-cong (wordAt b w 1) (markOn a f w) (markOn b g w) (joinOn a f w) (joinOn b g w) (binderOn a f w) (binderOn b g w) x (mark-agree x) (join-agree x) (binder-agree x))
+      (byTag-cong (wordAt b w TAG) (markOn a f w) (markOn b g w) (joinOn a f w) (joinOn b g w) (binderOn a f w) (binderOn b g w) x (mark-agree x) (join-agree x) (binder-agree x))
 
 wrapFrom-none : (work : List ℕ) (gas : ℕ) (x : Name) → wrapFrom work gas 0 x ≡ x
 unfolding wrapFrom wrapStep byTag wordAt within
@@ -169,19 +170,19 @@ wordAt-some work zero k p h = absurd (h (wordAt-none work k p))
 wordAt-some work (suc at) k p h = omega arith
 
 module _ (work : List ℕ) (w : ℕ) (some-word : 0 < w) where
-  pub wrapAt-mark : wordAt work w 1 ≡ 1 → (x : Name) → wrapAt work w x ≡ marked (wordAt work w 3) (wrapAt work (referenceAt work w 2) x)
+  pub wrapAt-mark : wordAt work w TAG ≡ 1 → (x : Name) → wrapAt work w x ≡ marked (wordAt work w STEP) (wrapAt work (referenceAt work w INNER) x)
   unfolding wrapStep byTag markOn
   wrapAt-mark e x = wrapAt-step work w x some-word ∙ rw e refl
 
-  pub wrapAt-join : wordAt work w 1 ≡ 2 → (x : Name) → wrapAt work w x ≡ wrapAt work (referenceAt work w 3) (wrapAt work (referenceAt work w 2) x)
+  pub wrapAt-join : wordAt work w TAG ≡ 2 → (x : Name) → wrapAt work w x ≡ wrapAt work (referenceAt work w OUTER) (wrapAt work (referenceAt work w INNER) x)
   unfolding wrapStep byTag joinOn
   wrapAt-join e x = wrapAt-step work w x some-word ∙ rw e refl
 
-  pub wrapAt-binder : wordAt work w 1 ≡ 3 → (x : Name) → wrapAt work w x ≡ rebound work (wrapAt work) w (wrapAt work (referenceAt work w 2) x)
+  pub wrapAt-binder : wordAt work w TAG ≡ 3 → (x : Name) → wrapAt work w x ≡ rebound work (wrapAt work) w (wrapAt work (referenceAt work w INNER) x)
   unfolding wrapStep byTag binderOn
   wrapAt-binder e x = wrapAt-step work w x some-word ∙ rw e refl
 
-  pub wrapAt-other : (wordAt work w 1 ≡ 1 → ⊥) → (wordAt work w 1 ≡ 2 → ⊥) → (wordAt work w 1 ≡ 3 → ⊥) → (x : Name) → wrapAt work w x ≡ x
+  pub wrapAt-other : (wordAt work w TAG ≡ 1 → ⊥) → (wordAt work w TAG ≡ 2 → ⊥) → (wordAt work w TAG ≡ 3 → ⊥) → (x : Name) → wrapAt work w x ≡ x
   unfolding wrapStep byTag
   wrapAt-other a b c x = wrapAt-step work w x some-word ∙ rw (ne-eqb _ _ a, ne-eqb _ _ b, ne-eqb _ _ c)
 
@@ -238,12 +239,12 @@ module _ (work : List ℕ) (R : Name → Name → Type 0) (by-mark : (m : ℕ) (
   wrapFrom-keeps zero w x y r = r
   wrapFrom-keeps (suc gas) w x y r =
       let once : (v : ℕ) → R (wrapFrom work gas v x) (wrapFrom work gas v y) = λ v. wrapFrom-keeps gas v x y r in
-      either (eqb (wordAt work w 1) 1)
-      (λ a. rw a (by-mark (wordAt work w 3) _ _ (once (referenceAt work w 2))))
+      either (eqb (wordAt work w TAG) 1)
+      (λ a. rw a (by-mark (wordAt work w STEP) _ _ (once (referenceAt work w INNER))))
       (λ a.
-      either (eqb (wordAt work w 1) 2)
-      (λ b. rw (a, b) (wrapFrom-keeps gas (referenceAt work w 3) _ _ (once (referenceAt work w 2))))
-      (λ b. either (eqb (wordAt work w 1) 3) (λ c. rw (a, b, c) (by-binder (wrapFrom work gas) w _ _ (once (referenceAt work w 2)))) (λ c. rw (a, b, c) r)))
+      either (eqb (wordAt work w TAG) 2)
+      (λ b. rw (a, b) (wrapFrom-keeps gas (referenceAt work w OUTER) _ _ (once (referenceAt work w INNER))))
+      (λ b. either (eqb (wordAt work w TAG) 3) (λ c. rw (a, b, c) (by-binder (wrapFrom work gas) w _ _ (once (referenceAt work w INNER)))) (λ c. rw (a, b, c) r)))
 
   pub wrapAt-keeps : (w : ℕ) (x y : Name) → R x y → R (wrapAt work w x) (wrapAt work w y)
   unfolding wrapAt
@@ -287,10 +288,10 @@ same-shape true true true true true false p q r = sym (r refl refl refl)
 
 -- a binder's cell says this of its own name
 pub record Own (work : List ℕ) (w : ℕ) (i : Name) : Type 0 where
-  pub number-is : wordAt work w 5 ≡ i .number
-  pub binding-is : wordAt work w 4 ≡ bindingKey (i .binding)
-  pub count-is : wordAt work w 6 ≡ length (i .marks)
-  pub newest-is : wordAt work w 7 ≡ newest (i .marks)
+  pub number-is : wordAt work w BOUND-NUMBER ≡ i .number
+  pub binding-is : wordAt work w BOUND-KEY ≡ bindingKey (i .binding)
+  pub count-is : wordAt work w BOUND-COUNT ≡ length (i .marks)
+  pub newest-is : wordAt work w BOUND-NEWEST ≡ newest (i .marks)
   pub marks-are : ownMarks work (wrapAt work) w ≡ i .marks
 
 isOwn-same : (work : List ℕ) (w : ℕ) (i x : Name) → Own work w i → isOwn work (wrapAt work) w x ≡ same i x
@@ -302,6 +303,6 @@ isOwn-same work w i x o =
     (λ t. eq-eqb _ _ (ap newest (equal-true (i .marks) (x .marks) t)))
     (few-equal (i .marks) (x .marks)))
 
-pub rebound-is : (work : List ℕ) (w : ℕ) (i : Name) (b : Binding) (x : Name) → Own work w i → wordAt work w 3 ≡ bindingKey (some b) → rebound work (wrapAt work) w x ≡ bindName i b x
+pub rebound-is : (work : List ℕ) (w : ℕ) (i : Name) (b : Binding) (x : Name) → Own work w i → wordAt work w KEY ≡ bindingKey (some b) → rebound work (wrapAt work) w x ≡ bindName i b x
 unfolding rebound bindName giveKey giveBinding
 rebound-is work w i b x o e = rw (isOwn-same work w i x o, e, bindingOf-key (some b))

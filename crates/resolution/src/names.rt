@@ -20,6 +20,7 @@ use crate::marks::Compared;
 use crate::wraps;
 use crate::wraps::InHand;
 use arena::cells;
+use arena::cells::Binder;
 use arena::origins;
 
 // The numbers of the names that begin base forms, and of `...` and `_`.
@@ -277,18 +278,17 @@ pub fn bind(work: &mut [u32], top: u32, node: u32, w: u32, key: u32, parent: u32
     let number = number_of(work, node);
     let s = summary_of(work, node, w);
     let own = cells::reference(work, node, cells::OWN);
-    cells::put_binder(
-        work,
-        top,
-        number,
-        s.binding,
-        s.count as u32,
-        s.newest,
-        own,
-        w,
-        key,
-        parent,
-    )
+    let binder = Binder {
+        number: number,
+        binding: s.binding,
+        count: s.count as u32,
+        newest: s.newest,
+        own: own,
+        pending: w,
+        key: key,
+        parent: parent,
+    };
+    cells::put_binder(work, top, binder)
 }
 
 // What a name without a binding means: a base form, an operation by the table of their places, or nothing.

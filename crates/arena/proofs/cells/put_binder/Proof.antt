@@ -37,7 +37,7 @@ returns c =
     let put = c .before .before .before .before .before .before .before .before .before .before .put in
     let put2 = c .before .before .before .before .before .before .put2 in
     let put3 = c .before .before .put3 in
-    bound-cells (a .number) (a .binding) (a .count) (a .newest) (a .own) (a .pending) (a .key) (a .parent) (a .work .now) _ _ _ (a .top) _ _ _
+    bound-cells (a .binder) (a .work .now) _ _ _ (a .top) _ _ _
     (pre .1) (pre .2) (pre .3) (put .ensures) (put2 .ensures) (put3 .ensures)
 
 pub put-binder-spec : {M : Type 1} → statement M
