@@ -12,6 +12,7 @@ use Rattle.expansion.specs.Rules.{Pattern, variableP, literalP, wildcardP, cons
 use Rattle.arena.specs.Arena.{wordAt, falling, referenceAt, wrapAt, wrapFrom, nodeName, nameAt}
 use Rattle.arena.specs.ArenaLaws.{wordAt-below, referenceAt-below, referenceAt-falls, take-less, wrapAt-below}
 use Rattle.arena.specs.NodeLaws.{nameAt-agree}
+use Rattle.rule_cells.specs.Offsets.{TAG, HEAD, REST, PATTERN-NUMBER, FOLLOWING, NUMBER, DEPTH, NODE, WRAP, NEXT}
 use Rattle.words.specs.Lists.{within}
 use Rattle.rule_cells.specs.Cells.{constantBefore, literalAt, patternStep, patternFrom, patternAt, templateStep, templateFrom, templateAt, ruleAt, rulesFrom, rulesAt}
 
@@ -135,7 +136,7 @@ templateAt-step w (suc at) = templateAt-whole w (suc at) (omega arith)
 
 -- one rule, then those after it
 rulesStep : List ℕ → (ℕ → List Rule) → ℕ → List Rule
-rulesStep w later at = cond (eqb at 0) [] (ruleAt w at ∷ later (referenceAt w at 1))
+rulesStep w later at = cond (eqb at 0) [] (ruleAt w at ∷ later (referenceAt w at NEXT))
 
 rulesStep-agree : (a b : List ℕ) (at : ℕ) → 0 < at → take at a ≡ take at b → (f g : ℕ → List Rule) → ((r : ℕ) → r < at → f r ≡ g r) → rulesStep a f at ≡ rulesStep b g at
 unfolding rulesStep
@@ -163,59 +164,59 @@ rulesAt-whole = from-whole rulesFrom rulesStep [] rulesFrom-step rulesFrom-none 
 -- ---- what each cell of a pattern means
 
 module _ (work : List ℕ) (at : ℕ) where
-  pub patternAt-variable : wordAt work at 1 ≡ 1 → patternAt work at ≡ variableP (wordAt work at 2)
+  pub patternAt-variable : wordAt work at TAG ≡ 1 → patternAt work at ≡ variableP (wordAt work at PATTERN-NUMBER)
   unfolding patternStep
   patternAt-variable e = patternAt-step work at ∙ rw e refl
 
-  pub patternAt-literal : wordAt work at 1 ≡ 2 → patternAt work at ≡ literalP (literalAt work at)
+  pub patternAt-literal : wordAt work at TAG ≡ 2 → patternAt work at ≡ literalP (literalAt work at)
   unfolding patternStep
   patternAt-literal e = patternAt-step work at ∙ rw e refl
 
-  pub patternAt-wildcard : wordAt work at 1 ≡ 3 → patternAt work at ≡ wildcardP
+  pub patternAt-wildcard : wordAt work at TAG ≡ 3 → patternAt work at ≡ wildcardP
   unfolding patternStep
   patternAt-wildcard e = patternAt-step work at ∙ rw e refl
 
-  pub patternAt-constant : wordAt work at 1 ≡ 4 → patternAt work at ≡ constantP (constantBefore work at)
+  pub patternAt-constant : wordAt work at TAG ≡ 4 → patternAt work at ≡ constantP (constantBefore work at)
   unfolding patternStep
   patternAt-constant e = patternAt-step work at ∙ rw e refl
 
-  pub patternAt-pair : wordAt work at 1 ≡ 6 → patternAt work at ≡ pairP (patternAt work (referenceAt work at 3)) (patternAt work (referenceAt work at 2))
+  pub patternAt-pair : wordAt work at TAG ≡ 6 → patternAt work at ≡ pairP (patternAt work (referenceAt work at HEAD)) (patternAt work (referenceAt work at REST))
   unfolding patternStep
   patternAt-pair e = patternAt-step work at ∙ rw e refl
 
-  pub patternAt-ellipsis : wordAt work at 1 ≡ 7 → patternAt work at ≡ ellipsisP (patternAt work (referenceAt work at 3)) (wordAt work at 4) (patternAt work (referenceAt work at 2))
+  pub patternAt-ellipsis : wordAt work at TAG ≡ 7 → patternAt work at ≡ ellipsisP (patternAt work (referenceAt work at HEAD)) (wordAt work at FOLLOWING) (patternAt work (referenceAt work at REST))
   unfolding patternStep
   patternAt-ellipsis e = patternAt-step work at ∙ rw e refl
 
   -- any other tag
-  pub patternAt-empty : (wordAt work at 1 ≡ 1 → ⊥) → (wordAt work at 1 ≡ 2 → ⊥) → (wordAt work at 1 ≡ 3 → ⊥) → (wordAt work at 1 ≡ 4 → ⊥) → (wordAt work at 1 ≡ 6 → ⊥) → (wordAt work at 1 ≡ 7 → ⊥) → patternAt work at ≡ emptyP
+  pub patternAt-empty : (wordAt work at TAG ≡ 1 → ⊥) → (wordAt work at TAG ≡ 2 → ⊥) → (wordAt work at TAG ≡ 3 → ⊥) → (wordAt work at TAG ≡ 4 → ⊥) → (wordAt work at TAG ≡ 6 → ⊥) → (wordAt work at TAG ≡ 7 → ⊥) → patternAt work at ≡ emptyP
   unfolding patternStep
   patternAt-empty n1 n2 n3 n4 n6 n7 = patternAt-step work at ∙ rw (ne-eqb _ _ n1, ne-eqb _ _ n2, ne-eqb _ _ n3, ne-eqb _ _ n4, ne-eqb _ _ n6, ne-eqb _ _ n7)
 
   -- ---- what each cell of a template means
 
-  pub templateAt-variable : wordAt work at 1 ≡ 1 → templateAt work at ≡ variableT (wordAt work at 3) (wordAt work at 2)
+  pub templateAt-variable : wordAt work at TAG ≡ 1 → templateAt work at ≡ variableT (wordAt work at NUMBER) (wordAt work at DEPTH)
   unfolding templateStep
   templateAt-variable e = templateAt-step work at ∙ rw e refl
 
-  pub templateAt-insert : wordAt work at 1 ≡ 2 → templateAt work at ≡ insertT (nameAt work (referenceAt work at 3) (referenceAt work at 2))
+  pub templateAt-insert : wordAt work at TAG ≡ 2 → templateAt work at ≡ insertT (nameAt work (referenceAt work at NODE) (referenceAt work at WRAP))
   unfolding templateStep
   templateAt-insert e = templateAt-step work at ∙ rw e refl
 
-  pub templateAt-constant : wordAt work at 1 ≡ 4 → templateAt work at ≡ constantT (constantBefore work at)
+  pub templateAt-constant : wordAt work at TAG ≡ 4 → templateAt work at ≡ constantT (constantBefore work at)
   unfolding templateStep
   templateAt-constant e = templateAt-step work at ∙ rw e refl
 
-  pub templateAt-pair : wordAt work at 1 ≡ 6 → templateAt work at ≡ pairT (templateAt work (referenceAt work at 3)) (templateAt work (referenceAt work at 2))
+  pub templateAt-pair : wordAt work at TAG ≡ 6 → templateAt work at ≡ pairT (templateAt work (referenceAt work at HEAD)) (templateAt work (referenceAt work at REST))
   unfolding templateStep
   templateAt-pair e = templateAt-step work at ∙ rw e refl
 
-  pub templateAt-ellipsis : wordAt work at 1 ≡ 7 → templateAt work at ≡ ellipsisT (templateAt work (referenceAt work at 3)) (templateAt work (referenceAt work at 2))
+  pub templateAt-ellipsis : wordAt work at TAG ≡ 7 → templateAt work at ≡ ellipsisT (templateAt work (referenceAt work at HEAD)) (templateAt work (referenceAt work at REST))
   unfolding templateStep
   templateAt-ellipsis e = templateAt-step work at ∙ rw e refl
 
   -- any other tag
-  pub templateAt-empty : (wordAt work at 1 ≡ 1 → ⊥) → (wordAt work at 1 ≡ 2 → ⊥) → (wordAt work at 1 ≡ 4 → ⊥) → (wordAt work at 1 ≡ 6 → ⊥) → (wordAt work at 1 ≡ 7 → ⊥) → templateAt work at ≡ emptyT
+  pub templateAt-empty : (wordAt work at TAG ≡ 1 → ⊥) → (wordAt work at TAG ≡ 2 → ⊥) → (wordAt work at TAG ≡ 4 → ⊥) → (wordAt work at TAG ≡ 6 → ⊥) → (wordAt work at TAG ≡ 7 → ⊥) → templateAt work at ≡ emptyT
   unfolding templateStep
   templateAt-empty n1 n2 n4 n6 n7 = templateAt-step work at ∙ rw (ne-eqb _ _ n1, ne-eqb _ _ n2, ne-eqb _ _ n4, ne-eqb _ _ n6, ne-eqb _ _ n7)
 
@@ -225,6 +226,6 @@ module _ (work : List ℕ) (at : ℕ) where
   unfolding rulesAt
   rulesAt-none e = rw e (rulesFrom-none work 0)
 
-  pub rulesAt-more : 0 < at → rulesAt work at ≡ ruleAt work at ∷ rulesAt work (referenceAt work at 1)
+  pub rulesAt-more : 0 < at → rulesAt work at ≡ ruleAt work at ∷ rulesAt work (referenceAt work at NEXT)
   unfolding rulesStep
   rulesAt-more h = rulesAt-whole work at h ∙ rw (ne-eqb at 0 (λ z. omega arith))

@@ -14,6 +14,7 @@ use Rattle.datum.specs.Constant.{Constant}
 use Rattle.recipe.specs.Name.{Name, isWildcard, bindingKey}
 use Rattle.recipe.specs.Tree.{Tree, empty, constant, name, pair, size, names, onName, onPair, elements, tail}
 use Rattle.expansion.specs.Rules.{Pattern, variableP, literalP, wildcardP, constantP, emptyP, pairP, ellipsisP, dotsNext, depthBefore, isVariable, variables, patternOf}
+use Rattle.arena.specs.Offsets.{KIND, HEAD, TAIL, FIRST, SECOND}
 use Rattle.arena.specs.Arena.{wordAt, referenceAt, nameAt, constantAt, treeAt}
 use Rattle.words.specs.ListLaws.{either}
 use Rattle.arena.specs.NodeLaws.{treeAt-empty, treeAt-name, treeAt-constant}
@@ -85,21 +86,21 @@ module _ (dots : Name → Bool) (literals : List Name) (k : ℕ) (x : Name) wher
 -- ---- leaves
 
 module _ (dots : Name → Bool) (literals : List Name) (k : ℕ) (old : List ℕ) (node w top : ℕ) where
-  pub left-name : (new : List ℕ) (r : Parsed) → wordAt old node 3 ≡ 3 → PatternLeft dots literals k false (name (nameAt old node w)) old new top r → PatternLeft dots literals k false (treeAt old node w) old new top r
+  pub left-name : (new : List ℕ) (r : Parsed) → wordAt old node KIND ≡ 3 → PatternLeft dots literals k false (name (nameAt old node w)) old new top r → PatternLeft dots literals k false (treeAt old node w) old new top r
   left-name new r e g = subst (λ (t : Tree). PatternLeft dots literals k false t old new top r) (sym (treeAt-name old node w e)) g
 
   empty-left : PatternLeft dots literals k false empty old old top (Good 0 top k)
   unfolding patternOf variables
   empty-left = record { means = ap some (sym (patternAt-none old)); counts = omega arith; grows = grows-nothing empty old top }
 
-  pub left-empty : wordAt old node 3 ≡ 0 → PatternLeft dots literals k false (treeAt old node w) old old top (Good 0 top k)
+  pub left-empty : wordAt old node KIND ≡ 0 → PatternLeft dots literals k false (treeAt old node w) old old top (Good 0 top k)
   left-empty e = subst (λ (t : Tree). PatternLeft dots literals k false t old old top (Good 0 top k)) (sym (treeAt-empty old node w e)) empty-left
 
   constant-left : (a : Constant) (new : List ℕ) (r : ℕ) → Made patternAt (constantP a) old new top r → PatternLeft dots literals k false (constant a) old new top (Good r r k)
   unfolding patternOf variables
   constant-left a new r c = record { means = ap some (sym (c .means)); counts = omega arith; grows = grows-leaf (constant a) old new top r (c .end) (c .kept) }
 
-  pub left-constant : (kind first second : ℕ) (new : List ℕ) (r : ℕ) → kind ≡ wordAt old node 3 → first ≡ wordAt old node 2 → second ≡ wordAt old node 1 → (wordAt old node 3 ≡ 0 → ⊥) → (wordAt old node 3 ≡ 3 → ⊥) → (wordAt old node 3 ≡ 4 → ⊥) → Made patternAt (constantP (record { kind = kind; first = first; second = second })) old new top r → PatternLeft dots literals k false (treeAt old node w) old new top (Good r r k)
+  pub left-constant : (kind first second : ℕ) (new : List ℕ) (r : ℕ) → kind ≡ wordAt old node KIND → first ≡ wordAt old node FIRST → second ≡ wordAt old node SECOND → (wordAt old node KIND ≡ 0 → ⊥) → (wordAt old node KIND ≡ 3 → ⊥) → (wordAt old node KIND ≡ 4 → ⊥) → Made patternAt (constantP (record { kind = kind; first = first; second = second })) old new top r → PatternLeft dots literals k false (treeAt old node w) old new top (Good r r k)
   unfolding constantAt
   left-constant kind first second new r e f g n0 n3 n4 c =
       let is : constant (record { kind = kind; first = first; second = second }) ≡ treeAt old node w = rw (e, f, g) (sym (treeAt-constant old node w n0 n3 n4)) in
@@ -209,12 +210,12 @@ module _ (dots : Name → Bool) (literals : List Name) (k : ℕ) (taken : Bool) 
   left-as Bad m = (sym same ∙ m .0, m .1)
 
 -- a leaf may begin after the ellipsis or not
-leaf-taken : (dots : Name → Bool) (literals : List Name) (k : ℕ) (taken : Bool) (old : List ℕ) (node w : ℕ) → (wordAt old node 3 ≡ 4 → ⊥) → patternOf dots literals k false (treeAt old node w) ≡ patternOf dots literals k taken (treeAt old node w)
+leaf-taken : (dots : Name → Bool) (literals : List Name) (k : ℕ) (taken : Bool) (old : List ℕ) (node w : ℕ) → (wordAt old node KIND ≡ 4 → ⊥) → patternOf dots literals k false (treeAt old node w) ≡ patternOf dots literals k taken (treeAt old node w)
 unfolding patternOf
 leaf-taken dots literals k taken old node w n =
     tree-cases old node w (λ t. patternOf dots literals k false t ≡ patternOf dots literals k taken t) (λ e. refl) (λ e. refl) (λ e. absurd (n e)) (λ p q r. refl)
 
-pub left-leaf : (dots : Name → Bool) (literals : List Name) (k : ℕ) (taken : Bool) (old : List ℕ) (node w top : ℕ) (new : List ℕ) (r : Parsed) → (wordAt old node 3 ≡ 4 → ⊥)
+pub left-leaf : (dots : Name → Bool) (literals : List Name) (k : ℕ) (taken : Bool) (old : List ℕ) (node w top : ℕ) (new : List ℕ) (r : Parsed) → (wordAt old node KIND ≡ 4 → ⊥)
     → PatternLeft dots literals k false (treeAt old node w) old new top r → PatternLeft dots literals k taken (treeAt old node w) old new top r
 left-leaf dots literals k taken old node w top new r n m = left-as dots literals k taken _ _ old new top (leaf-taken dots literals k taken old node w n) refl (omega arith) r m
 
@@ -225,14 +226,8 @@ behind-count work rest after n followed m c w e = c .is w ∙ ap (λ (t : Tree).
 pub behind-none : (work : List ℕ) (rest : ℕ) (followed : Bool) → followed ≡ false → Behind work rest followed 0
 behind-none work rest followed e w f = absurd (false≢true (sym e ∙ f))
 
-pub list-ellipsis : (work new : List ℕ) (followed : Bool) (a n b top r : ℕ) → followed ≡ true → Made patternAt (ellipsisP (patternAt work a) n (patternAt work b)) work new top r → Made patternAt (cond followed (ellipsisP (patternAt work a) n (patternAt work b)) (pairP (patternAt work a) (patternAt work b))) work new top r
-list-ellipsis work new followed a n b top r e m = rw e m
-
-pub list-pair : (work new : List ℕ) (followed : Bool) (a n b top r : ℕ) → followed ≡ false → Made patternAt (pairP (patternAt work a) (patternAt work b)) work new top r → Made patternAt (cond followed (ellipsisP (patternAt work a) n (patternAt work b)) (pairP (patternAt work a) (patternAt work b))) work new top r
-list-pair work new followed a n b top r e m = rw e m
-
 -- what is left after each way through a pair
-module _ (old : List ℕ) (dots literals node w k top : ℕ) (asks : Asks old node w top) (dots-below : dots ≤ top) (literals-below : literals ≤ top) (head rest : ℕ) (e : wordAt old node 3 ≡ 4) (f : head ≡ referenceAt old node 2) (g : rest ≡ referenceAt old node 1) where
+module _ (old : List ℕ) (dots literals node w k top : ℕ) (asks : Asks old node w top) (dots-below : dots ≤ top) (literals-below : literals ≤ top) (head rest : ℕ) (e : wordAt old node KIND ≡ 4) (f : head ≡ referenceAt old node HEAD) (g : rest ≡ referenceAt old node TAIL) where
   abbrev ds : Name → Bool
   ds = dotsAt old dots w
 

@@ -14,6 +14,7 @@ use Rattle.recipe.specs.Name.{Name}
 use Rattle.recipe.specs.Tree.{Tree, empty, constant, name, pair, size, names, onName, onPair, isName, isList, isListOf, elements, element, tail}
 use Rattle.recipe.specs.TreeLaws.{element-tail}
 use Rattle.expansion.specs.Rules.{afterChosen, literalList, ellipsisOf, rulePattern, matchedPart, ruleTemplate, ruleList, Rule, ruleOf, isRulesForm, rulesOf}
+use Rattle.arena.specs.Offsets.{KIND, HEAD, TAIL}
 use Rattle.arena.specs.Arena.{wordAt, referenceAt, nameAt, treeAt}
 use Rattle.words.specs.ListLaws.{either}
 use Rattle.arena.specs.ArenaLaws.{take-less}
@@ -41,11 +42,11 @@ module _ (work : List ℕ) (dots node w : ℕ) where
     first-is : element 0 (rulePattern (treeAt work node w)) ≡ treeAt work first w
     first-is = sym (q .is w ∙ ap (element 0) (p .is w))
 
-    pub shape-other : (wordAt work first 3 ≡ 3 → ⊥) → false ≡ ruleShape (dotsAt work dots w) (treeAt work node w)
+    pub shape-other : (wordAt work first KIND ≡ 3 → ⊥) → false ≡ ruleShape (dotsAt work dots w) (treeAt work node w)
     unfolding ruleShape
     shape-other n = rw (← l, first-is, no-name work first w (λ x. not (dotsAt work dots w x)) false n) refl
 
-    pub shape-by : (b : Bool) → wordAt work first 3 ≡ 3 → b ≡ dotsAt work dots w (nameAt work first w) → not b ≡ ruleShape (dotsAt work dots w) (treeAt work node w)
+    pub shape-by : (b : Bool) → wordAt work first KIND ≡ 3 → b ≡ dotsAt work dots w (nameAt work first w) → not b ≡ ruleShape (dotsAt work dots w) (treeAt work node w)
     unfolding ruleShape onName
     shape-by b e f = rw (← l, first-is, treeAt-name work first w e, ← f) refl
 
@@ -153,7 +154,7 @@ module _ (old : List ℕ) (dots literals node w top : ℕ) (asks : Asks old node
   abbrev answer : Tree → Option (List Rule)
   answer t = traverse (ruleOf told names-listed) (elements t)
 
-  pub left-end : (wordAt old node 3 ≡ 4 → ⊥) → RulesLeft (answer (treeAt old node w)) (size (treeAt old node w)) old old top (At 0 top)
+  pub left-end : (wordAt old node KIND ≡ 4 → ⊥) → RulesLeft (answer (treeAt old node w)) (size (treeAt old node w)) old old top (At 0 top)
   unfolding traverse
   left-end n =
       record {
@@ -164,7 +165,7 @@ module _ (old : List ℕ) (dots literals node w top : ℕ) (asks : Asks old node
         kept = refl;
       }
 
-  module _ (head rest : ℕ) (e : wordAt old node 3 ≡ 4) (f : head ≡ referenceAt old node 2) (g : rest ≡ referenceAt old node 1) where
+  module _ (head rest : ℕ) (e : wordAt old node KIND ≡ 4) (f : head ≡ referenceAt old node HEAD) (g : rest ≡ referenceAt old node TAIL) where
     abbrev h : Tree
     h = treeAt old head w
 

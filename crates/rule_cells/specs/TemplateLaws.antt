@@ -12,6 +12,7 @@ use Rattle.datum.specs.Constant.{Constant}
 use Rattle.recipe.specs.Name.{Name}
 use Rattle.recipe.specs.Tree.{Tree, empty, constant, name, pair, size, onEmpty, onName, onPair, isList, isListOf, elements, element}
 use Rattle.expansion.specs.Rules.{Template, variableT, insertT, constantT, emptyT, pairT, ellipsisT, drivers, isDriven, depthFits, variableFrom, nameTemplate, listTemplate, Place, asElement, asRest, asTaken, asEscaped, noEllipsis, dotsNext, depthBefore, placeAfter, templateOf}
+use Rattle.arena.specs.Offsets.{KIND, HEAD, TAIL, FIRST, SECOND}
 use Rattle.arena.specs.Arena.{wordAt, referenceAt, nameAt, constantAt, treeAt}
 use Rattle.words.specs.ListLaws.{either}
 use Rattle.arena.specs.NodeLaws.{treeAt-empty, treeAt-name, treeAt-constant}
@@ -78,21 +79,21 @@ module _ (dots : Name → Bool) (vs : List (Name × ℕ)) (d : ℕ) (x : Name) w
 -- ---- leaves
 
 module _ (dots : Name → Bool) (vs : List (Name × ℕ)) (d : ℕ) (old : List ℕ) (node w top : ℕ) where
-  pub left-name : (new : List ℕ) (r : Built) → wordAt old node 3 ≡ 3 → TemplateLeft dots vs d asElement (name (nameAt old node w)) old new top r → TemplateLeft dots vs d asElement (treeAt old node w) old new top r
+  pub left-name : (new : List ℕ) (r : Built) → wordAt old node KIND ≡ 3 → TemplateLeft dots vs d asElement (name (nameAt old node w)) old new top r → TemplateLeft dots vs d asElement (treeAt old node w) old new top r
   left-name new r e g = subst (λ (t : Tree). TemplateLeft dots vs d asElement t old new top r) (sym (treeAt-name old node w e)) g
 
   empty-left : TemplateLeft dots vs d asElement empty old old top (At 0 top)
   unfolding templateOf
   empty-left = record { means = ap some (sym (templateAt-none old)); grows = grows-nothing empty old top }
 
-  pub left-empty : wordAt old node 3 ≡ 0 → TemplateLeft dots vs d asElement (treeAt old node w) old old top (At 0 top)
+  pub left-empty : wordAt old node KIND ≡ 0 → TemplateLeft dots vs d asElement (treeAt old node w) old old top (At 0 top)
   left-empty e = subst (λ (t : Tree). TemplateLeft dots vs d asElement t old old top (At 0 top)) (sym (treeAt-empty old node w e)) empty-left
 
   constant-left : (a : Constant) (new : List ℕ) (r : ℕ) → Made templateAt (constantT a) old new top r → TemplateLeft dots vs d asElement (constant a) old new top (At r r)
   unfolding templateOf
   constant-left a new r c = record { means = ap some (sym (c .means)); grows = grows-leaf (constant a) old new top r (c .end) (c .kept) }
 
-  pub left-constant : (kind first second : ℕ) (new : List ℕ) (r : ℕ) → kind ≡ wordAt old node 3 → first ≡ wordAt old node 2 → second ≡ wordAt old node 1 → (wordAt old node 3 ≡ 0 → ⊥) → (wordAt old node 3 ≡ 3 → ⊥) → (wordAt old node 3 ≡ 4 → ⊥) → Made templateAt (constantT (record { kind = kind; first = first; second = second })) old new top r → TemplateLeft dots vs d asElement (treeAt old node w) old new top (At r r)
+  pub left-constant : (kind first second : ℕ) (new : List ℕ) (r : ℕ) → kind ≡ wordAt old node KIND → first ≡ wordAt old node FIRST → second ≡ wordAt old node SECOND → (wordAt old node KIND ≡ 0 → ⊥) → (wordAt old node KIND ≡ 3 → ⊥) → (wordAt old node KIND ≡ 4 → ⊥) → Made templateAt (constantT (record { kind = kind; first = first; second = second })) old new top r → TemplateLeft dots vs d asElement (treeAt old node w) old new top (At r r)
   unfolding constantAt
   left-constant kind first second new r e f g n0 n3 n4 c =
       let is : constant (record { kind = kind; first = first; second = second }) ≡ treeAt old node w = rw (e, f, g) (sym (treeAt-constant old node w n0 n3 n4)) in
@@ -189,7 +190,7 @@ module _ (old new : List ℕ) (w top : ℕ) (wrap-below : w ≤ top) (kept : tak
   variables-kept n u = variables-from 0 n (λ j l. u j (omega arith))
 
 -- a leaf means the same wherever it stands
-leaf-placed : (dots : Name → Bool) (vs : List (Name × ℕ)) (d : ℕ) (place : Place) (old : List ℕ) (node w : ℕ) → (wordAt old node 3 ≡ 4 → ⊥) → templateOf dots vs d asElement (treeAt old node w) ≡ templateOf dots vs d place (treeAt old node w)
+leaf-placed : (dots : Name → Bool) (vs : List (Name × ℕ)) (d : ℕ) (place : Place) (old : List ℕ) (node w : ℕ) → (wordAt old node KIND ≡ 4 → ⊥) → templateOf dots vs d asElement (treeAt old node w) ≡ templateOf dots vs d place (treeAt old node w)
 unfolding templateOf
 leaf-placed dots vs d place old node w n =
     tree-cases old node w (λ t. templateOf dots vs d asElement t ≡ templateOf dots vs d place t) (λ e. refl) (λ e. refl) (λ e. absurd (n e)) (λ p q r. refl)
@@ -204,11 +205,11 @@ module _ (vs : List (Name × ℕ)) (old new : List ℕ) (top d : ℕ) (dots dots
       }
   left-as None m = (sym same ∙ m .0, m .1)
 
-pub left-leaf : (dots : Name → Bool) (vs : List (Name × ℕ)) (d : ℕ) (place : Place) (old : List ℕ) (node w top : ℕ) (new : List ℕ) (r : Built) → (wordAt old node 3 ≡ 4 → ⊥) → TemplateLeft dots vs d asElement (treeAt old node w) old new top r → TemplateLeft dots vs d place (treeAt old node w) old new top r
+pub left-leaf : (dots : Name → Bool) (vs : List (Name × ℕ)) (d : ℕ) (place : Place) (old : List ℕ) (node w top : ℕ) (new : List ℕ) (r : Built) → (wordAt old node KIND ≡ 4 → ⊥) → TemplateLeft dots vs d asElement (treeAt old node w) old new top r → TemplateLeft dots vs d place (treeAt old node w) old new top r
 left-leaf dots vs d place old node w top new r n m = left-as vs old new top d dots dots place asElement _ _ (leaf-placed dots vs d place old node w n) (omega arith) r m
 
 -- what is left after each way through a pair
-module _ (old : List ℕ) (vars : List ℕ) (count dots node w d top : ℕ) (asks : Asks old node w top) (under : Under vars count top) (dots-below : dots ≤ top) (head rest : ℕ) (e : wordAt old node 3 ≡ 4) (f : head ≡ referenceAt old node 2) (g : rest ≡ referenceAt old node 1) where
+module _ (old : List ℕ) (vars : List ℕ) (count dots node w d top : ℕ) (asks : Asks old node w top) (under : Under vars count top) (dots-below : dots ≤ top) (head rest : ℕ) (e : wordAt old node KIND ≡ 4) (f : head ≡ referenceAt old node HEAD) (g : rest ≡ referenceAt old node TAIL) where
   abbrev ds : Name → Bool
   ds = dotsAt old dots w
 

@@ -14,6 +14,13 @@ use arena::cells;
 use arena::lists;
 use resolution::names;
 
+// What the rules of a form are read by: its ellipsis (`dots` says how), the list of its literals, and the wrap that waits on all of it.
+pub struct Form {
+    pub dots: u32,
+    pub literals: u32,
+    pub wrap: u32,
+}
+
 // The number of syntax-rules.
 const SYNTAX_RULES: u32 = 5;
 

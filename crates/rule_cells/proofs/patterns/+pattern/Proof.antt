@@ -11,23 +11,22 @@ use Rattle.rule_cells.proofs.dots.crowded.Reads as crowded-reads
 use Rattle.rule_cells.proofs.dots.dots_next.Reads as dots-next-reads
 use Rattle.rule_cells.proofs.patterns.following.Reads as following-reads
 use Rattle.rule_cells.proofs.patterns.pattern_leaf.Reads as pattern-leaf-reads
-use Rattle.rule_cells.proofs.patterns.put_list.Reads as put-list-reads
+use Rattle.rule_cells.proofs.constructors.put_list.Reads as put-list-reads
 use Rattle.rule_cells.proofs.patterns.+pattern.{statement}
 use Rattle.rule_cells.proofs.patterns.+pattern.Tie.{close}
 use borrow.Author.Needs.{needs}
 use Rattle.rule_cells.specs.ParseLaws.{asks-head, asks-tail, asks-rest, room-pair, head-below, rest-below}
 use Rattle.rule_cells.specs.PatternLaws.{left-leaf, left-taken, left-crowded, left-bad, made-head, left-bad-rest, made-rest, left-list, small-head, small-tail, small-rest, literals-still, dots-still, begins-still}
-use Rattle.rule_cells.specs.Dots.{dotsAt}
-use Rattle.recipe.specs.Tree.{names}
 use Rattle.recipe.specs.TreeLaws.{size-positive}
 use Rattle.arena.specs.Arena.{treeAt}
 use mathlib.Core.Bool.{false≢true}
 use mathlib.Core.Path.{sym, _∙_}
 use native.Mathlib.Omega.{arith}
+use Rattle.rule_cells.specs.Scopes.{dotsOf, literalsOf}
 
 abbrev μ-pattern : Measures 1 pattern-kinds.ps ℕ
 μ-pattern κs a =
-    a .1 .1 .1 .0
+    a .1 .1 .0
 
 abbrev pattern-at : ℕ → In 1 pattern-kinds.ps
 pattern-at t = and 1 pattern-kinds.ps (is 1 pattern-kinds.ps μ-pattern t) pattern.Pre
@@ -42,13 +41,13 @@ pattern-pattern-leaf-requires : (t : ℕ) → pattern-lts.Need-pattern-leaf-requ
 pattern-pattern-leaf-requires t c κs =
     let a = c .before .before .before .before .before .args in
     let p = c .before .before .before .before .before .pre in
-    (p .1 .0, omega (arith, p .1 .3, size-positive (treeAt (a .work .now) (a .node) (a .w))), λ z. c .before .if1 .taken (c .before .before .word .ensures ∙ z))
+    (p .1 .0, omega (arith, p .1 .3, size-positive (treeAt (a .work .now) (a .node) (a .form .wrap))), λ z. c .before .if1 .taken (c .before .before .word .ensures ∙ z))
 
 pattern-returns : (t : ℕ) → pattern-lts.Need-returns (pattern-claims t) (pattern-at t) pattern.Post
 pattern-returns t c =
     let a = c .before .before .before .before .before .before .before .before .args in
     let l = c .before .before .pattern-leaf in
-    left-leaf (dotsAt (a .work .now) (a .dots) (a .w)) (names (treeAt (a .work .now) (a .literals) (a .w))) (a .k) (a .taken) (a .work .now) (a .node) (a .w) (a .top) (l .last .0) (l .result) (λ z. c .before .before .before .before .if1 .taken (c .before .before .before .before .before .word .ensures ∙ z)) (l .ensures)
+    left-leaf (dotsOf (a .work .now) (a .form)) (literalsOf (a .work .now) (a .form)) (a .k) (a .taken) (a .work .now) (a .node) (a .form .wrap) (a .top) (l .last .0) (l .result) (λ z. c .before .before .before .before .if1 .taken (c .before .before .before .before .before .word .ensures ∙ z)) (l .ensures)
 
 pattern-pattern-requires : (t : ℕ) → pattern-lts.Need-pattern-requires (pattern-claims t) (pattern-at t) pattern.Post
 pattern-pattern-requires t c κs =
@@ -58,7 +57,7 @@ pattern-pattern-requires t c κs =
     let is-pair = sym (c .before .before .before .before .before .before .before .word .ensures) ∙ c .before .before .before .before .before .before .if1 .left in
     let head-is = c .before .before .before .before .reference .ensures in
     let rest-is = c .before .before .reference2 .ensures in
-    (omega (arith, p .0, rest-below (a .work .now) (a .node) (a .w) (a .top) asks _ _ is-pair head-is rest-is), (asks-tail (a .work .now) (a .node) (a .w) (a .top) asks _ _ is-pair head-is rest-is, p .1 .1, p .1 .2, small-tail (a .work .now) (a .dots) (a .literals) (a .node) (a .w) (a .k) (a .top) asks (p .1 .1) (p .1 .2) _ _ is-pair head-is rest-is (p .1 .3), λ z. absurd (false≢true z)))
+    (omega (arith, p .0, rest-below (a .work .now) (a .node) (a .form .wrap) (a .top) asks _ _ is-pair head-is rest-is), (asks-tail (a .work .now) (a .node) (a .form .wrap) (a .top) asks _ _ is-pair head-is rest-is, p .1 .1, p .1 .2, small-tail (a .work .now) (a .form .dots) (a .form .literals) (a .node) (a .form .wrap) (a .k) (a .top) asks (p .1 .1) (p .1 .2) _ _ is-pair head-is rest-is (p .1 .3), λ z. absurd (false≢true z)))
 
 pattern-returns-2 : (t : ℕ) → pattern-lts.Need-returns-2 (pattern-claims t) (pattern-at t) pattern.Post
 pattern-returns-2 t c =
@@ -69,7 +68,7 @@ pattern-returns-2 t c =
     let head-is = c .before .before .before .before .before .before .before .reference .ensures in
     let rest-is = c .before .before .before .before .before .reference2 .ensures in
     let l = c .before .before .pattern in
-    left-taken (a .work .now) (a .dots) (a .literals) (a .node) (a .w) (a .k) (a .top) asks (p .1 .1) (p .1 .2) _ _ is-pair head-is rest-is (a .taken) (l .last .0) (l .result) (c .before .before .before .before .if2 .taken) (p .1 .4) (l .ensures)
+    left-taken (a .work .now) (a .form .dots) (a .form .literals) (a .node) (a .form .wrap) (a .k) (a .top) asks (p .1 .1) (p .1 .2) _ _ is-pair head-is rest-is (a .taken) (l .last .0) (l .result) (c .before .before .before .before .if2 .taken) (p .1 .4) (l .ensures)
 
 pattern-returns-3 : (t : ℕ) → pattern-lts.Need-returns-3 (pattern-claims t) (pattern-at t) pattern.Post
 pattern-returns-3 t c =
@@ -79,7 +78,7 @@ pattern-returns-3 t c =
     let is-pair = sym (c .before .before .before .before .before .before .before .before .before .before .before .word .ensures) ∙ c .before .before .before .before .before .before .before .before .before .before .if1 .left in
     let head-is = c .before .before .before .before .before .before .before .before .reference .ensures in
     let rest-is = c .before .before .before .before .before .before .reference2 .ensures in
-    left-crowded (a .work .now) (a .dots) (a .literals) (a .node) (a .w) (a .k) (a .top) asks (p .1 .1) (p .1 .2) _ _ is-pair head-is rest-is (a .taken) _ (c .before .before .before .before .before .if2 .left) (c .before .before .before .dots-next .ensures) (sym (c .if3 .taken) ∙ c .before .crowded .ensures)
+    left-crowded (a .work .now) (a .form .dots) (a .form .literals) (a .node) (a .form .wrap) (a .k) (a .top) asks (p .1 .1) (p .1 .2) _ _ is-pair head-is rest-is (a .taken) _ (c .before .before .before .before .before .if2 .left) (c .before .before .before .dots-next .ensures) (sym (c .if3 .taken) ∙ c .before .crowded .ensures)
 
 pattern-pattern-requires-2 : (t : ℕ) → pattern-lts.Need-pattern-requires-2 (pattern-claims t) (pattern-at t) pattern.Post
 pattern-pattern-requires-2 t c κs =
@@ -89,7 +88,7 @@ pattern-pattern-requires-2 t c κs =
     let is-pair = sym (c .before .before .before .before .before .before .before .before .before .before .before .before .before .before .word .ensures) ∙ c .before .before .before .before .before .before .before .before .before .before .before .before .before .if1 .left in
     let head-is = c .before .before .before .before .before .before .before .before .before .before .before .reference .ensures in
     let rest-is = c .before .before .before .before .before .before .before .before .before .reference2 .ensures in
-    (omega (arith, p .0, head-below (a .work .now) (a .node) (a .w) (a .top) asks _ _ is-pair head-is rest-is), (asks-head (a .work .now) (a .node) (a .w) (a .top) asks _ _ is-pair head-is rest-is, p .1 .1, p .1 .2, small-head (a .work .now) (a .dots) (a .literals) (a .node) (a .w) (a .k) (a .top) asks (p .1 .1) (p .1 .2) _ _ is-pair head-is rest-is (p .1 .3), λ z. absurd (false≢true z)))
+    (omega (arith, p .0, head-below (a .work .now) (a .node) (a .form .wrap) (a .top) asks _ _ is-pair head-is rest-is), (asks-head (a .work .now) (a .node) (a .form .wrap) (a .top) asks _ _ is-pair head-is rest-is, p .1 .1, p .1 .2, small-head (a .work .now) (a .form .dots) (a .form .literals) (a .node) (a .form .wrap) (a .k) (a .top) asks (p .1 .1) (p .1 .2) _ _ is-pair head-is rest-is (p .1 .3), λ z. absurd (false≢true z)))
 
 pattern-returns-4 : (t : ℕ) → pattern-lts.Need-returns-4 (pattern-claims t) (pattern-at t) pattern.Post
 pattern-returns-4 t c =
@@ -100,7 +99,7 @@ pattern-returns-4 t c =
     let head-is = c .before .before .before .before .before .before .before .before .before .before .before .before .before .before .before .before .reference .ensures in
     let rest-is = c .before .before .before .before .before .before .before .before .before .before .before .before .before .before .reference2 .ensures in
     let first = c .before .before .before .before .pattern2 in
-    left-bad (a .work .now) (a .dots) (a .literals) (a .node) (a .w) (a .k) (a .top) asks (p .1 .1) (p .1 .2) _ _ is-pair head-is rest-is (a .taken) _ (c .before .before .before .before .before .before .before .before .before .before .before .before .before .if2 .left) (c .before .before .before .before .before .before .before .before .before .before .before .dots-next .ensures) (first .last .0) _ (c .enum-told .given .1) (first .ensures)
+    left-bad (a .work .now) (a .form .dots) (a .form .literals) (a .node) (a .form .wrap) (a .k) (a .top) asks (p .1 .1) (p .1 .2) _ _ is-pair head-is rest-is (a .taken) _ (c .before .before .before .before .before .before .before .before .before .before .before .before .before .if2 .left) (c .before .before .before .before .before .before .before .before .before .before .before .dots-next .ensures) (first .last .0) _ (c .enum-told .given .1) (first .ensures)
 
 pattern-pattern-requires-3 : (t : ℕ) → pattern-lts.Need-pattern-requires-3 (pattern-claims t) (pattern-at t) pattern.Post
 pattern-pattern-requires-3 t c κs =
@@ -111,8 +110,8 @@ pattern-pattern-requires-3 t c κs =
     let head-is = c .before .before .before .before .before .before .before .before .before .before .before .before .before .before .before .before .before .before .reference .ensures in
     let rest-is = c .before .before .before .before .before .before .before .before .before .before .before .before .before .before .before .before .reference2 .ensures in
     let first = c .before .before .before .before .before .before .pattern2 in
-    let head = made-head (a .work .now) (a .dots) (a .literals) (a .node) (a .w) (a .k) (a .top) asks (p .1 .1) (p .1 .2) _ _ is-pair head-is rest-is (a .taken) _ (c .before .before .before .before .before .before .before .before .before .before .before .before .before .before .before .if2 .left) (c .before .before .before .before .before .before .before .before .before .before .before .before .before .dots-next .ensures) (first .last .0) _ _ _ _ (c .before .before .a .given .1) (first .ensures) in
-    (omega (arith, p .0, rest-below (a .work .now) (a .node) (a .w) (a .top) asks _ _ is-pair head-is rest-is), (asks-rest (a .work .now) (a .node) (a .w) (a .top) asks _ _ is-pair head-is rest-is _ _ _ (first .kept .0) (head .grows), dots-still (a .work .now) (a .dots) (a .literals) (a .node) (a .w) (a .k) (a .top) asks (p .1 .1) (p .1 .2) _ _ is-pair head-is rest-is (a .taken) _ (c .before .before .before .before .before .before .before .before .before .before .before .before .before .before .before .if2 .left) (c .before .before .before .before .before .before .before .before .before .before .before .before .before .dots-next .ensures) (first .last .0) _ _ _ (first .kept .0) head, literals-still (a .work .now) (a .dots) (a .literals) (a .node) (a .w) (a .k) (a .top) asks (p .1 .1) (p .1 .2) _ _ is-pair head-is rest-is (a .taken) _ (c .before .before .before .before .before .before .before .before .before .before .before .before .before .before .before .if2 .left) (c .before .before .before .before .before .before .before .before .before .before .before .before .before .dots-next .ensures) (first .last .0) _ _ _ (first .kept .0) head, small-rest (a .work .now) (a .dots) (a .literals) (a .node) (a .w) (a .k) (a .top) asks (p .1 .1) (p .1 .2) _ _ is-pair head-is rest-is (a .taken) _ (c .before .before .before .before .before .before .before .before .before .before .before .before .before .before .before .if2 .left) (c .before .before .before .before .before .before .before .before .before .before .before .before .before .dots-next .ensures) (first .last .0) _ _ _ (first .kept .0) head (p .1 .3), begins-still (a .work .now) (a .dots) (a .literals) (a .node) (a .w) (a .k) (a .top) asks (p .1 .1) (p .1 .2) _ _ is-pair head-is rest-is (a .taken) _ (c .before .before .before .before .before .before .before .before .before .before .before .before .before .before .before .if2 .left) (c .before .before .before .before .before .before .before .before .before .before .before .before .before .dots-next .ensures) (first .last .0) _ _ _ (first .kept .0) head))
+    let head = made-head (a .work .now) (a .form .dots) (a .form .literals) (a .node) (a .form .wrap) (a .k) (a .top) asks (p .1 .1) (p .1 .2) _ _ is-pair head-is rest-is (a .taken) _ (c .before .before .before .before .before .before .before .before .before .before .before .before .before .before .before .if2 .left) (c .before .before .before .before .before .before .before .before .before .before .before .before .before .dots-next .ensures) (first .last .0) _ _ _ _ (c .before .before .a .given .1) (first .ensures) in
+    (omega (arith, p .0, rest-below (a .work .now) (a .node) (a .form .wrap) (a .top) asks _ _ is-pair head-is rest-is), (asks-rest (a .work .now) (a .node) (a .form .wrap) (a .top) asks _ _ is-pair head-is rest-is _ _ _ (first .kept .0) (head .grows), dots-still (a .work .now) (a .form .dots) (a .form .literals) (a .node) (a .form .wrap) (a .k) (a .top) asks (p .1 .1) (p .1 .2) _ _ is-pair head-is rest-is (a .taken) _ (c .before .before .before .before .before .before .before .before .before .before .before .before .before .before .before .if2 .left) (c .before .before .before .before .before .before .before .before .before .before .before .before .before .dots-next .ensures) (first .last .0) _ _ _ (first .kept .0) head, literals-still (a .work .now) (a .form .dots) (a .form .literals) (a .node) (a .form .wrap) (a .k) (a .top) asks (p .1 .1) (p .1 .2) _ _ is-pair head-is rest-is (a .taken) _ (c .before .before .before .before .before .before .before .before .before .before .before .before .before .before .before .if2 .left) (c .before .before .before .before .before .before .before .before .before .before .before .before .before .dots-next .ensures) (first .last .0) _ _ _ (first .kept .0) head, small-rest (a .work .now) (a .form .dots) (a .form .literals) (a .node) (a .form .wrap) (a .k) (a .top) asks (p .1 .1) (p .1 .2) _ _ is-pair head-is rest-is (a .taken) _ (c .before .before .before .before .before .before .before .before .before .before .before .before .before .before .before .if2 .left) (c .before .before .before .before .before .before .before .before .before .before .before .before .before .dots-next .ensures) (first .last .0) _ _ _ (first .kept .0) head (p .1 .3), begins-still (a .work .now) (a .form .dots) (a .form .literals) (a .node) (a .form .wrap) (a .k) (a .top) asks (p .1 .1) (p .1 .2) _ _ is-pair head-is rest-is (a .taken) _ (c .before .before .before .before .before .before .before .before .before .before .before .before .before .before .before .if2 .left) (c .before .before .before .before .before .before .before .before .before .before .before .before .before .dots-next .ensures) (first .last .0) _ _ _ (first .kept .0) head))
 
 pattern-returns-5 : (t : ℕ) → pattern-lts.Need-returns-5 (pattern-claims t) (pattern-at t) pattern.Post
 pattern-returns-5 t c =
@@ -123,9 +122,9 @@ pattern-returns-5 t c =
     let head-is = c .before .before .before .before .before .before .before .before .before .before .before .before .before .before .before .before .before .before .before .before .before .before .before .reference .ensures in
     let rest-is = c .before .before .before .before .before .before .before .before .before .before .before .before .before .before .before .before .before .before .before .before .before .reference2 .ensures in
     let first = c .before .before .before .before .before .before .before .before .before .before .before .pattern2 in
-    let head = made-head (a .work .now) (a .dots) (a .literals) (a .node) (a .w) (a .k) (a .top) asks (p .1 .1) (p .1 .2) _ _ is-pair head-is rest-is (a .taken) _ (c .before .before .before .before .before .before .before .before .before .before .before .before .before .before .before .before .before .before .before .before .if2 .left) (c .before .before .before .before .before .before .before .before .before .before .before .before .before .before .before .before .before .before .dots-next .ensures) (first .last .0) _ _ _ _ (c .before .before .before .before .before .before .before .a .given .1) (first .ensures) in
+    let head = made-head (a .work .now) (a .form .dots) (a .form .literals) (a .node) (a .form .wrap) (a .k) (a .top) asks (p .1 .1) (p .1 .2) _ _ is-pair head-is rest-is (a .taken) _ (c .before .before .before .before .before .before .before .before .before .before .before .before .before .before .before .before .before .before .before .before .if2 .left) (c .before .before .before .before .before .before .before .before .before .before .before .before .before .before .before .before .before .before .dots-next .ensures) (first .last .0) _ _ _ _ (c .before .before .before .before .before .before .before .a .given .1) (first .ensures) in
     let second = c .before .before .before .before .pattern3 in
-    left-bad-rest (a .work .now) (a .dots) (a .literals) (a .node) (a .w) (a .k) (a .top) asks (p .1 .1) (p .1 .2) _ _ is-pair head-is rest-is (a .taken) _ (c .before .before .before .before .before .before .before .before .before .before .before .before .before .before .before .before .before .before .before .before .if2 .left) (c .before .before .before .before .before .before .before .before .before .before .before .before .before .before .before .before .before .before .dots-next .ensures) (first .last .0) _ _ _ (first .kept .0) head (second .last .0) _ (c .enum-told2 .given .1) (second .ensures)
+    left-bad-rest (a .work .now) (a .form .dots) (a .form .literals) (a .node) (a .form .wrap) (a .k) (a .top) asks (p .1 .1) (p .1 .2) _ _ is-pair head-is rest-is (a .taken) _ (c .before .before .before .before .before .before .before .before .before .before .before .before .before .before .before .before .before .before .before .before .if2 .left) (c .before .before .before .before .before .before .before .before .before .before .before .before .before .before .before .before .before .before .dots-next .ensures) (first .last .0) _ _ _ (first .kept .0) head (second .last .0) _ (c .enum-told2 .given .1) (second .ensures)
 
 pattern-put-list-requires : (t : ℕ) → pattern-lts.Need-put-list-requires (pattern-claims t) (pattern-at t) pattern.Post
 pattern-put-list-requires t c κs =
@@ -136,10 +135,10 @@ pattern-put-list-requires t c κs =
     let head-is = c .before .before .before .before .before .before .before .before .before .before .before .before .before .before .before .before .before .before .before .before .before .before .before .before .before .reference .ensures in
     let rest-is = c .before .before .before .before .before .before .before .before .before .before .before .before .before .before .before .before .before .before .before .before .before .before .before .reference2 .ensures in
     let first = c .before .before .before .before .before .before .before .before .before .before .before .before .before .pattern2 in
-    let head = made-head (a .work .now) (a .dots) (a .literals) (a .node) (a .w) (a .k) (a .top) asks (p .1 .1) (p .1 .2) _ _ is-pair head-is rest-is (a .taken) _ (c .before .before .before .before .before .before .before .before .before .before .before .before .before .before .before .before .before .before .before .before .before .before .if2 .left) (c .before .before .before .before .before .before .before .before .before .before .before .before .before .before .before .before .before .before .before .before .dots-next .ensures) (first .last .0) _ _ _ _ (c .before .before .before .before .before .before .before .before .before .a .given .1) (first .ensures) in
+    let head = made-head (a .work .now) (a .form .dots) (a .form .literals) (a .node) (a .form .wrap) (a .k) (a .top) asks (p .1 .1) (p .1 .2) _ _ is-pair head-is rest-is (a .taken) _ (c .before .before .before .before .before .before .before .before .before .before .before .before .before .before .before .before .before .before .before .before .before .before .if2 .left) (c .before .before .before .before .before .before .before .before .before .before .before .before .before .before .before .before .before .before .before .before .dots-next .ensures) (first .last .0) _ _ _ _ (c .before .before .before .before .before .before .before .before .before .a .given .1) (first .ensures) in
     let second = c .before .before .before .before .before .before .pattern3 in
-    let later = made-rest (a .work .now) (a .dots) (a .literals) (a .node) (a .w) (a .k) (a .top) asks (p .1 .1) (p .1 .2) _ _ is-pair head-is rest-is (a .taken) _ (c .before .before .before .before .before .before .before .before .before .before .before .before .before .before .before .before .before .before .before .before .before .before .if2 .left) (c .before .before .before .before .before .before .before .before .before .before .before .before .before .before .before .before .before .before .before .before .dots-next .ensures) (first .last .0) _ _ _ (first .kept .0) head (second .last .0) _ _ _ _ (c .before .before .b .given .1) (second .ensures) in
-    (room-pair (a .work .now) (a .node) (a .w) (a .top) asks _ _ is-pair head-is rest-is _ _ _ (first .kept .0) (head .grows) _ _ _ (second .kept .0) (later .grows), omega (arith, head .grows .at-most, later .grows .up), later .grows .at-most)
+    let later = made-rest (a .work .now) (a .form .dots) (a .form .literals) (a .node) (a .form .wrap) (a .k) (a .top) asks (p .1 .1) (p .1 .2) _ _ is-pair head-is rest-is (a .taken) _ (c .before .before .before .before .before .before .before .before .before .before .before .before .before .before .before .before .before .before .before .before .before .before .if2 .left) (c .before .before .before .before .before .before .before .before .before .before .before .before .before .before .before .before .before .before .before .before .dots-next .ensures) (first .last .0) _ _ _ (first .kept .0) head (second .last .0) _ _ _ _ (c .before .before .b .given .1) (second .ensures) in
+    (room-pair (a .work .now) (a .node) (a .form .wrap) (a .top) asks _ _ is-pair head-is rest-is _ _ _ (first .kept .0) (head .grows) _ _ _ (second .kept .0) (later .grows), omega (arith, head .grows .at-most, later .grows .up), later .grows .at-most)
 
 pattern-returns-6 : (t : ℕ) → pattern-lts.Need-returns-6 (pattern-claims t) (pattern-at t) pattern.Post
 pattern-returns-6 t c =
@@ -150,10 +149,10 @@ pattern-returns-6 t c =
     let head-is = c .before .before .before .before .before .before .before .before .before .before .before .before .before .before .before .before .before .before .before .before .before .before .before .before .before .before .before .before .reference .ensures in
     let rest-is = c .before .before .before .before .before .before .before .before .before .before .before .before .before .before .before .before .before .before .before .before .before .before .before .before .before .before .reference2 .ensures in
     let first = c .before .before .before .before .before .before .before .before .before .before .before .before .before .before .before .before .pattern2 in
-    let head = made-head (a .work .now) (a .dots) (a .literals) (a .node) (a .w) (a .k) (a .top) asks (p .1 .1) (p .1 .2) _ _ is-pair head-is rest-is (a .taken) _ (c .before .before .before .before .before .before .before .before .before .before .before .before .before .before .before .before .before .before .before .before .before .before .before .before .before .if2 .left) (c .before .before .before .before .before .before .before .before .before .before .before .before .before .before .before .before .before .before .before .before .before .before .before .dots-next .ensures) (first .last .0) _ _ _ _ (c .before .before .before .before .before .before .before .before .before .before .before .before .a .given .1) (first .ensures) in
+    let head = made-head (a .work .now) (a .form .dots) (a .form .literals) (a .node) (a .form .wrap) (a .k) (a .top) asks (p .1 .1) (p .1 .2) _ _ is-pair head-is rest-is (a .taken) _ (c .before .before .before .before .before .before .before .before .before .before .before .before .before .before .before .before .before .before .before .before .before .before .before .before .before .if2 .left) (c .before .before .before .before .before .before .before .before .before .before .before .before .before .before .before .before .before .before .before .before .before .before .before .dots-next .ensures) (first .last .0) _ _ _ _ (c .before .before .before .before .before .before .before .before .before .before .before .before .a .given .1) (first .ensures) in
     let second = c .before .before .before .before .before .before .before .before .before .pattern3 in
-    let later = made-rest (a .work .now) (a .dots) (a .literals) (a .node) (a .w) (a .k) (a .top) asks (p .1 .1) (p .1 .2) _ _ is-pair head-is rest-is (a .taken) _ (c .before .before .before .before .before .before .before .before .before .before .before .before .before .before .before .before .before .before .before .before .before .before .before .before .before .if2 .left) (c .before .before .before .before .before .before .before .before .before .before .before .before .before .before .before .before .before .before .before .before .before .before .before .dots-next .ensures) (first .last .0) _ _ _ (first .kept .0) head (second .last .0) _ _ _ _ (c .before .before .before .before .before .b .given .1) (second .ensures) in
-    left-list (a .work .now) (a .dots) (a .literals) (a .node) (a .w) (a .k) (a .top) asks (p .1 .1) (p .1 .2) _ _ is-pair head-is rest-is (a .taken) _ (c .before .before .before .before .before .before .before .before .before .before .before .before .before .before .before .before .before .before .before .before .before .before .before .before .before .if2 .left) (c .before .before .before .before .before .before .before .before .before .before .before .before .before .before .before .before .before .before .before .before .before .before .before .dots-next .ensures) (first .last .0) _ _ _ (first .kept .0) head _ _ _ _ _ _ _ (sym (c .before .before .before .before .before .before .before .before .before .before .before .before .before .before .before .before .before .before .before .before .if3 .left) ∙ c .before .before .before .before .before .before .before .before .before .before .before .before .before .before .before .before .before .before .before .before .before .crowded .ensures) (c .before .before .before .before .before .before .before .before .before .before .before .before .before .before .before .before .before .before .following .ensures (a .w)) later (c .before .before .put-list .ensures)
+    let later = made-rest (a .work .now) (a .form .dots) (a .form .literals) (a .node) (a .form .wrap) (a .k) (a .top) asks (p .1 .1) (p .1 .2) _ _ is-pair head-is rest-is (a .taken) _ (c .before .before .before .before .before .before .before .before .before .before .before .before .before .before .before .before .before .before .before .before .before .before .before .before .before .if2 .left) (c .before .before .before .before .before .before .before .before .before .before .before .before .before .before .before .before .before .before .before .before .before .before .before .dots-next .ensures) (first .last .0) _ _ _ (first .kept .0) head (second .last .0) _ _ _ _ (c .before .before .before .before .before .b .given .1) (second .ensures) in
+    left-list (a .work .now) (a .form .dots) (a .form .literals) (a .node) (a .form .wrap) (a .k) (a .top) asks (p .1 .1) (p .1 .2) _ _ is-pair head-is rest-is (a .taken) _ (c .before .before .before .before .before .before .before .before .before .before .before .before .before .before .before .before .before .before .before .before .before .before .before .before .before .if2 .left) (c .before .before .before .before .before .before .before .before .before .before .before .before .before .before .before .before .before .before .before .before .before .before .before .dots-next .ensures) (first .last .0) _ _ _ (first .kept .0) head _ _ _ _ _ _ _ (sym (c .before .before .before .before .before .before .before .before .before .before .before .before .before .before .before .before .before .before .before .before .if3 .left) ∙ c .before .before .before .before .before .before .before .before .before .before .before .before .before .before .before .before .before .before .before .before .before .crowded .ensures) (c .before .before .before .before .before .before .before .before .before .before .before .before .before .before .before .before .before .before .following .ensures (a .form .wrap)) later (c .before .before .put-list .ensures .0)
 
 pub +pattern-spec : {M : Type 1} → statement M
 +pattern-spec = close μ-pattern λ t. pattern-lts.spec (pattern-claims t)

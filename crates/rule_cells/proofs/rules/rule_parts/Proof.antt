@@ -24,7 +24,7 @@ gather-requires : tie.Need-gather-requires
 gather-requires c κs =
     let a = c .before .before .before .args in
     let ask = c .before .before .before .pre in
-    (omega arith, held-none (a .work .now) (a .w) _, small-p (a .work .now) (a .dots) (a .literals) (a .p) (a .q) (a .w) (a .next) (a .top) ask)
+    (omega arith, held-none (a .work .now) (a .form .wrap) _, small-p (a .work .now) (a .form .dots) (a .form .literals) (a .p) (a .q) (a .form .wrap) (a .next) (a .top) ask)
 
 returns : tie.Need-returns
 unfolding builtOf
@@ -32,20 +32,20 @@ returns c =
     let a = c .before .before .before .before .before .before .args in
     let ask = c .before .before .before .before .before .before .pre in
     let g = c .before .before .gather in
-    left-variables (a .work .now) (a .dots) (a .literals) (a .p) (a .q) (a .w) (a .next) (a .top) ask _ (g .last .1 .0) (keptOf (g .result)) (kept-bad (g .result) (c .if1 .taken)) (g .ensures)
+    left-variables (a .work .now) (a .form .dots) (a .form .literals) (a .p) (a .q) (a .form .wrap) (a .next) (a .top) ask _ (g .last .1 .0) (keptOf (g .result)) (kept-bad (g .result) (c .if1 .taken)) (g .ensures)
 
 pattern-requires : tie.Need-pattern-requires
 pattern-requires c κs =
     let a = c .before .before .before .before .before .before .before .args in
     let ask = c .before .before .before .before .before .before .before .pre in
-    (asks-p (a .work .now) (a .dots) (a .literals) (a .p) (a .q) (a .w) (a .next) (a .top) ask, ask .dots-below, ask .literals-below, small-size (a .work .now) (a .dots) (a .literals) (a .p) (a .q) (a .w) (a .next) (a .top) ask, λ z. absurd (false≢true z))
+    (asks-p (a .work .now) (a .form .dots) (a .form .literals) (a .p) (a .q) (a .form .wrap) (a .next) (a .top) ask, ask .dots-below, ask .literals-below, small-size (a .work .now) (a .form .dots) (a .form .literals) (a .p) (a .q) (a .form .wrap) (a .next) (a .top) ask, λ z. absurd (false≢true z))
 
 returns-2 : tie.Need-returns-2
 unfolding builtOf
 returns-2 c =
     let a = c .before .before .before .before .before .before .before .before .before .before .before .before .args in
     let ask = c .before .before .before .before .before .before .before .before .before .before .before .before .pre in
-    left-pattern (a .work .now) (a .dots) (a .literals) (a .p) (a .q) (a .w) (a .next) (a .top) ask (c .before .before .before .before .pattern .last .0) _ (c .enum-told .given .1) (c .before .before .before .before .pattern .ensures)
+    left-pattern (a .work .now) (a .form .dots) (a .form .literals) (a .p) (a .q) (a .form .wrap) (a .next) (a .top) ask (c .before .before .before .before .pattern .last .0) _ (c .enum-told .given .1) (c .before .before .before .before .pattern .ensures)
 
 template-requires : tie.Need-template-requires
 template-requires c κs =
@@ -54,8 +54,8 @@ template-requires c κs =
     let g = c .before .before .before .before .before .before .before .before .before .before .before .gather in
     let stored = gathered-stored _ _ _ _ _ _ (g .last .1 .0) (keptOf (g .result)) _ (kept-count (g .result) (c .before .before .before .before .before .before .before .before .before .if1 .left)) (g .ensures) in
     let p = c .before .before .before .before .before .before .before .pattern in
-    let pattern = made-pattern (a .work .now) (a .dots) (a .literals) (a .p) (a .q) (a .w) (a .next) (a .top) ask (p .last .0) _ _ _ _ (c .before .before .before .a .given .1) (p .ensures) in
-    (asks-q (a .work .now) (a .dots) (a .literals) (a .p) (a .q) (a .w) (a .next) (a .top) ask _ (g .last .1 .0) _ stored (p .last .0) _ _ _ (p .kept .0) pattern, stored .held .most, omega (arith, g .kept .1 .0), under-top (a .work .now) (a .dots) (a .literals) (a .p) (a .q) (a .w) (a .next) (a .top) ask _ (g .last .1 .0) _ stored (p .last .0) _ _ _ (p .kept .0) pattern, dots-still (a .work .now) (a .dots) (a .literals) (a .p) (a .q) (a .w) (a .next) (a .top) ask _ (g .last .1 .0) _ stored (p .last .0) _ _ _ (p .kept .0) pattern, small-q (a .work .now) (a .dots) (a .literals) (a .p) (a .q) (a .w) (a .next) (a .top) ask _ (g .last .1 .0) _ stored (p .last .0) _ _ _ (p .kept .0) pattern)
+    let pattern = made-pattern (a .work .now) (a .form .dots) (a .form .literals) (a .p) (a .q) (a .form .wrap) (a .next) (a .top) ask (p .last .0) _ _ _ _ (c .before .before .before .a .given .1) (p .ensures) in
+    (asks-q (a .work .now) (a .form .dots) (a .form .literals) (a .p) (a .q) (a .form .wrap) (a .next) (a .top) ask _ (g .last .1 .0) _ stored (p .last .0) _ _ _ (p .kept .0) pattern, stored .held .most, omega (arith, g .kept .1 .0), under-top (a .work .now) (a .form .dots) (a .form .literals) (a .p) (a .q) (a .form .wrap) (a .next) (a .top) ask _ (g .last .1 .0) _ stored (p .last .0) _ _ _ (p .kept .0) pattern, dots-still (a .work .now) (a .form .dots) (a .form .literals) (a .p) (a .q) (a .form .wrap) (a .next) (a .top) ask _ (g .last .1 .0) _ stored (p .last .0) _ _ _ (p .kept .0) pattern, small-q (a .work .now) (a .form .dots) (a .form .literals) (a .p) (a .q) (a .form .wrap) (a .next) (a .top) ask _ (g .last .1 .0) _ stored (p .last .0) _ _ _ (p .kept .0) pattern)
 
 returns-3 : tie.Need-returns-3
 unfolding builtOf
@@ -65,9 +65,9 @@ returns-3 c =
     let g = c .before .before .before .before .before .before .before .before .before .before .before .before .before .before .before .before .before .gather in
     let stored = gathered-stored _ _ _ _ _ _ (g .last .1 .0) (keptOf (g .result)) _ (kept-count (g .result) (c .before .before .before .before .before .before .before .before .before .before .before .before .before .before .before .if1 .left)) (g .ensures) in
     let p = c .before .before .before .before .before .before .before .before .before .before .before .before .before .pattern in
-    let pattern = made-pattern (a .work .now) (a .dots) (a .literals) (a .p) (a .q) (a .w) (a .next) (a .top) ask (p .last .0) _ _ _ _ (c .before .before .before .before .before .before .before .before .before .a .given .1) (p .ensures) in
+    let pattern = made-pattern (a .work .now) (a .form .dots) (a .form .literals) (a .p) (a .q) (a .form .wrap) (a .next) (a .top) ask (p .last .0) _ _ _ _ (c .before .before .before .before .before .before .before .before .before .a .given .1) (p .ensures) in
     let q = c .before .before .before .before .before .template in
-    left-template (a .work .now) (a .dots) (a .literals) (a .p) (a .q) (a .w) (a .next) (a .top) ask _ (g .last .1 .0) _ stored (p .last .0) _ _ _ (p .kept .0) pattern (q .last .0) (builtOf (q .result)) (sym (c .before .before .parts .ensures) ∙ c .enum-told2 .given .1) (q .ensures)
+    left-template (a .work .now) (a .form .dots) (a .form .literals) (a .p) (a .q) (a .form .wrap) (a .next) (a .top) ask _ (g .last .1 .0) _ stored (p .last .0) _ _ _ (p .kept .0) pattern (q .last .0) (builtOf (q .result)) (sym (c .before .before .parts .ensures) ∙ c .enum-told2 .given .1) (q .ensures)
 
 put-rule-requires : tie.Need-put-rule-requires
 put-rule-requires c κs =
@@ -76,10 +76,10 @@ put-rule-requires c κs =
     let g = c .before .before .before .before .before .before .before .before .before .before .before .before .before .before .before .before .before .before .before .gather in
     let stored = gathered-stored _ _ _ _ _ _ (g .last .1 .0) (keptOf (g .result)) _ (kept-count (g .result) (c .before .before .before .before .before .before .before .before .before .before .before .before .before .before .before .before .before .if1 .left)) (g .ensures) in
     let p = c .before .before .before .before .before .before .before .before .before .before .before .before .before .before .before .pattern in
-    let pattern = made-pattern (a .work .now) (a .dots) (a .literals) (a .p) (a .q) (a .w) (a .next) (a .top) ask (p .last .0) _ _ _ _ (c .before .before .before .before .before .before .before .before .before .before .before .a .given .1) (p .ensures) in
+    let pattern = made-pattern (a .work .now) (a .form .dots) (a .form .literals) (a .p) (a .q) (a .form .wrap) (a .next) (a .top) ask (p .last .0) _ _ _ _ (c .before .before .before .before .before .before .before .before .before .before .before .a .given .1) (p .ensures) in
     let q = c .before .before .before .before .before .before .before .template in
-    let template = made-template (a .work .now) (a .dots) (a .literals) (a .p) (a .q) (a .w) (a .next) (a .top) ask _ (g .last .1 .0) _ stored (p .last .0) _ _ _ (p .kept .0) pattern (q .last .0) (builtOf (q .result)) _ _ (sym (c .before .before .before .before .parts .ensures) ∙ c .before .before .b .given .1) (q .ensures) in
-    rule-asks (a .work .now) (a .dots) (a .literals) (a .p) (a .q) (a .w) (a .next) (a .top) ask _ (g .last .1 .0) _ stored (p .last .0) _ _ _ (p .kept .0) pattern (q .last .0) _ _ (q .kept .0) template
+    let template = made-template (a .work .now) (a .form .dots) (a .form .literals) (a .p) (a .q) (a .form .wrap) (a .next) (a .top) ask _ (g .last .1 .0) _ stored (p .last .0) _ _ _ (p .kept .0) pattern (q .last .0) (builtOf (q .result)) _ _ (sym (c .before .before .before .before .parts .ensures) ∙ c .before .before .b .given .1) (q .ensures) in
+    rule-asks (a .work .now) (a .form .dots) (a .form .literals) (a .p) (a .q) (a .form .wrap) (a .next) (a .top) ask _ (g .last .1 .0) _ stored (p .last .0) _ _ _ (p .kept .0) pattern (q .last .0) _ _ (q .kept .0) template
 
 returns-4 : tie.Need-returns-4
 returns-4 c =
@@ -88,11 +88,11 @@ returns-4 c =
     let g = c .before .before .before .before .before .before .before .before .before .before .before .before .before .before .before .before .before .before .before .before .before .before .before .gather in
     let stored = gathered-stored _ _ _ _ _ _ (g .last .1 .0) (keptOf (g .result)) _ (kept-count (g .result) (c .before .before .before .before .before .before .before .before .before .before .before .before .before .before .before .before .before .before .before .before .before .if1 .left)) (g .ensures) in
     let p = c .before .before .before .before .before .before .before .before .before .before .before .before .before .before .before .before .before .before .before .pattern in
-    let pattern = made-pattern (a .work .now) (a .dots) (a .literals) (a .p) (a .q) (a .w) (a .next) (a .top) ask (p .last .0) _ _ _ _ (c .before .before .before .before .before .before .before .before .before .before .before .before .before .before .before .a .given .1) (p .ensures) in
+    let pattern = made-pattern (a .work .now) (a .form .dots) (a .form .literals) (a .p) (a .q) (a .form .wrap) (a .next) (a .top) ask (p .last .0) _ _ _ _ (c .before .before .before .before .before .before .before .before .before .before .before .before .before .before .before .a .given .1) (p .ensures) in
     let q = c .before .before .before .before .before .before .before .before .before .before .before .template in
-    let template = made-template (a .work .now) (a .dots) (a .literals) (a .p) (a .q) (a .w) (a .next) (a .top) ask _ (g .last .1 .0) _ stored (p .last .0) _ _ _ (p .kept .0) pattern (q .last .0) (builtOf (q .result)) _ _ (sym (c .before .before .before .before .before .before .before .before .parts .ensures) ∙ c .before .before .before .before .before .before .b .given .1) (q .ensures) in
-    let left = left-rule (a .work .now) (a .dots) (a .literals) (a .p) (a .q) (a .w) (a .next) (a .top) ask _ (g .last .1 .0) _ stored (p .last .0) _ _ _ (p .kept .0) pattern (q .last .0) _ _ (q .kept .0) template _ _ (c .before .before .before .put-rule .ensures) in
-    packs-at (RuleLeft _ _ _ _ _ _) _ _ _ _ (packs-rule (a .work .now) (a .dots) (a .literals) (a .p) (a .q) (a .w) (a .next) (a .top) ask) (c .pair .ensures) (left .words) left
+    let template = made-template (a .work .now) (a .form .dots) (a .form .literals) (a .p) (a .q) (a .form .wrap) (a .next) (a .top) ask _ (g .last .1 .0) _ stored (p .last .0) _ _ _ (p .kept .0) pattern (q .last .0) (builtOf (q .result)) _ _ (sym (c .before .before .before .before .before .before .before .before .parts .ensures) ∙ c .before .before .before .before .before .before .b .given .1) (q .ensures) in
+    let left = left-rule (a .work .now) (a .form .dots) (a .form .literals) (a .p) (a .q) (a .form .wrap) (a .next) (a .top) ask _ (g .last .1 .0) _ stored (p .last .0) _ _ _ (p .kept .0) pattern (q .last .0) _ _ (q .kept .0) template _ _ (c .before .before .before .put-rule .ensures) in
+    packs-at (RuleLeft _ _ _ _ _ _) _ _ _ _ (packs-rule (a .work .now) (a .form .dots) (a .form .literals) (a .p) (a .q) (a .form .wrap) (a .next) (a .top) ask) (c .pair .ensures) (left .words) left
 
 pub rule-parts-spec : {M : Type 1} → statement M
 rule-parts-spec =

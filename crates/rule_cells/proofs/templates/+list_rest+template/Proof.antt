@@ -14,7 +14,7 @@ use Rattle.arena.proofs.lists.first.Reads as first-reads
 use Rattle.arena.proofs.lists.is_list_of.Reads as is-list-of-reads
 use Rattle.rule_cells.proofs.dots.dots_next.Reads as dots-next-reads
 use Rattle.rule_cells.proofs.templates.accepted.Reads as accepted-reads
-use Rattle.rule_cells.proofs.templates.put_list.Reads as put-list-reads
+use Rattle.rule_cells.proofs.constructors.put_list.Reads as put-list-reads
 use Rattle.rule_cells.proofs.templates.template_leaf.Reads as template-leaf-reads
 use Rattle.rule_cells.proofs.variables.element_depth.Reads as element-depth-reads
 use Rattle.words.proofs.packed.pair.Reads as pair-reads
@@ -22,7 +22,6 @@ use Rattle.words.proofs.packed.parts.Reads as parts-reads
 use Rattle.rule_cells.proofs.templates.+list_rest+template.{statement}
 use Rattle.rule_cells.proofs.templates.+list_rest+template.Tie.{close}
 use borrow.Author.Needs.{needs}
-use Rattle.rule_cells.specs.Variables.{variablesFrom}
 use Rattle.rule_cells.specs.GatherLaws.{deeper-most}
 use Rattle.rule_cells.specs.VariableLaws.{deeper-by}
 use Rattle.words.specs.Packed.{builtOf}
@@ -32,15 +31,15 @@ use mathlib.Core.Path.{sym, _∙_, refl}
 use native.Mathlib.Omega.{arith}
 use Rattle.arena.specs.Arena.{treeAt}
 use Rattle.rule_cells.specs.TemplateLaws.{left-leaf, left-taken, left-bad, made-head, left-undriven, under-still, dots-still, left-bad-rest, made-rest, left-list, left-plain, left-unescaped, inside-below, asks-inside, some-top, left-escape}
-use Rattle.rule_cells.specs.Dots.{dotsAt}
+use Rattle.rule_cells.specs.Scopes.{dotsUnder, variablesUnder}
 
 abbrev μ-list-rest : Measures 2 list-rest-kinds.ps ℕ
 μ-list-rest κs a =
-    2 * a .1 .1 .1 .1 .0
+    2 * a .1 .1 .1 .0
 
 abbrev μ-template : Measures 2 template-kinds.ps ℕ
 μ-template κs a =
-    2 * a .1 .1 .1 .1 .0 + 1
+    2 * a .1 .1 .1 .0 + 1
 
 abbrev list-rest-at : ℕ → In 2 list-rest-kinds.ps
 list-rest-at t = and 2 list-rest-kinds.ps (is 2 list-rest-kinds.ps μ-list-rest t) list-rest.Pre
@@ -71,7 +70,7 @@ list-rest-returns : (t : ℕ) → list-rest-lts.Need-returns (list-rest-claims t
 list-rest-returns t c =
     let a = c .before .before .before .before .before .before .before .before .before .args in
     let l = c .before .before .template-leaf in
-    left-leaf (dotsAt (a .work .now) (a .dots) (a .w)) (variablesFrom (a .work .now) (a .w) (a .vars .now) 0 (a .count)) (a .d) (restPlace (a .taken)) (a .work .now) (a .node) (a .w) (a .top) (l .last .0) (builtOf (l .result)) (λ z. c .before .before .before .before .if1 .taken (c .before .before .before .before .before .word .ensures ∙ z)) (l .ensures)
+    left-leaf (dotsUnder (a .work .now) (a .scope)) (variablesUnder (a .work .now) (a .vars .now) (a .scope)) (a .scope .d) (restPlace (a .taken)) (a .work .now) (a .node) (a .scope .wrap) (a .top) (l .last .0) (builtOf (l .result)) (λ z. c .before .before .before .before .if1 .taken (c .before .before .before .before .before .word .ensures ∙ z)) (l .ensures)
 
 list-rest-list-rest-requires : (t : ℕ) → list-rest-lts.Need-list-rest-requires (list-rest-claims t) (list-rest-at t) list-rest.Post
 list-rest-list-rest-requires t c κs =
@@ -81,8 +80,8 @@ list-rest-list-rest-requires t c κs =
     let is-pair = sym (c .before .before .before .before .before .before .before .word .ensures) ∙ c .before .before .before .before .before .before .if1 .left in
     let head-is = c .before .before .before .before .reference .ensures in
     let rest-is = c .before .before .reference2 .ensures in
-    let below = rest-below (a .work .now) (a .node) (a .w) (a .top) asks _ _ is-pair head-is rest-is in
-    (omega (arith, p .0, below), (asks-tail (a .work .now) (a .node) (a .w) (a .top) asks _ _ is-pair head-is rest-is, p .1 .1, p .1 .2, p .1 .3, p .1 .4, omega (arith, p .1 .5, below)))
+    let below = rest-below (a .work .now) (a .node) (a .scope .wrap) (a .top) asks _ _ is-pair head-is rest-is in
+    (omega (arith, p .0, below), (asks-tail (a .work .now) (a .node) (a .scope .wrap) (a .top) asks _ _ is-pair head-is rest-is, p .1 .1, p .1 .2, p .1 .3, p .1 .4, omega (arith, p .1 .5, below)))
 
 list-rest-returns-2 : (t : ℕ) → list-rest-lts.Need-returns-2 (list-rest-claims t) (list-rest-at t) list-rest.Post
 list-rest-returns-2 t c =
@@ -93,7 +92,7 @@ list-rest-returns-2 t c =
     let head-is = c .before .before .before .before .before .before .before .reference .ensures in
     let rest-is = c .before .before .before .before .before .reference2 .ensures in
     let l = c .before .before .list-rest in
-    left-taken (a .work .now) (a .vars .now) (a .count) (a .dots) (a .node) (a .w) (a .d) (a .top) asks (p .1 .3) (p .1 .4) _ _ is-pair head-is rest-is (a .taken) (l .last .0) (builtOf (l .result)) (c .before .before .before .before .if2 .taken) (l .ensures)
+    left-taken (a .work .now) (a .vars .now) (a .scope .count) (a .scope .dots) (a .node) (a .scope .wrap) (a .scope .d) (a .top) asks (p .1 .3) (p .1 .4) _ _ is-pair head-is rest-is (a .taken) (l .last .0) (builtOf (l .result)) (c .before .before .before .before .if2 .taken) (l .ensures)
 
 list-rest-element-depth-requires : (t : ℕ) → list-rest-lts.Need-element-depth-requires (list-rest-claims t) (list-rest-at t) list-rest.Post
 list-rest-element-depth-requires t c κs =
@@ -103,7 +102,7 @@ list-rest-element-depth-requires t c κs =
     let is-pair = sym (c .before .before .before .before .before .before .before .before .word .ensures) ∙ c .before .before .before .before .before .before .before .if1 .left in
     let head-is = c .before .before .before .before .before .reference .ensures in
     let rest-is = c .before .before .before .reference2 .ensures in
-    omega (arith, p .1 .5, head-below (a .work .now) (a .node) (a .w) (a .top) asks _ _ is-pair head-is rest-is)
+    omega (arith, p .1 .5, head-below (a .work .now) (a .node) (a .scope .wrap) (a .top) asks _ _ is-pair head-is rest-is)
 
 list-rest-template-requires : (t : ℕ) → list-rest-lts.Need-template-requires (list-rest-claims t) (list-rest-at t) list-rest.Post
 list-rest-template-requires t c κs =
@@ -113,9 +112,9 @@ list-rest-template-requires t c κs =
     let is-pair = sym (c .before .before .before .before .before .before .before .before .before .before .word .ensures) ∙ c .before .before .before .before .before .before .before .before .before .if1 .left in
     let head-is = c .before .before .before .before .before .before .before .reference .ensures in
     let rest-is = c .before .before .before .before .before .reference2 .ensures in
-    let below = head-below (a .work .now) (a .node) (a .w) (a .top) asks _ _ is-pair head-is rest-is in
-    let deeper = deeper-by (dotsAt (a .work .now) (a .dots) (a .w)) (treeAt (a .work .now) _ (a .w)) (a .d) _ _ (c .before .element-depth .ensures) (c .before .before .dots-next .ensures) in
-    (omega (arith, p .0, below), (asks-head (a .work .now) (a .node) (a .w) (a .top) asks _ _ is-pair head-is rest-is, p .1 .1, p .1 .2, p .1 .3, p .1 .4, omega (arith, p .1 .5, below, deeper-most _ _ _ _ deeper)))
+    let below = head-below (a .work .now) (a .node) (a .scope .wrap) (a .top) asks _ _ is-pair head-is rest-is in
+    let deeper = deeper-by (dotsUnder (a .work .now) (a .scope)) (treeAt (a .work .now) _ (a .scope .wrap)) (a .scope .d) _ _ (c .before .element-depth .ensures) (c .before .before .dots-next .ensures) in
+    (omega (arith, p .0, below), (asks-head (a .work .now) (a .node) (a .scope .wrap) (a .top) asks _ _ is-pair head-is rest-is, p .1 .1, p .1 .2, p .1 .3, p .1 .4, omega (arith, p .1 .5, below, deeper-most _ _ _ _ deeper)))
 
 list-rest-returns-3 : (t : ℕ) → list-rest-lts.Need-returns-3 (list-rest-claims t) (list-rest-at t) list-rest.Post
 unfolding builtOf
@@ -128,9 +127,9 @@ list-rest-returns-3 t c =
     let rest-is = c .before .before .before .before .before .before .before .before .before .before .before .reference2 .ensures in
     let untaken = c .before .before .before .before .before .before .before .before .before .before .if2 .left in
     let next = c .before .before .before .before .before .before .before .before .dots-next .ensures in
-    let deeper = deeper-by (dotsAt (a .work .now) (a .dots) (a .w)) (treeAt (a .work .now) _ (a .w)) (a .d) _ _ (c .before .before .before .before .before .before .before .element-depth .ensures) next in
+    let deeper = deeper-by (dotsUnder (a .work .now) (a .scope)) (treeAt (a .work .now) _ (a .scope .wrap)) (a .scope .d) _ _ (c .before .before .before .before .before .before .before .element-depth .ensures) next in
     let first = c .before .before .before .before .before .template in
-    left-bad (a .work .now) (a .vars .now) (a .count) (a .dots) (a .node) (a .w) (a .d) (a .top) asks (p .1 .3) (p .1 .4) _ _ is-pair head-is rest-is (a .taken) _ _ untaken next deeper (first .last .0) (builtOf (first .result)) (sym (c .before .before .parts .ensures) ∙ c .enum-told .given .1) (first .ensures)
+    left-bad (a .work .now) (a .vars .now) (a .scope .count) (a .scope .dots) (a .node) (a .scope .wrap) (a .scope .d) (a .top) asks (p .1 .3) (p .1 .4) _ _ is-pair head-is rest-is (a .taken) _ _ untaken next deeper (first .last .0) (builtOf (first .result)) (sym (c .before .before .parts .ensures) ∙ c .enum-told .given .1) (first .ensures)
 
 list-rest-list-rest-requires-2 : (t : ℕ) → list-rest-lts.Need-list-rest-requires-2 (list-rest-claims t) (list-rest-at t) list-rest.Post
 list-rest-list-rest-requires-2 t c κs =
@@ -142,11 +141,11 @@ list-rest-list-rest-requires-2 t c κs =
     let rest-is = c .before .before .before .before .before .before .before .before .before .before .before .before .before .before .before .before .reference2 .ensures in
     let untaken = c .before .before .before .before .before .before .before .before .before .before .before .before .before .before .before .if2 .left in
     let next = c .before .before .before .before .before .before .before .before .before .before .before .before .before .dots-next .ensures in
-    let deeper = deeper-by (dotsAt (a .work .now) (a .dots) (a .w)) (treeAt (a .work .now) _ (a .w)) (a .d) _ _ (c .before .before .before .before .before .before .before .before .before .before .before .before .element-depth .ensures) next in
+    let deeper = deeper-by (dotsUnder (a .work .now) (a .scope)) (treeAt (a .work .now) _ (a .scope .wrap)) (a .scope .d) _ _ (c .before .before .before .before .before .before .before .before .before .before .before .before .element-depth .ensures) next in
     let first = c .before .before .before .before .before .before .before .before .before .before .template in
-    let head = made-head (a .work .now) (a .vars .now) (a .count) (a .dots) (a .node) (a .w) (a .d) (a .top) asks (p .1 .3) (p .1 .4) _ _ is-pair head-is rest-is (a .taken) _ _ untaken next deeper (first .last .0) (builtOf (first .result)) _ _ (sym (c .before .before .before .before .before .before .before .parts .ensures) ∙ c .before .before .before .before .before .a .given .1) (first .ensures) in
-    let below = rest-below (a .work .now) (a .node) (a .w) (a .top) asks _ _ is-pair head-is rest-is in
-    (omega (arith, p .0, below), (asks-rest (a .work .now) (a .node) (a .w) (a .top) asks _ _ is-pair head-is rest-is _ _ _ (first .kept .0) (head .grows), p .1 .1, p .1 .2, under-still (a .work .now) (a .vars .now) (a .count) (a .dots) (a .node) (a .w) (a .d) (a .top) asks (p .1 .3) (p .1 .4) _ _ is-pair head-is rest-is (a .taken) _ _ untaken next deeper (first .last .0) _ _ (first .kept .0) head, dots-still (a .work .now) (a .vars .now) (a .count) (a .dots) (a .node) (a .w) (a .d) (a .top) asks (p .1 .3) (p .1 .4) _ _ is-pair head-is rest-is (a .taken) _ _ untaken next deeper (first .last .0) _ _ (first .kept .0) head, omega (arith, p .1 .5, below)))
+    let head = made-head (a .work .now) (a .vars .now) (a .scope .count) (a .scope .dots) (a .node) (a .scope .wrap) (a .scope .d) (a .top) asks (p .1 .3) (p .1 .4) _ _ is-pair head-is rest-is (a .taken) _ _ untaken next deeper (first .last .0) (builtOf (first .result)) _ _ (sym (c .before .before .before .before .before .before .before .parts .ensures) ∙ c .before .before .before .before .before .a .given .1) (first .ensures) in
+    let below = rest-below (a .work .now) (a .node) (a .scope .wrap) (a .top) asks _ _ is-pair head-is rest-is in
+    (omega (arith, p .0, below), (asks-rest (a .work .now) (a .node) (a .scope .wrap) (a .top) asks _ _ is-pair head-is rest-is _ _ _ (first .kept .0) (head .grows), p .1 .1, p .1 .2, under-still (a .work .now) (a .vars .now) (a .scope .count) (a .scope .dots) (a .node) (a .scope .wrap) (a .scope .d) (a .top) asks (p .1 .3) (p .1 .4) _ _ is-pair head-is rest-is (a .taken) _ _ untaken next deeper (first .last .0) _ _ (first .kept .0) head, dots-still (a .work .now) (a .vars .now) (a .scope .count) (a .scope .dots) (a .node) (a .scope .wrap) (a .scope .d) (a .top) asks (p .1 .3) (p .1 .4) _ _ is-pair head-is rest-is (a .taken) _ _ untaken next deeper (first .last .0) _ _ (first .kept .0) head, omega (arith, p .1 .5, below)))
 
 list-rest-returns-4 : (t : ℕ) → list-rest-lts.Need-returns-4 (list-rest-claims t) (list-rest-at t) list-rest.Post
 unfolding builtOf
@@ -159,11 +158,11 @@ list-rest-returns-4 t c =
     let rest-is = c .before .before .before .before .before .before .before .before .before .before .before .before .before .before .before .before .before .before .before .before .before .before .reference2 .ensures in
     let untaken = c .before .before .before .before .before .before .before .before .before .before .before .before .before .before .before .before .before .before .before .before .before .if2 .left in
     let next = c .before .before .before .before .before .before .before .before .before .before .before .before .before .before .before .before .before .before .before .dots-next .ensures in
-    let deeper = deeper-by (dotsAt (a .work .now) (a .dots) (a .w)) (treeAt (a .work .now) _ (a .w)) (a .d) _ _ (c .before .before .before .before .before .before .before .before .before .before .before .before .before .before .before .before .before .before .element-depth .ensures) next in
+    let deeper = deeper-by (dotsUnder (a .work .now) (a .scope)) (treeAt (a .work .now) _ (a .scope .wrap)) (a .scope .d) _ _ (c .before .before .before .before .before .before .before .before .before .before .before .before .before .before .before .before .before .before .element-depth .ensures) next in
     let first = c .before .before .before .before .before .before .before .before .before .before .before .before .before .before .before .before .template in
-    let head = made-head (a .work .now) (a .vars .now) (a .count) (a .dots) (a .node) (a .w) (a .d) (a .top) asks (p .1 .3) (p .1 .4) _ _ is-pair head-is rest-is (a .taken) _ _ untaken next deeper (first .last .0) (builtOf (first .result)) _ _ (sym (c .before .before .before .before .before .before .before .before .before .before .before .before .before .parts .ensures) ∙ c .before .before .before .before .before .before .before .before .before .before .before .a .given .1) (first .ensures) in
+    let head = made-head (a .work .now) (a .vars .now) (a .scope .count) (a .scope .dots) (a .node) (a .scope .wrap) (a .scope .d) (a .top) asks (p .1 .3) (p .1 .4) _ _ is-pair head-is rest-is (a .taken) _ _ untaken next deeper (first .last .0) (builtOf (first .result)) _ _ (sym (c .before .before .before .before .before .before .before .before .before .before .before .before .before .parts .ensures) ∙ c .before .before .before .before .before .before .before .before .before .before .before .a .given .1) (first .ensures) in
     let second = c .before .before .before .before .before .list-rest2 in
-    left-bad-rest (a .work .now) (a .vars .now) (a .count) (a .dots) (a .node) (a .w) (a .d) (a .top) asks (p .1 .3) (p .1 .4) _ _ is-pair head-is rest-is (a .taken) _ _ untaken next deeper (first .last .0) _ _ (first .kept .0) head (second .last .0) (builtOf (second .result)) (sym (c .before .before .parts2 .ensures) ∙ c .enum-told2 .given .1) (second .ensures)
+    left-bad-rest (a .work .now) (a .vars .now) (a .scope .count) (a .scope .dots) (a .node) (a .scope .wrap) (a .scope .d) (a .top) asks (p .1 .3) (p .1 .4) _ _ is-pair head-is rest-is (a .taken) _ _ untaken next deeper (first .last .0) _ _ (first .kept .0) head (second .last .0) (builtOf (second .result)) (sym (c .before .before .parts2 .ensures) ∙ c .enum-told2 .given .1) (second .ensures)
 
 list-rest-put-list-requires : (t : ℕ) → list-rest-lts.Need-put-list-requires (list-rest-claims t) (list-rest-at t) list-rest.Post
 list-rest-put-list-requires t c κs =
@@ -175,12 +174,12 @@ list-rest-put-list-requires t c κs =
     let rest-is = c .before .before .before .before .before .before .before .before .before .before .before .before .before .before .before .before .before .before .before .before .before .before .before .before .reference2 .ensures in
     let untaken = c .before .before .before .before .before .before .before .before .before .before .before .before .before .before .before .before .before .before .before .before .before .before .before .if2 .left in
     let next = c .before .before .before .before .before .before .before .before .before .before .before .before .before .before .before .before .before .before .before .before .before .dots-next .ensures in
-    let deeper = deeper-by (dotsAt (a .work .now) (a .dots) (a .w)) (treeAt (a .work .now) _ (a .w)) (a .d) _ _ (c .before .before .before .before .before .before .before .before .before .before .before .before .before .before .before .before .before .before .before .before .element-depth .ensures) next in
+    let deeper = deeper-by (dotsUnder (a .work .now) (a .scope)) (treeAt (a .work .now) _ (a .scope .wrap)) (a .scope .d) _ _ (c .before .before .before .before .before .before .before .before .before .before .before .before .before .before .before .before .before .before .before .before .element-depth .ensures) next in
     let first = c .before .before .before .before .before .before .before .before .before .before .before .before .before .before .before .before .before .before .template in
-    let head = made-head (a .work .now) (a .vars .now) (a .count) (a .dots) (a .node) (a .w) (a .d) (a .top) asks (p .1 .3) (p .1 .4) _ _ is-pair head-is rest-is (a .taken) _ _ untaken next deeper (first .last .0) (builtOf (first .result)) _ _ (sym (c .before .before .before .before .before .before .before .before .before .before .before .before .before .before .before .parts .ensures) ∙ c .before .before .before .before .before .before .before .before .before .before .before .before .before .a .given .1) (first .ensures) in
+    let head = made-head (a .work .now) (a .vars .now) (a .scope .count) (a .scope .dots) (a .node) (a .scope .wrap) (a .scope .d) (a .top) asks (p .1 .3) (p .1 .4) _ _ is-pair head-is rest-is (a .taken) _ _ untaken next deeper (first .last .0) (builtOf (first .result)) _ _ (sym (c .before .before .before .before .before .before .before .before .before .before .before .before .before .before .before .parts .ensures) ∙ c .before .before .before .before .before .before .before .before .before .before .before .before .before .a .given .1) (first .ensures) in
     let second = c .before .before .before .before .before .before .before .list-rest2 in
-    let later = made-rest (a .work .now) (a .vars .now) (a .count) (a .dots) (a .node) (a .w) (a .d) (a .top) asks (p .1 .3) (p .1 .4) _ _ is-pair head-is rest-is (a .taken) _ _ untaken next deeper (first .last .0) _ _ (first .kept .0) head (second .last .0) (builtOf (second .result)) _ _ (sym (c .before .before .before .before .parts2 .ensures) ∙ c .before .before .b .given .1) (second .ensures) in
-    (room-pair (a .work .now) (a .node) (a .w) (a .top) asks _ _ is-pair head-is rest-is _ _ _ (first .kept .0) (head .grows) _ _ _ (second .kept .0) (later .grows), omega (arith, head .grows .at-most, later .grows .up), later .grows .at-most)
+    let later = made-rest (a .work .now) (a .vars .now) (a .scope .count) (a .scope .dots) (a .node) (a .scope .wrap) (a .scope .d) (a .top) asks (p .1 .3) (p .1 .4) _ _ is-pair head-is rest-is (a .taken) _ _ untaken next deeper (first .last .0) _ _ (first .kept .0) head (second .last .0) (builtOf (second .result)) _ _ (sym (c .before .before .before .before .parts2 .ensures) ∙ c .before .before .b .given .1) (second .ensures) in
+    (room-pair (a .work .now) (a .node) (a .scope .wrap) (a .top) asks _ _ is-pair head-is rest-is _ _ _ (first .kept .0) (head .grows) _ _ _ (second .kept .0) (later .grows), omega (arith, head .grows .at-most, later .grows .up), later .grows .at-most)
 
 list-rest-returns-5 : (t : ℕ) → list-rest-lts.Need-returns-5 (list-rest-claims t) (list-rest-at t) list-rest.Post
 list-rest-returns-5 t c =
@@ -192,13 +191,13 @@ list-rest-returns-5 t c =
     let rest-is = c .before .before .before .before .before .before .before .before .before .before .before .before .before .before .before .before .before .before .before .before .before .before .before .before .before .before .before .before .reference2 .ensures in
     let untaken = c .before .before .before .before .before .before .before .before .before .before .before .before .before .before .before .before .before .before .before .before .before .before .before .before .before .before .before .if2 .left in
     let next = c .before .before .before .before .before .before .before .before .before .before .before .before .before .before .before .before .before .before .before .before .before .before .before .before .before .dots-next .ensures in
-    let deeper = deeper-by (dotsAt (a .work .now) (a .dots) (a .w)) (treeAt (a .work .now) _ (a .w)) (a .d) _ _ (c .before .before .before .before .before .before .before .before .before .before .before .before .before .before .before .before .before .before .before .before .before .before .before .before .element-depth .ensures) next in
+    let deeper = deeper-by (dotsUnder (a .work .now) (a .scope)) (treeAt (a .work .now) _ (a .scope .wrap)) (a .scope .d) _ _ (c .before .before .before .before .before .before .before .before .before .before .before .before .before .before .before .before .before .before .before .before .before .before .before .before .element-depth .ensures) next in
     let first = c .before .before .before .before .before .before .before .before .before .before .before .before .before .before .before .before .before .before .before .before .before .before .template in
-    let head = made-head (a .work .now) (a .vars .now) (a .count) (a .dots) (a .node) (a .w) (a .d) (a .top) asks (p .1 .3) (p .1 .4) _ _ is-pair head-is rest-is (a .taken) _ _ untaken next deeper (first .last .0) (builtOf (first .result)) _ _ (sym (c .before .before .before .before .before .before .before .before .before .before .before .before .before .before .before .before .before .before .before .parts .ensures) ∙ c .before .before .before .before .before .before .before .before .before .before .before .before .before .before .before .before .before .a .given .1) (first .ensures) in
+    let head = made-head (a .work .now) (a .vars .now) (a .scope .count) (a .scope .dots) (a .node) (a .scope .wrap) (a .scope .d) (a .top) asks (p .1 .3) (p .1 .4) _ _ is-pair head-is rest-is (a .taken) _ _ untaken next deeper (first .last .0) (builtOf (first .result)) _ _ (sym (c .before .before .before .before .before .before .before .before .before .before .before .before .before .before .before .before .before .before .before .parts .ensures) ∙ c .before .before .before .before .before .before .before .before .before .before .before .before .before .before .before .before .before .a .given .1) (first .ensures) in
     let second = c .before .before .before .before .before .before .before .before .before .before .before .list-rest2 in
-    let later = made-rest (a .work .now) (a .vars .now) (a .count) (a .dots) (a .node) (a .w) (a .d) (a .top) asks (p .1 .3) (p .1 .4) _ _ is-pair head-is rest-is (a .taken) _ _ untaken next deeper (first .last .0) _ _ (first .kept .0) head (second .last .0) (builtOf (second .result)) _ _ (sym (c .before .before .before .before .before .before .before .before .parts2 .ensures) ∙ c .before .before .before .before .before .before .b .given .1) (second .ensures) in
-    let left = left-list (a .work .now) (a .vars .now) (a .count) (a .dots) (a .node) (a .w) (a .d) (a .top) asks (p .1 .3) (p .1 .4) _ _ is-pair head-is rest-is (a .taken) _ _ untaken next deeper (first .last .0) _ _ (first .kept .0) head _ _ _ _ _ (sym (c .before .before .before .before .before .before .before .before .before .before .before .before .before .if3 .taken) ∙ c .before .before .before .before .before .before .before .before .before .before .before .before .before .before .accepted .ensures) later (c .before .before .before .put-list .ensures) in
-    packs-at (TemplateLeft _ _ _ _ _ _ _ _) _ _ _ _ (packs (a .work .now) (a .node) (a .w) (a .top) asks) (c .pair .ensures) (left .grows .words) left
+    let later = made-rest (a .work .now) (a .vars .now) (a .scope .count) (a .scope .dots) (a .node) (a .scope .wrap) (a .scope .d) (a .top) asks (p .1 .3) (p .1 .4) _ _ is-pair head-is rest-is (a .taken) _ _ untaken next deeper (first .last .0) _ _ (first .kept .0) head (second .last .0) (builtOf (second .result)) _ _ (sym (c .before .before .before .before .before .before .before .before .parts2 .ensures) ∙ c .before .before .before .before .before .before .b .given .1) (second .ensures) in
+    let left = left-list (a .work .now) (a .vars .now) (a .scope .count) (a .scope .dots) (a .node) (a .scope .wrap) (a .scope .d) (a .top) asks (p .1 .3) (p .1 .4) _ _ is-pair head-is rest-is (a .taken) _ _ untaken next deeper (first .last .0) _ _ (first .kept .0) head _ _ _ _ _ (sym (c .before .before .before .before .before .before .before .before .before .before .before .before .before .if3 .taken) ∙ c .before .before .before .before .before .before .before .before .before .before .before .before .before .before .accepted .ensures) later (c .before .before .before .put-list .ensures .1) in
+    packs-at (TemplateLeft _ _ _ _ _ _ _ _) _ _ _ _ (packs (a .work .now) (a .node) (a .scope .wrap) (a .top) asks) (c .pair .ensures) (left .grows .words) left
 
 list-rest-returns-6 : (t : ℕ) → list-rest-lts.Need-returns-6 (list-rest-claims t) (list-rest-at t) list-rest.Post
 unfolding builtOf
@@ -211,10 +210,10 @@ list-rest-returns-6 t c =
     let rest-is = c .before .before .before .before .before .before .before .before .before .before .before .before .before .before .before .reference2 .ensures in
     let untaken = c .before .before .before .before .before .before .before .before .before .before .before .before .before .before .if2 .left in
     let next = c .before .before .before .before .before .before .before .before .before .before .before .before .dots-next .ensures in
-    let deeper = deeper-by (dotsAt (a .work .now) (a .dots) (a .w)) (treeAt (a .work .now) _ (a .w)) (a .d) _ _ (c .before .before .before .before .before .before .before .before .before .before .before .element-depth .ensures) next in
+    let deeper = deeper-by (dotsUnder (a .work .now) (a .scope)) (treeAt (a .work .now) _ (a .scope .wrap)) (a .scope .d) _ _ (c .before .before .before .before .before .before .before .before .before .before .before .element-depth .ensures) next in
     let first = c .before .before .before .before .before .before .before .before .before .template in
-    let head = made-head (a .work .now) (a .vars .now) (a .count) (a .dots) (a .node) (a .w) (a .d) (a .top) asks (p .1 .3) (p .1 .4) _ _ is-pair head-is rest-is (a .taken) _ _ untaken next deeper (first .last .0) (builtOf (first .result)) _ _ (sym (c .before .before .before .before .before .before .parts .ensures) ∙ c .before .before .before .before .a .given .1) (first .ensures) in
-    left-undriven (a .work .now) (a .vars .now) (a .count) (a .dots) (a .node) (a .w) (a .d) (a .top) asks (p .1 .3) (p .1 .4) _ _ is-pair head-is rest-is (a .taken) _ _ untaken next deeper (first .last .0) _ _ (first .kept .0) head (sym (c .if3 .left) ∙ c .before .accepted .ensures)
+    let head = made-head (a .work .now) (a .vars .now) (a .scope .count) (a .scope .dots) (a .node) (a .scope .wrap) (a .scope .d) (a .top) asks (p .1 .3) (p .1 .4) _ _ is-pair head-is rest-is (a .taken) _ _ untaken next deeper (first .last .0) (builtOf (first .result)) _ _ (sym (c .before .before .before .before .before .before .parts .ensures) ∙ c .before .before .before .before .a .given .1) (first .ensures) in
+    left-undriven (a .work .now) (a .vars .now) (a .scope .count) (a .scope .dots) (a .node) (a .scope .wrap) (a .scope .d) (a .top) asks (p .1 .3) (p .1 .4) _ _ is-pair head-is rest-is (a .taken) _ _ untaken next deeper (first .last .0) _ _ (first .kept .0) head (sym (c .if3 .left) ∙ c .before .accepted .ensures)
 
 template-template-leaf-requires : (t : ℕ) → template-lts.Need-template-leaf-requires (template-claims t) (template-at t) template.Post
 template-template-leaf-requires t c κs =
@@ -231,8 +230,8 @@ template-template-requires t c κs =
     let p = c .before .before .before .before .before .before .before .before .before .before .before .before .before .before .before .before .pre in
     let asks = p .1 .0 in
     let is-pair = sym (c .before .before .before .before .before .before .before .before .before .before .before .before .word .ensures) ∙ c .before .before .before .before .before .before .before .before .before .before .before .if1 .left in
-    let below = inside-below (a .work .now) (a .vars .now) (a .count) (a .dots) (a .node) (a .w) (a .d) (a .top) asks (p .1 .3) (p .1 .4) _ _ is-pair refl (c .before .before .before .before .before .before .reference .ensures) _ (c .before .first .ensures) in
-    (omega (arith, p .0, below), (asks-inside (a .work .now) (a .vars .now) (a .count) (a .dots) (a .node) (a .w) (a .d) (a .top) asks (p .1 .3) (p .1 .4) _ _ is-pair refl (c .before .before .before .before .before .before .reference .ensures) _ (c .before .first .ensures), p .1 .1, p .1 .2, p .1 .3, some-top (a .work .now) (a .vars .now) (a .count) (a .dots) (a .node) (a .w) (a .d) (a .top) asks (p .1 .3) (p .1 .4) _ _ is-pair refl (c .before .before .before .before .before .before .reference .ensures) _ (c .before .first .ensures), omega (arith, p .1 .5, below)))
+    let below = inside-below (a .work .now) (a .vars .now) (a .scope .count) (a .scope .dots) (a .node) (a .scope .wrap) (a .scope .d) (a .top) asks (p .1 .3) (p .1 .4) _ _ is-pair refl (c .before .before .before .before .before .before .reference .ensures) _ (c .before .first .ensures) in
+    (omega (arith, p .0, below), (asks-inside (a .work .now) (a .vars .now) (a .scope .count) (a .scope .dots) (a .node) (a .scope .wrap) (a .scope .d) (a .top) asks (p .1 .3) (p .1 .4) _ _ is-pair refl (c .before .before .before .before .before .before .reference .ensures) _ (c .before .first .ensures), p .1 .1, p .1 .2, p .1 .3, some-top (a .work .now) (a .vars .now) (a .scope .count) (a .scope .dots) (a .node) (a .scope .wrap) (a .scope .d) (a .top) asks (p .1 .3) (p .1 .4) _ _ is-pair refl (c .before .before .before .before .before .before .reference .ensures) _ (c .before .first .ensures), omega (arith, p .1 .5, below)))
 
 template-returns-2 : (t : ℕ) → template-lts.Need-returns-2 (template-claims t) (template-at t) template.Post
 template-returns-2 t c =
@@ -241,7 +240,7 @@ template-returns-2 t c =
     let asks = p .1 .0 in
     let is-pair = sym (c .before .before .before .before .before .before .before .before .before .before .before .before .before .before .before .word .ensures) ∙ c .before .before .before .before .before .before .before .before .before .before .before .before .before .before .if1 .left in
     let l = c .before .before .template in
-    left-escape (a .work .now) (a .vars .now) (a .count) (a .dots) (a .node) (a .w) (a .d) (a .top) asks (p .1 .3) (p .1 .4) _ _ is-pair refl (c .before .before .before .before .before .before .before .before .before .reference .ensures) _ (c .before .before .before .before .first .ensures) (l .last .0) (builtOf (l .result)) (sym (c .before .before .before .before .before .before .before .before .before .before .before .if2 .taken) ∙ c .before .before .before .before .before .before .before .before .before .before .before .before .dots-next .ensures) (sym (c .before .before .before .before .before .before .if3 .taken) ∙ c .before .before .before .before .before .before .before .is-list-of .ensures (a .w)) (l .ensures)
+    left-escape (a .work .now) (a .vars .now) (a .scope .count) (a .scope .dots) (a .node) (a .scope .wrap) (a .scope .d) (a .top) asks (p .1 .3) (p .1 .4) _ _ is-pair refl (c .before .before .before .before .before .before .before .before .before .reference .ensures) _ (c .before .before .before .before .first .ensures) (l .last .0) (builtOf (l .result)) (sym (c .before .before .before .before .before .before .before .before .before .before .before .if2 .taken) ∙ c .before .before .before .before .before .before .before .before .before .before .before .before .dots-next .ensures) (sym (c .before .before .before .before .before .before .if3 .taken) ∙ c .before .before .before .before .before .before .before .is-list-of .ensures (a .scope .wrap)) (l .ensures)
 
 template-returns-3 : (t : ℕ) → template-lts.Need-returns-3 (template-claims t) (template-at t) template.Post
 unfolding builtOf
@@ -250,7 +249,7 @@ template-returns-3 t c =
     let p = c .before .before .before .before .before .before .before .before .before .before .before .before .before .pre in
     let asks = p .1 .0 in
     let is-pair = sym (c .before .before .before .before .before .before .before .before .before .word .ensures) ∙ c .before .before .before .before .before .before .before .before .if1 .left in
-    left-unescaped (a .work .now) (a .vars .now) (a .count) (a .dots) (a .node) (a .w) (a .d) (a .top) asks (p .1 .3) (p .1 .4) _ _ is-pair refl (c .before .before .before .reference .ensures) (sym (c .before .before .before .before .before .if2 .taken) ∙ c .before .before .before .before .before .before .dots-next .ensures) (sym (c .if3 .left) ∙ c .before .is-list-of .ensures (a .w))
+    left-unescaped (a .work .now) (a .vars .now) (a .scope .count) (a .scope .dots) (a .node) (a .scope .wrap) (a .scope .d) (a .top) asks (p .1 .3) (p .1 .4) _ _ is-pair refl (c .before .before .before .reference .ensures) (sym (c .before .before .before .before .before .if2 .taken) ∙ c .before .before .before .before .before .before .dots-next .ensures) (sym (c .if3 .left) ∙ c .before .is-list-of .ensures (a .scope .wrap))
 
 template-list-rest-requires : (t : ℕ) → template-lts.Need-list-rest-requires (template-claims t) (template-at t) template.Post
 template-list-rest-requires t c κs =
@@ -265,7 +264,7 @@ template-returns-4 t c =
     let asks = p .1 .0 in
     let is-pair = sym (c .before .before .before .before .before .before .before .before .word .ensures) ∙ c .before .before .before .before .before .before .before .if1 .left in
     let l = c .before .before .list-rest in
-    left-plain (a .work .now) (a .vars .now) (a .count) (a .dots) (a .node) (a .w) (a .d) (a .top) asks (p .1 .3) (p .1 .4) _ _ is-pair refl refl (l .last .0) (builtOf (l .result)) (sym (c .before .before .before .before .if2 .left) ∙ c .before .before .before .before .before .dots-next .ensures) (l .ensures)
+    left-plain (a .work .now) (a .vars .now) (a .scope .count) (a .scope .dots) (a .node) (a .scope .wrap) (a .scope .d) (a .top) asks (p .1 .3) (p .1 .4) _ _ is-pair refl refl (l .last .0) (builtOf (l .result)) (sym (c .before .before .before .before .if2 .left) ∙ c .before .before .before .before .before .dots-next .ensures) (l .ensures)
 
 pub +list-rest+template-spec : {M : Type 1} → statement M
 +list-rest+template-spec = close μ-list-rest μ-template (λ t. list-rest-lts.spec (list-rest-claims t)

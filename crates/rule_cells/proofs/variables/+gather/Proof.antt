@@ -15,16 +15,15 @@ use borrow.Author.Needs.{needs}
 use mathlib.Core.Path.{_≡_, refl, sym, _∙_}
 use lib.ListN.{length}
 use native.Mathlib.Omega.{arith}
-use Rattle.recipe.specs.Tree.{names}
 use Rattle.arena.specs.Arena.{treeAt}
 use Rattle.arena.specs.ListLaws.{pair-falls}
 use Rattle.rule_cells.specs.Variables.{Count, Bad, keptOf, Gathering}
 use Rattle.rule_cells.specs.GatherLaws.{deeper-most, kept-bad, kept-count, gathered-count, gathered-stored, gathered-name, gathered-other, gathered-bad, gathering-begins, gathering-more}
-use Rattle.rule_cells.specs.Dots.{dotsAt}
+use Rattle.rule_cells.specs.Scopes.{dotsOf, literalsOf}
 
 abbrev μ-gather : Measures 2 gather-kinds.ps ℕ
 μ-gather κs a =
-    a .1 .1 .1 .1 .0
+    a .1 .1 .1 .0
 
 abbrev gather-at : ℕ → In 2 gather-kinds.ps
 gather-at t = and 2 gather-kinds.ps (is 2 gather-kinds.ps μ-gather t) gather.Pre
@@ -36,17 +35,17 @@ abbrev gather-claims : ℕ → gather-lts.Claims
 gather-claims t = (word-reads.Asked, word-reads.Learnt, reference-reads.Asked, reference-reads.Learnt, depth-before-reads.Asked, depth-before-reads.Learnt, gather-below t, gather.Post, gather-name-reads.Asked, gather-name-reads.Learnt)
 
 abbrev gather-Inv-loop : gather-lts.InvT-loop
-gather-Inv-loop work vars₀ dots literals node w d n at₀ m₀ vars at m =
-    (length vars ≡ length vars₀) × Gathering (dotsAt work dots w) (names (treeAt work literals w)) d work w node n vars₀ at m vars
+gather-Inv-loop work vars₀ form node d n at₀ m₀ vars at m =
+    (length vars ≡ length vars₀) × Gathering (dotsOf work form) (literalsOf work form) d work (form .wrap) node n vars₀ at m vars
 
 abbrev gather-μ-loop : gather-lts.MeasureT-loop
-gather-μ-loop work vars₀ dots literals node w d n at₀ m₀ vars at m =
+gather-μ-loop work vars₀ form node d n at₀ m₀ vars at m =
     at
 
 gather-loop-holds : (t : ℕ) → gather-lts.Need-loop-holds (gather-claims t) (gather-at t) gather.Post gather-Inv-loop gather-μ-loop
 gather-loop-holds t c =
     let a = c .before .before .args in
-    (refl, gathering-begins (a .work .now) (a .w) (a .node) (a .n) (a .vars .now) (dotsAt (a .work .now) (a .dots) (a .w)) (names (treeAt (a .work .now) (a .literals) (a .w))) (a .d) (c .before .before .pre .1 .1))
+    (refl, gathering-begins (a .work .now) (a .form .wrap) (a .node) (a .n) (a .vars .now) (dotsOf (a .work .now) (a .form)) (literalsOf (a .work .now) (a .form)) (a .d) (c .before .before .pre .1 .1))
 
 gather-depth-before-requires : (t : ℕ) → gather-lts.Need-depth-before-requires (gather-claims t) (gather-at t) gather.Post gather-Inv-loop gather-μ-loop
 gather-depth-before-requires t c κs =
@@ -73,7 +72,7 @@ gather-returns t c =
     let l = c .before .before .before .before .before .before .before .before .before .before .loop in
     let g = c .before .before .before .gather in
     l .inv .1 .all (g .last .1 .0) Bad
-    (gathered-bad (a .work .now) (a .w) (l .at) (l .m) (l .vars) (dotsAt (a .work .now) (a .dots) (a .w)) (names (treeAt (a .work .now) (a .literals) (a .w))) (a .d) _ _ _ (sym (c .before .before .before .before .before .before .before .before .before .word .ensures) ∙ c .before .before .before .before .before .before .before .before .if1 .taken) (c .before .before .before .before .before .before .before .reference .ensures) (c .before .before .before .before .before .before .reference2 .ensures) (c .before .before .before .before .before .depth-before .ensures) _ (keptOf (g .result)) (kept-bad (g .result) (c .if2 .taken)) (g .ensures))
+    (gathered-bad (a .work .now) (a .form .wrap) (l .at) (l .m) (l .vars) (dotsOf (a .work .now) (a .form)) (literalsOf (a .work .now) (a .form)) (a .d) _ _ _ (sym (c .before .before .before .before .before .before .before .before .before .word .ensures) ∙ c .before .before .before .before .before .before .before .before .if1 .taken) (c .before .before .before .before .before .before .before .reference .ensures) (c .before .before .before .before .before .before .reference2 .ensures) (c .before .before .before .before .before .depth-before .ensures) _ (keptOf (g .result)) (kept-bad (g .result) (c .if2 .taken)) (g .ensures))
 
 gather-loop-less : (t : ℕ) → gather-lts.Need-loop-less (gather-claims t) (gather-at t) gather.Post gather-Inv-loop gather-μ-loop
 gather-loop-less t c =
@@ -85,7 +84,7 @@ gather-loop-again t c =
     let l = c .before .before .before .before .before .before .before .before .before .before .loop in
     let g = c .before .before .before .gather in (
       g .kept .1 .0 ∙ l .inv .0,
-      gathering-more (a .work .now) (a .w) (l .at) (l .m) (l .vars) (dotsAt (a .work .now) (a .dots) (a .w)) (names (treeAt (a .work .now) (a .literals) (a .w))) (a .d) _ _ _ (sym (c .before .before .before .before .before .before .before .before .before .word .ensures) ∙ c .before .before .before .before .before .before .before .before .if1 .taken) (c .before .before .before .before .before .before .before .reference .ensures) (c .before .before .before .before .before .before .reference2 .ensures) (c .before .before .before .before .before .depth-before .ensures) _ _ _ _ _
+      gathering-more (a .work .now) (a .form .wrap) (l .at) (l .m) (l .vars) (dotsOf (a .work .now) (a .form)) (literalsOf (a .work .now) (a .form)) (a .d) _ _ _ (sym (c .before .before .before .before .before .before .before .before .before .word .ensures) ∙ c .before .before .before .before .before .before .before .before .if1 .taken) (c .before .before .before .before .before .before .before .reference .ensures) (c .before .before .before .before .before .before .reference2 .ensures) (c .before .before .before .before .before .depth-before .ensures) _ _ _ _ _
           (gathered-stored _ _ _ _ _ _ _ (keptOf (g .result)) _ (kept-count (g .result) (c .if2 .left)) (g .ensures))
           (l .inv .1),
     )
@@ -102,7 +101,7 @@ gather-returns-2 t c =
     let l = c .before .before .before .before .before .before .before .before .loop in
     let g = c .before .before .gather-name in
     l .inv .1 .all (g .last .1 .0) (keptOf (g .result))
-    (gathered-name (a .work .now) (a .w) (l .at) (l .m) (l .vars) (dotsAt (a .work .now) (a .dots) (a .w)) (names (treeAt (a .work .now) (a .literals) (a .w))) (a .d) (g .last .1 .0) (keptOf (g .result)) (sym (c .before .before .before .before .before .word2 .ensures) ∙ c .before .before .before .before .if3 .taken) (g .ensures))
+    (gathered-name (a .work .now) (a .form .wrap) (l .at) (l .m) (l .vars) (dotsOf (a .work .now) (a .form)) (literalsOf (a .work .now) (a .form)) (a .d) (g .last .1 .0) (keptOf (g .result)) (sym (c .before .before .before .before .before .word2 .ensures) ∙ c .before .before .before .before .if3 .taken) (g .ensures))
 
 gather-returns-3 : (t : ℕ) → gather-lts.Need-returns-3 (gather-claims t) (gather-at t) gather.Post gather-Inv-loop gather-μ-loop
 gather-returns-3 t c =
@@ -110,7 +109,7 @@ gather-returns-3 t c =
     let l = c .before .before .before .before .loop in
     gathered-count _ _ _ _ _ _ _ _
     (l .inv .1 .all (l .vars) (Count (l .m))
-    (gathered-other (a .work .now) (a .w) (l .at) (l .m) (l .vars) (dotsAt (a .work .now) (a .dots) (a .w)) (names (treeAt (a .work .now) (a .literals) (a .w))) (a .d) (λ z. c .if3 .left (c .before .word2 .ensures ∙ z)) (λ z. c .before .before .if1 .left (c .before .before .before .word .ensures ∙ z)) (l .inv .1 .held)))
+    (gathered-other (a .work .now) (a .form .wrap) (l .at) (l .m) (l .vars) (dotsOf (a .work .now) (a .form)) (literalsOf (a .work .now) (a .form)) (a .d) (λ z. c .if3 .left (c .before .word2 .ensures ∙ z)) (λ z. c .before .before .if1 .left (c .before .before .before .word .ensures ∙ z)) (l .inv .1 .held)))
 
 pub +gather-spec : {M : Type 1} → statement M
 +gather-spec = close μ-gather λ t. gather-lts.spec (gather-claims t)

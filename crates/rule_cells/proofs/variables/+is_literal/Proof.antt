@@ -17,6 +17,7 @@ use native.Mathlib.Omega.{arith}
 use Rattle.words.specs.Lists.{anyOf}
 use Rattle.recipe.specs.Name.{same}
 use Rattle.recipe.specs.Tree.{names}
+use Rattle.arena.specs.Offsets.{KIND}
 use Rattle.arena.specs.Arena.{wordAt, nameAt, treeAt}
 use Rattle.arena.specs.ListLaws.{pair-falls}
 use Rattle.rule_cells.specs.VariableLaws.{any-name, any-head, any-rest, any-other}
@@ -38,7 +39,7 @@ is-literal-claims t = (word-reads.Asked, word-reads.Learnt, reference-reads.Aske
 
 abbrev is-literal-Inv-loop : is-literal-lts.InvT-loop
 is-literal-Inv-loop work list node w at₀ kind₀ at kind =
-    (kind ≡ wordAt work at 3) × (at ≤ list) × ((b : Bool) → b ≡ anyOf (same (nameAt work node w)) (names (treeAt work at w)) → b ≡ anyOf (same (nameAt work node w)) (names (treeAt work list w)))
+    (kind ≡ wordAt work at KIND) × (at ≤ list) × ((b : Bool) → b ≡ anyOf (same (nameAt work node w)) (names (treeAt work at w)) → b ≡ anyOf (same (nameAt work node w)) (names (treeAt work list w)))
 
 abbrev is-literal-μ-loop : is-literal-lts.MeasureT-loop
 is-literal-μ-loop work list node w at₀ kind₀ at kind =
