@@ -10,14 +10,15 @@ ghost use Rattle.recipe.specs.Name.{markName};
 ghost use Rattle.recipe.specs.Tree.{empty, constant, name, pair};
 ghost use Rattle.arena.specs.Arena.{wordAt, referenceAt, stepLimit, wrapAt, originName, treeAt};
 ghost use Rattle.arena.specs.Cells.{Room, Cell, Wrapped, Bound, Grown};
+use datum::kinds;
 use std::num;
 
 // Kinds of nodes, as of items; every other is a constant's.
-pub const EMPTY: u32 = 0;
+pub const EMPTY: u32 = kinds::EMPTY;
 
-pub const NAME: u32 = 3;
+pub const NAME: u32 = kinds::NAME;
 
-pub const PAIR: u32 = 4;
+pub const PAIR: u32 = kinds::PAIR;
 
 // Tags of wraps.
 pub const MARK: u32 = 1;

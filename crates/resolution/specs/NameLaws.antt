@@ -1,6 +1,6 @@
 -- Laws of names in the arena, in the code's shape.
 use mathlib.Core.Path.{_≡_, refl, sym, ap, ap₂, subst, _∙_}
-use mathlib.Core.Bool.{Bool, true, false, _&&_}
+use mathlib.Core.Bool.{Bool, true, false, _&&_, and-true, and-false}
 use mathlib.Core.List.{List}
 use mathlib.Core.Option.{Option, none, some}
 use Prim.Native.Nat.{ℕ, _+_, _-_, _/_, _%_, _≤_, _<_}
@@ -89,14 +89,6 @@ binds-name node w b old new top r own number pending h c =
     record { end = c .end; kept = c .kept; means = λ to e x. c .means (nameAt old node w) to (described old node w b own number pending h) e x }
 
 -- ---- sameness
-
-and-false : (a : Bool) → (a && false) ≡ false
-and-false true = refl
-and-false false = refl
-
-and-true : (a : Bool) → (a && true) ≡ a
-and-true true = refl
-and-true false = refl
 
 module _ (work : List ℕ) (a v b w : ℕ) where
   abbrev Same : Bool

@@ -22,21 +22,22 @@ use crate::wraps::InHand;
 use arena::cells;
 use arena::cells::Binder;
 use arena::origins;
+use datum::base_names;
 
 // The numbers of the names that begin base forms, and of `...` and `_`.
-pub const QUOTE: u32 = 0;
+pub const QUOTE: u32 = base_names::QUOTE;
 
-pub const IF: u32 = 1;
+pub const IF: u32 = base_names::IF;
 
-pub const LAMBDA: u32 = 2;
+pub const LAMBDA: u32 = base_names::LAMBDA;
 
-pub const LET_SYNTAX: u32 = 3;
+pub const LET_SYNTAX: u32 = base_names::LET_SYNTAX;
 
-pub const LETREC_SYNTAX: u32 = 4;
+pub const LETREC_SYNTAX: u32 = base_names::LETREC_SYNTAX;
 
-pub const ELLIPSIS: u32 = 6;
+pub const ELLIPSIS: u32 = base_names::ELLIPSIS;
 
-pub const WILDCARD: u32 = 7;
+pub const WILDCARD: u32 = base_names::WILDCARD;
 
 const BASE_NAMES: u32 = words::BASE_NAMES as u32;
 

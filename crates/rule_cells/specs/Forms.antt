@@ -1,6 +1,6 @@
 -- The shape of a rules form, in the parts that the code tests, and its laws.
 use mathlib.Core.Path.{_≡_, refl, sym, ap, _∙_}
-use mathlib.Core.Bool.{Bool, true, false, not, _&&_}
+use mathlib.Core.Bool.{Bool, true, false, not, _&&_, and-true, and-false}
 use mathlib.Core.List.{List}
 use Prim.Native.Nat.{ℕ, _≤_}
 use native.Mathlib.Omega.{arith}
@@ -139,14 +139,6 @@ module _ (work : List ℕ) (node w : ℕ) where
     head-is : onName isSyntaxRules false (treeAt work node w) ≡ (eqb (bindingKey (nameAt work node w .binding)) 0 && eqb n 5)
     unfolding onName isSyntaxRules
     head-is = rw (treeAt-name work node w e, nameAt-number work node w, ← f) refl
-
-    and-false : (b : Bool) → (b && false) ≡ false
-    and-false true = refl
-    and-false false = refl
-
-    and-true : (b : Bool) → (b && true) ≡ b
-    and-true true = refl
-    and-true false = refl
 
     pub head-other : (n ≡ 5 → ⊥) → false ≡ onName isSyntaxRules false (treeAt work node w)
     head-other d = sym (head-is ∙ rw (ne-eqb n 5 d) (and-false (eqb (bindingKey (nameAt work node w .binding)) 0)))

@@ -11,7 +11,7 @@ use lib.Seq.{getD-set-same, getD-set-other}
 use borrow.Author.Tests.{le-leb, lt-leb, eqb-true, eqb-false}
 use Rattle.words.specs.Limits.{depthMost}
 use Rattle.words.specs.Lists.{allOf, anyOf}
-use Rattle.words.specs.TestLaws.{and-none-left, and-none-right, and-both, and-left, and-right, or-left, or-right}
+use Rattle.words.specs.TestLaws.{and-none-left, and-none-right, and-both, and-left, and-right, or-left, or-right, any-append}
 use Rattle.recipe.specs.Name.{Name, same, distinct}
 use Rattle.recipe.specs.Tree.{Tree, names}
 use Rattle.expansion.specs.Rules.{variableFrom, areVariables, dotsNext, depthBefore}
@@ -29,15 +29,6 @@ use Rattle.rule_cells.specs.declared.variables.Known.the-variants.{At, N
 or-false : (b : Bool) → (b || false) ≡ b
 or-false true = refl
 or-false false = refl
-
-any-append : {A : Type 0} (f : A → Bool) (a b : List A) → anyOf f (a ++ b) ≡ (anyOf f a || anyOf f b)
-unfolding anyOf
-any-append f [] b = refl
-any-append f (x ∷ a) b = rw (any-append f a b) (or-assoc (f x) (anyOf f a) (anyOf f b))
-  where
-    or-assoc : (p q r : Bool) → (p || (q || r)) ≡ ((p || q) || r)
-    or-assoc true q r = refl
-    or-assoc false q r = refl
 
 -- the names of a tree in the arena that pass a test
 module _ (work : List ℕ) (list w : ℕ) (f : Name → Bool) where

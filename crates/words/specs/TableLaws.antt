@@ -1,4 +1,4 @@
--- Laws of zeroing a table, of words or of bytes.
+-- Laws of lent tables: what fills one, and zeroing one, of words or of bytes.
 use mathlib.Core.Path.{_≡_, refl, ap, _∙_}
 use mathlib.Core.List.{List, _++_, append-nil}
 use Prim.Native.Nat.{ℕ, _+_, _-_, _≤_, _<_}
@@ -6,7 +6,14 @@ use native.Mathlib.Omega.{arith}
 use lib.ListN.{length, drop, set, replicate, length-append, length-drop, length-replicate}
 use lib.Seq.{drop-length}
 use borrow.Author.Fill.{fill-more}
-use Rattle.words.specs.Tables.{Zeroed}
+use Rattle.words.specs.Tables.{filled, Zeroed}
+
+-- only the length of a table matters to what fills it
+pub filled-same : (ws t u : List ℕ) → length t ≡ length u → filled ws t ≡ filled ws u
+unfolding filled
+filled-same ws t u e = rw e
+
+-- ---- zeroing
 
 zeroed-sized : (n : ℕ) (lent : List ℕ) → n ≤ length lent → length (replicate n 0 ++ drop n lent) ≡ length lent
 zeroed-sized n lent h = simp (length-append, length-replicate, length-drop) (omega arith)

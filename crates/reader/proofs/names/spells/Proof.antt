@@ -21,7 +21,7 @@ abbrev μ-loop : tie.MeasureT-loop
 -- past the test of lengths
 lengths : (c : tie.Else1 Inv-loop μ-loop) → let a = c .before .before .before .before .before .args in length (nameAt (a .names .now) (a .number)) ≡ length (a .word .now)
 unfolding lengthAt
-lengths c = let pre = c .before .before .before .before .before .pre in name-length _ _ (pre .0) (pre .1) ∙ sym (c .before .wide .ensures) ∙ c .if1 .left
+lengths c = let pre = c .before .before .before .before .before .pre in name-length _ _ (pre .0) (pre .1) ∙ sym (c .before .byte .ensures) ∙ c .if1 .left
 
 -- a byte that a turn compares
 byte : (c : tie.In-loop Inv-loop μ-loop) → let a = c .before .before .before .before .before .before .before .args in
@@ -30,7 +30,7 @@ unfolding lengthAt
 byte c =
     let a = c .before .before .before .before .before .before .before .args in
     let pre = c .before .before .before .before .before .before .before .pre in
-    let h : c .before .loop .i < lengthAt (a .names .now) (a .number) = omega (arith, c .before .before .before .wide .ensures, c .before .before .if1 .left, c .loop-test .taken) in
+    let h : c .before .loop .i < lengthAt (a .names .now) (a .number) = omega (arith, c .before .before .before .byte .ensures, c .before .before .if1 .left, c .loop-test .taken) in
     name-byte (a .names .now) (a .number) (pre .0) (pre .1) (c .before .loop .i) h
 
 returns : tie.Need-returns Inv-loop μ-loop
@@ -41,7 +41,7 @@ returns c =
     let table = args .names .now in
     let n = args .number in
     unequal-lengths (args .word .now) (nameAt table n)
-    (λ e. c .if1 .taken (c .before .wide .ensures ∙ sym (name-length table n (pre .0) (pre .1)) ∙ e))
+    (λ e. c .if1 .taken (c .before .byte .ensures ∙ sym (name-length table n (pre .0) (pre .1)) ∙ e))
 
 loop-holds : tie.Need-loop-holds Inv-loop μ-loop
 loop-holds c =
@@ -51,9 +51,9 @@ shared-slice-read-if2 : tie.Need-shared-slice-read-if2 Inv-loop μ-loop
 unfolding lengthAt
 shared-slice-read-if2 c =
     let pre = c .before .before .before .before .before .before .before .before .pre in
-    let wide = c .before .before .before .before .wide in
+    let byte = c .before .before .before .before .byte in
     let if1 = c .before .before .before .if1 in
-    omega (arith, pre .0, pre .1, wide .ensures, if1 .left)
+    omega (arith, pre .0, pre .1, byte .ensures, if1 .left)
 
 returns-2 : tie.Need-returns-2 Inv-loop μ-loop
 returns-2 c =
@@ -85,8 +85,8 @@ spells-spec =
     Inv-loop
     μ-loop
     (λ c. search needs)  -- mul-start
-    (λ c. search needs)  -- shared-slice-read-wide
-    (λ c κs. search needs)  -- wide-requires
+    (λ c. search needs)  -- shared-slice-read-byte
+    (λ c κs. search needs)  -- byte-requires
     returns
     loop-holds
     (λ c. search needs)  -- add-if2
