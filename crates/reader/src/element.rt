@@ -29,7 +29,7 @@ pub enum Move {
 }
 
 // A name, by the number it has or the next one.
-pub fn put_name(
+fn put_name(
     items: &mut [u32],
     names: &mut [u8],
     index: &mut [u16],

@@ -75,7 +75,7 @@ pub fn find(names: &[u8], index: &[u16], known: usize, word: &[u8], bucket: usiz
 }
 
 // The word in a slot, over zeros.
-pub fn store(names: &mut [u8], number: usize, word: &[u8])
+fn store(names: &mut [u8], number: usize, word: &[u8])
     requires { ⌜ (slotSize * number + slotSize ≤ length (now names)) × (length (now word) ≤ nameLengthMost) ⌝ }
     ensures { λ _. ⌜ now (names .exit) ≡ stored (now (names .entry)) number (now (word .entry)) ⌝ }
 {

@@ -29,7 +29,7 @@ pub enum Known {
 }
 
 // Whether a name is the same as one of the names of a list.
-pub fn is_literal(work: &[u32], list: u32, node: u32, w: u32) -> bool
+fn is_literal(work: &[u32], list: u32, node: u32, w: u32) -> bool
     ensures { λ r. ⌜ r ≡ anyOf (same (nameAt (now (work .entry)) node w)) (names (treeAt (now (work .entry)) list w)) ⌝ }
 {
     let mut at = list;
