@@ -28,10 +28,14 @@ byte : (c : tie.In-loop Inv-loop μ-loop) → let a = c .before .before .before 
     getD (nameAt (a .names .now) (a .number)) (c .before .loop .i) 0 ≡ getD (a .names .now) (64 * a .number + 1 + c .before .loop .i) 0
 unfolding lengthAt
 byte c =
-    let a = c .before .before .before .before .before .before .before .args in
-    let pre = c .before .before .before .before .before .before .before .pre in
-    let h : c .before .loop .i < lengthAt (a .names .now) (a .number) = omega (arith, c .before .before .before .byte .ensures, c .before .before .if1 .left, c .loop-test .taken) in
-    name-byte (a .names .now) (a .number) (pre .0) (pre .1) (c .before .loop .i) h
+    let at-loop = c .before in
+    let at-if1 = at-loop .before in
+    let at-byte = at-if1 .before in
+    let at-args = at-byte .before .before .before .before in
+    let a = at-args .args in
+    let pre = at-args .pre in
+    let h : at-loop .loop .i < lengthAt (a .names .now) (a .number) = omega (arith, at-byte .byte .ensures, at-if1 .if1 .left, c .loop-test .taken) in
+    name-byte (a .names .now) (a .number) (pre .0) (pre .1) (at-loop .loop .i) h
 
 returns : tie.Need-returns Inv-loop μ-loop
 unfolding lengthAt
@@ -50,25 +54,33 @@ loop-holds c =
 shared-slice-read-if2 : tie.Need-shared-slice-read-if2 Inv-loop μ-loop
 unfolding lengthAt
 shared-slice-read-if2 c =
-    let pre = c .before .before .before .before .before .before .before .before .pre in
-    let byte = c .before .before .before .before .byte in
-    let if1 = c .before .before .before .if1 in
+    let at-if1 = c .before .before .before in
+    let at-byte = at-if1 .before in
+    let pre = at-byte .before .before .before .before .pre in
+    let byte = at-byte .byte in
+    let if1 = at-if1 .if1 in
     omega (arith, pre .0, pre .1, byte .ensures, if1 .left)
 
 returns-2 : tie.Need-returns-2 Inv-loop μ-loop
 returns-2 c =
-    let args = c .before .before .before .before .before .before .before .before .before .before .args in
-    let loop = c .before .before .before .before .loop in
-    sym (equal-stop (args .word .now) (nameAt (args .names .now) (args .number)) (lengths (c .before .before .before .before .before)) (loop .i) (c .before .before .before .loop-test .taken)
-    (λ e. c .if2 .taken (sym (byte (c .before .before .before)) ∙ e))) ∙ loop .inv .1
+    let at-before = c .before .before in
+    let at-loop-test = at-before .before in
+    let at-before′ = at-loop-test .before in
+    let args = at-before′ .before .before .before .before .before .before .args in
+    let loop = at-before′ .loop in
+    sym (equal-stop (args .word .now) (nameAt (args .names .now) (args .number)) (lengths (at-before′ .before)) (loop .i) (at-loop-test .loop-test .taken)
+    (λ e. c .if2 .taken (sym (byte (at-before .before)) ∙ e))) ∙ loop .inv .1
 
 loop-again : tie.Need-loop-again Inv-loop μ-loop
 loop-again c =
-    let args = c .before .before .before .before .before .before .before .before .before .before .args in
-    let loop = c .before .before .before .before .loop in (
+    let at-before = c .before .before in
+    let at-loop-test = at-before .before in
+    let at-before′ = at-loop-test .before in
+    let args = at-before′ .before .before .before .before .before .before .args in
+    let loop = at-before′ .loop in (
       omega arith,
-      sym (equal-step (args .word .now) (nameAt (args .names .now) (args .number)) (lengths (c .before .before .before .before .before)) (loop .i) (c .before .before .before .loop-test .taken)
-          (byte (c .before .before .before) ∙ c .if2 .left)) ∙ loop .inv .1,
+      sym (equal-step (args .word .now) (nameAt (args .names .now) (args .number)) (lengths (at-before′ .before)) (loop .i) (at-loop-test .loop-test .taken)
+          (byte (at-before .before) ∙ c .if2 .left)) ∙ loop .inv .1,
     )
 
 returns-3 : tie.Need-returns-3 Inv-loop μ-loop
