@@ -6,13 +6,17 @@ use Rattle.rule_cells.specs.MadeLaws.{list-ellipsis, list-pair}
 
 returns : tie.Need-returns
 returns c =
-    let a = c .before .before .before .before .before .before .args in
-    list-ellipsis (a .work .now) _ (a .top) _ (a .followed) (a .element) (a .n) (a .rest) (c .before .before .before .before .if1 .taken) (c .before .before .put-ellipsis .ensures)
+    let at-put-ellipsis = c .before .before in
+    let at-if1 = at-put-ellipsis .before .before in
+    let a = at-if1 .before .before .args in
+    list-ellipsis (a .work .now) _ (a .top) _ (a .followed) (a .element) (a .n) (a .rest) (at-if1 .if1 .taken) (at-put-ellipsis .put-ellipsis .ensures)
 
 returns-2 : tie.Need-returns-2
 returns-2 c =
-    let a = c .before .before .before .before .before .before .args in
-    list-pair (a .work .now) _ (a .top) _ (a .followed) (a .element) (a .n) (a .rest) (c .before .before .before .before .if1 .left) (c .before .before .put-pair .ensures)
+    let at-put-pair = c .before .before in
+    let at-if1 = at-put-pair .before .before in
+    let a = at-if1 .before .before .args in
+    list-pair (a .work .now) _ (a .top) _ (a .followed) (a .element) (a .n) (a .rest) (at-if1 .if1 .left) (at-put-pair .put-pair .ensures)
 
 pub put-list-spec : {M : Type 1} → statement M
 put-list-spec =

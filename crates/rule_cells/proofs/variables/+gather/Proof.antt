@@ -49,67 +49,104 @@ gather-loop-holds t c =
 
 gather-depth-before-requires : (t : ℕ) → gather-lts.Need-depth-before-requires (gather-claims t) (gather-at t) gather.Post gather-Inv-loop gather-μ-loop
 gather-depth-before-requires t c κs =
-    let l = c .before .before .before .before .loop in
-    omega (arith, c .before .before .before .before .before .before .before .pre .1 .2, l .inv .1 .low, pair-falls (c .before .before .before .before .before .before .before .args .work .now) (l .at) 1 (sym (c .before .before .before .word .ensures) ∙ c .before .before .if1 .taken), c .reference2 .ensures)
+    let at-if1 = c .before .before in
+    let at-word = at-if1 .before in
+    let at-loop = at-word .before in
+    let at-args = at-loop .before .before .before in
+    let l = at-loop .loop in
+    omega (arith, at-args .pre .1 .2, l .inv .1 .low, pair-falls (at-args .args .work .now) (l .at) 1 (sym (at-word .word .ensures) ∙ at-if1 .if1 .taken), c .reference2 .ensures)
 
 gather-gather-requires : (t : ℕ) → gather-lts.Need-gather-requires (gather-claims t) (gather-at t) gather.Post gather-Inv-loop gather-μ-loop
 gather-gather-requires t c κs =
-    let p = c .before .before .before .before .before .before .before .before .before .pre in
-    let l = c .before .before .before .before .before .before .loop in
-    let h = pair-falls (c .before .before .before .before .before .before .before .before .before .args .work .now) (l .at) 2 (sym (c .before .before .before .before .before .word .ensures) ∙ c .before .before .before .before .if1 .taken) in (
-      omega (arith, p .0, l .inv .1 .low, h, c .before .before .before .reference .ensures),
+    let at-depth-before = c .before in
+    let at-reference = at-depth-before .before .before in
+    let at-if1 = at-reference .before in
+    let at-word = at-if1 .before in
+    let at-loop = at-word .before in
+    let at-args = at-loop .before .before .before in
+    let p = at-args .pre in
+    let l = at-loop .loop in
+    let h = pair-falls (at-args .args .work .now) (l .at) 2 (sym (at-word .word .ensures) ∙ at-if1 .if1 .taken) in (
+      omega (arith, p .0, l .inv .1 .low, h, at-reference .reference .ensures),
       (
         omega (arith, p .1 .0, l .inv .0),
         l .inv .1 .held,
-        omega (arith, p .1 .2, l .inv .1 .low, h, c .before .before .before .reference .ensures, deeper-most _ _ _ _ (c .before .depth-before .ensures)),
+        omega (arith, p .1 .2, l .inv .1 .low, h, at-reference .reference .ensures, deeper-most _ _ _ _ (at-depth-before .depth-before .ensures)),
       ),
     )
 
 gather-returns : (t : ℕ) → gather-lts.Need-returns (gather-claims t) (gather-at t) gather.Post gather-Inv-loop gather-μ-loop
 unfolding keptOf
 gather-returns t c =
-    let a = c .before .before .before .before .before .before .before .before .before .before .before .before .before .args in
-    let l = c .before .before .before .before .before .before .before .before .before .before .loop in
-    let g = c .before .before .before .gather in
+    let at-gather = c .before .before .before in
+    let at-depth-before = at-gather .before .before in
+    let at-reference2 = at-depth-before .before in
+    let at-reference = at-reference2 .before in
+    let at-if1 = at-reference .before in
+    let at-word = at-if1 .before in
+    let at-loop = at-word .before in
+    let a = at-loop .before .before .before .args in
+    let l = at-loop .loop in
+    let g = at-gather .gather in
     l .inv .1 .all (g .last .1 .0) Bad
-    (gathered-bad (a .work .now) (a .form .wrap) (l .at) (l .m) (l .vars) (dotsOf (a .work .now) (a .form)) (literalsOf (a .work .now) (a .form)) (a .d) _ _ _ (sym (c .before .before .before .before .before .before .before .before .before .word .ensures) ∙ c .before .before .before .before .before .before .before .before .if1 .taken) (c .before .before .before .before .before .before .before .reference .ensures) (c .before .before .before .before .before .before .reference2 .ensures) (c .before .before .before .before .before .depth-before .ensures) _ (keptOf (g .result)) (kept-bad (g .result) (c .if2 .taken)) (g .ensures))
+    (gathered-bad (a .work .now) (a .form .wrap) (l .at) (l .m) (l .vars) (dotsOf (a .work .now) (a .form)) (literalsOf (a .work .now) (a .form)) (a .d) _ _ _ (sym (at-word .word .ensures) ∙ at-if1 .if1 .taken) (at-reference .reference .ensures) (at-reference2 .reference2 .ensures) (at-depth-before .depth-before .ensures) _ (keptOf (g .result)) (kept-bad (g .result) (c .if2 .taken)) (g .ensures))
 
 gather-loop-less : (t : ℕ) → gather-lts.Need-loop-less (gather-claims t) (gather-at t) gather.Post gather-Inv-loop gather-μ-loop
 gather-loop-less t c =
-    omega (arith, pair-falls (c .before .before .before .before .before .before .before .before .before .before .before .before .before .args .work .now) (c .before .before .before .before .before .before .before .before .before .before .loop .at) 1 (sym (c .before .before .before .before .before .before .before .before .before .word .ensures) ∙ c .before .before .before .before .before .before .before .before .if1 .taken), c .before .before .before .before .before .before .reference2 .ensures)
+    let at-reference2 = c .before .before .before .before .before .before in
+    let at-if1 = at-reference2 .before .before in
+    let at-word = at-if1 .before in
+    let at-loop = at-word .before in
+    omega (arith, pair-falls (at-loop .before .before .before .args .work .now) (at-loop .loop .at) 1 (sym (at-word .word .ensures) ∙ at-if1 .if1 .taken), at-reference2 .reference2 .ensures)
 
 gather-loop-again : (t : ℕ) → gather-lts.Need-loop-again (gather-claims t) (gather-at t) gather.Post gather-Inv-loop gather-μ-loop
 gather-loop-again t c =
-    let a = c .before .before .before .before .before .before .before .before .before .before .before .before .before .args in
-    let l = c .before .before .before .before .before .before .before .before .before .before .loop in
-    let g = c .before .before .before .gather in (
+    let at-gather = c .before .before .before in
+    let at-depth-before = at-gather .before .before in
+    let at-reference2 = at-depth-before .before in
+    let at-reference = at-reference2 .before in
+    let at-if1 = at-reference .before in
+    let at-word = at-if1 .before in
+    let at-loop = at-word .before in
+    let a = at-loop .before .before .before .args in
+    let l = at-loop .loop in
+    let g = at-gather .gather in (
       g .kept .1 .0 ∙ l .inv .0,
-      gathering-more (a .work .now) (a .form .wrap) (l .at) (l .m) (l .vars) (dotsOf (a .work .now) (a .form)) (literalsOf (a .work .now) (a .form)) (a .d) _ _ _ (sym (c .before .before .before .before .before .before .before .before .before .word .ensures) ∙ c .before .before .before .before .before .before .before .before .if1 .taken) (c .before .before .before .before .before .before .before .reference .ensures) (c .before .before .before .before .before .before .reference2 .ensures) (c .before .before .before .before .before .depth-before .ensures) _ _ _ _ _
+      gathering-more (a .work .now) (a .form .wrap) (l .at) (l .m) (l .vars) (dotsOf (a .work .now) (a .form)) (literalsOf (a .work .now) (a .form)) (a .d) _ _ _ (sym (at-word .word .ensures) ∙ at-if1 .if1 .taken) (at-reference .reference .ensures) (at-reference2 .reference2 .ensures) (at-depth-before .depth-before .ensures) _ _ _ _ _
           (gathered-stored _ _ _ _ _ _ _ (keptOf (g .result)) _ (kept-count (g .result) (c .if2 .left)) (g .ensures))
           (l .inv .1),
     )
 
 gather-gather-name-requires : (t : ℕ) → gather-lts.Need-gather-name-requires (gather-claims t) (gather-at t) gather.Post gather-Inv-loop gather-μ-loop
 gather-gather-name-requires t c κs =
-    let p = c .before .before .before .before .before .before .before .before .pre in
-    let l = c .before .before .before .before .before .loop in
+    let at-loop = c .before .before .before .before .before in
+    let p = at-loop .before .before .before .pre in
+    let l = at-loop .loop in
     (omega (arith, p .1 .0, l .inv .0), l .inv .1 .held)
 
 gather-returns-2 : (t : ℕ) → gather-lts.Need-returns-2 (gather-claims t) (gather-at t) gather.Post gather-Inv-loop gather-μ-loop
 gather-returns-2 t c =
-    let a = c .before .before .before .before .before .before .before .before .before .before .before .args in
-    let l = c .before .before .before .before .before .before .before .before .loop in
-    let g = c .before .before .gather-name in
+    let at-gather-name = c .before .before in
+    let at-if3 = at-gather-name .before .before in
+    let at-word2 = at-if3 .before in
+    let at-loop = at-word2 .before .before .before in
+    let a = at-loop .before .before .before .args in
+    let l = at-loop .loop in
+    let g = at-gather-name .gather-name in
     l .inv .1 .all (g .last .1 .0) (keptOf (g .result))
-    (gathered-name (a .work .now) (a .form .wrap) (l .at) (l .m) (l .vars) (dotsOf (a .work .now) (a .form)) (literalsOf (a .work .now) (a .form)) (a .d) (g .last .1 .0) (keptOf (g .result)) (sym (c .before .before .before .before .before .word2 .ensures) ∙ c .before .before .before .before .if3 .taken) (g .ensures))
+    (gathered-name (a .work .now) (a .form .wrap) (l .at) (l .m) (l .vars) (dotsOf (a .work .now) (a .form)) (literalsOf (a .work .now) (a .form)) (a .d) (g .last .1 .0) (keptOf (g .result)) (sym (at-word2 .word2 .ensures) ∙ at-if3 .if3 .taken) (g .ensures))
 
 gather-returns-3 : (t : ℕ) → gather-lts.Need-returns-3 (gather-claims t) (gather-at t) gather.Post gather-Inv-loop gather-μ-loop
 gather-returns-3 t c =
-    let a = c .before .before .before .before .before .before .before .args in
-    let l = c .before .before .before .before .loop in
+    let at-word2 = c .before in
+    let at-if1 = at-word2 .before in
+    let at-word = at-if1 .before in
+    let at-loop = at-word .before in
+    let a = at-loop .before .before .before .args in
+    let l = at-loop .loop in
     gathered-count _ _ _ _ _ _ _ _
     (l .inv .1 .all (l .vars) (Count (l .m))
-    (gathered-other (a .work .now) (a .form .wrap) (l .at) (l .m) (l .vars) (dotsOf (a .work .now) (a .form)) (literalsOf (a .work .now) (a .form)) (a .d) (λ z. c .if3 .left (c .before .word2 .ensures ∙ z)) (λ z. c .before .before .if1 .left (c .before .before .before .word .ensures ∙ z)) (l .inv .1 .held)))
+    (gathered-other (a .work .now) (a .form .wrap) (l .at) (l .m) (l .vars) (dotsOf (a .work .now) (a .form)) (literalsOf (a .work .now) (a .form)) (a .d) (λ z. c .if3 .left (at-word2 .word2 .ensures ∙ z)) (λ z. at-if1 .if1 .left (at-word .word .ensures ∙ z)) (l .inv .1 .held)))
 
 pub +gather-spec : {M : Type 1} → statement M
 +gather-spec = close μ-gather λ t. gather-lts.spec (gather-claims t)

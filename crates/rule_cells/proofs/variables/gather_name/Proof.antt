@@ -33,9 +33,12 @@ same-length c =
 
 returns-2 : tie.Need-returns-2
 returns-2 c =
-    let a = c .before .before .before .before .before .before .before .before .args in
-    let yes = sym (c .before .before .before .before .before .is-variable .ensures) ∙ not-false _ (c .before .before .before .before .if1 .left) in
-    gathered-one (a .work .now) (a .form .wrap) (a .node) (a .n) (a .vars .now) (dotsOf (a .work .now) (a .form)) (literalsOf (a .work .now) (a .form)) (a .d) (nameAt (a .work .now) (a .node) (a .form .wrap)) (c .before .before .add .last .1 .0) (keptOf (c .before .before .add .result)) yes (c .before .before .add .ensures)
+    let at-add = c .before .before in
+    let at-if1 = at-add .before .before in
+    let at-is-variable = at-if1 .before in
+    let a = at-is-variable .before .before .before .args in
+    let yes = sym (at-is-variable .is-variable .ensures) ∙ not-false _ (at-if1 .if1 .left) in
+    gathered-one (a .work .now) (a .form .wrap) (a .node) (a .n) (a .vars .now) (dotsOf (a .work .now) (a .form)) (literalsOf (a .work .now) (a .form)) (a .d) (nameAt (a .work .now) (a .node) (a .form .wrap)) (at-add .add .last .1 .0) (keptOf (at-add .add .result)) yes (at-add .add .ensures)
 
 pub gather-name-spec : {M : Type 1} → statement M
 gather-name-spec =
