@@ -16,7 +16,7 @@ use Rattle.rule_cells.proofs.patterns.+pattern.{statement}
 use Rattle.rule_cells.proofs.patterns.+pattern.Tie.{close}
 use borrow.Author.Needs.{needs}
 use Rattle.rule_cells.specs.ParseLaws.{asks-head, asks-tail, asks-rest, room-pair, head-below, rest-below}
-use Rattle.rule_cells.specs.PatternLaws.{left-leaf, left-taken, left-crowded, left-bad, made-head, left-bad-rest, made-rest, left-list, small-head, small-tail, small-rest, literals-still, dots-still, begins-still}
+use Rattle.rule_cells.specs.PatternLaws.{pair-here, left-leaf, left-taken, left-crowded, left-bad, made-head, left-bad-rest, made-rest, left-list, small-head, small-tail, small-rest, literals-still, dots-still, begins-still}
 use Rattle.recipe.specs.TreeLaws.{size-positive}
 use Rattle.arena.specs.Arena.{treeAt}
 use mathlib.Core.Bool.{false≢true}
@@ -68,7 +68,8 @@ pattern-pattern-requires t c κs =
     let is-pair = sym (at-word .word .ensures) ∙ at-if1 .if1 .left in
     let head-is = at-reference .reference .ensures in
     let rest-is = at-reference2 .reference2 .ensures in
-    (omega (arith, p .0, rest-below (a .work .now) (a .node) (a .form .wrap) (a .top) asks _ _ is-pair head-is rest-is), (asks-tail (a .work .now) (a .node) (a .form .wrap) (a .top) asks _ _ is-pair head-is rest-is, p .1 .1, p .1 .2, small-tail (a .work .now) (a .form .dots) (a .form .literals) (a .node) (a .form .wrap) (a .k) (a .top) asks (p .1 .1) (p .1 .2) _ _ is-pair head-is rest-is (p .1 .3), λ z. absurd (false≢true z)))
+    let here = pair-here (a .work .now) (a .form) (a .node) (a .top) asks (p .1 .1) (p .1 .2) is-pair head-is rest-is in
+    (omega (arith, p .0, rest-below (a .work .now) (a .node) (a .form .wrap) (a .top) asks _ _ is-pair head-is rest-is), (asks-tail (a .work .now) (a .node) (a .form .wrap) (a .top) asks _ _ is-pair head-is rest-is, p .1 .1, p .1 .2, small-tail here (a .k) (p .1 .3), λ z. absurd (false≢true z)))
 
 pattern-returns-2 : (t : ℕ) → pattern-lts.Need-returns-2 (pattern-claims t) (pattern-at t) pattern.Post
 pattern-returns-2 t c =
@@ -85,8 +86,9 @@ pattern-returns-2 t c =
     let is-pair = sym (at-word .word .ensures) ∙ at-if1 .if1 .left in
     let head-is = at-reference .reference .ensures in
     let rest-is = at-reference2 .reference2 .ensures in
+    let here = pair-here (a .work .now) (a .form) (a .node) (a .top) asks (p .1 .1) (p .1 .2) is-pair head-is rest-is in
     let l = at-pattern .pattern in
-    left-taken (a .work .now) (a .form .dots) (a .form .literals) (a .node) (a .form .wrap) (a .k) (a .top) asks (p .1 .1) (p .1 .2) _ _ is-pair head-is rest-is (a .taken) (l .last .0) (l .result) (at-if2 .if2 .taken) (p .1 .4) (l .ensures)
+    left-taken here (a .k) (a .taken) (l .last .0) (l .result) (at-if2 .if2 .taken) (p .1 .4) (l .ensures)
 
 pattern-returns-3 : (t : ℕ) → pattern-lts.Need-returns-3 (pattern-claims t) (pattern-at t) pattern.Post
 pattern-returns-3 t c =
@@ -104,7 +106,8 @@ pattern-returns-3 t c =
     let is-pair = sym (at-word .word .ensures) ∙ at-if1 .if1 .left in
     let head-is = at-reference .reference .ensures in
     let rest-is = at-reference2 .reference2 .ensures in
-    left-crowded (a .work .now) (a .form .dots) (a .form .literals) (a .node) (a .form .wrap) (a .k) (a .top) asks (p .1 .1) (p .1 .2) _ _ is-pair head-is rest-is (a .taken) _ (at-if2 .if2 .left) (at-dots-next .dots-next .ensures) (sym (c .if3 .taken) ∙ at-crowded .crowded .ensures)
+    let here = pair-here (a .work .now) (a .form) (a .node) (a .top) asks (p .1 .1) (p .1 .2) is-pair head-is rest-is in
+    left-crowded here (a .k) (at-if2 .if2 .left) (at-dots-next .dots-next .ensures) (sym (c .if3 .taken) ∙ at-crowded .crowded .ensures)
 
 pattern-pattern-requires-2 : (t : ℕ) → pattern-lts.Need-pattern-requires-2 (pattern-claims t) (pattern-at t) pattern.Post
 pattern-pattern-requires-2 t c κs =
@@ -119,7 +122,8 @@ pattern-pattern-requires-2 t c κs =
     let is-pair = sym (at-word .word .ensures) ∙ at-if1 .if1 .left in
     let head-is = at-reference .reference .ensures in
     let rest-is = at-reference2 .reference2 .ensures in
-    (omega (arith, p .0, head-below (a .work .now) (a .node) (a .form .wrap) (a .top) asks _ _ is-pair head-is rest-is), (asks-head (a .work .now) (a .node) (a .form .wrap) (a .top) asks _ _ is-pair head-is rest-is, p .1 .1, p .1 .2, small-head (a .work .now) (a .form .dots) (a .form .literals) (a .node) (a .form .wrap) (a .k) (a .top) asks (p .1 .1) (p .1 .2) _ _ is-pair head-is rest-is (p .1 .3), λ z. absurd (false≢true z)))
+    let here = pair-here (a .work .now) (a .form) (a .node) (a .top) asks (p .1 .1) (p .1 .2) is-pair head-is rest-is in
+    (omega (arith, p .0, head-below (a .work .now) (a .node) (a .form .wrap) (a .top) asks _ _ is-pair head-is rest-is), (asks-head (a .work .now) (a .node) (a .form .wrap) (a .top) asks _ _ is-pair head-is rest-is, p .1 .1, p .1 .2, small-head here (a .k) (p .1 .3), λ z. absurd (false≢true z)))
 
 pattern-returns-4 : (t : ℕ) → pattern-lts.Need-returns-4 (pattern-claims t) (pattern-at t) pattern.Post
 pattern-returns-4 t c =
@@ -137,8 +141,9 @@ pattern-returns-4 t c =
     let is-pair = sym (at-word .word .ensures) ∙ at-if1 .if1 .left in
     let head-is = at-reference .reference .ensures in
     let rest-is = at-reference2 .reference2 .ensures in
+    let here = pair-here (a .work .now) (a .form) (a .node) (a .top) asks (p .1 .1) (p .1 .2) is-pair head-is rest-is in
     let first = at-pattern2 .pattern2 in
-    left-bad (a .work .now) (a .form .dots) (a .form .literals) (a .node) (a .form .wrap) (a .k) (a .top) asks (p .1 .1) (p .1 .2) _ _ is-pair head-is rest-is (a .taken) _ (at-if2 .if2 .left) (at-dots-next .dots-next .ensures) (first .last .0) _ (c .enum-told .given .1) (first .ensures)
+    left-bad here (a .k) (at-if2 .if2 .left) (at-dots-next .dots-next .ensures) (first .last .0) _ (c .enum-told .given .1) (first .ensures)
 
 pattern-pattern-requires-3 : (t : ℕ) → pattern-lts.Need-pattern-requires-3 (pattern-claims t) (pattern-at t) pattern.Post
 pattern-pattern-requires-3 t c κs =
@@ -157,9 +162,10 @@ pattern-pattern-requires-3 t c κs =
     let is-pair = sym (at-word .word .ensures) ∙ at-if1 .if1 .left in
     let head-is = at-reference .reference .ensures in
     let rest-is = at-reference2 .reference2 .ensures in
+    let here = pair-here (a .work .now) (a .form) (a .node) (a .top) asks (p .1 .1) (p .1 .2) is-pair head-is rest-is in
     let first = at-pattern2 .pattern2 in
-    let head = made-head (a .work .now) (a .form .dots) (a .form .literals) (a .node) (a .form .wrap) (a .k) (a .top) asks (p .1 .1) (p .1 .2) _ _ is-pair head-is rest-is (a .taken) _ (at-if2 .if2 .left) (at-dots-next .dots-next .ensures) (first .last .0) _ _ _ _ (at-a .a .given .1) (first .ensures) in
-    (omega (arith, p .0, rest-below (a .work .now) (a .node) (a .form .wrap) (a .top) asks _ _ is-pair head-is rest-is), (asks-rest (a .work .now) (a .node) (a .form .wrap) (a .top) asks _ _ is-pair head-is rest-is _ _ _ (first .kept .0) (head .grows), dots-still (a .work .now) (a .form .dots) (a .form .literals) (a .node) (a .form .wrap) (a .k) (a .top) asks (p .1 .1) (p .1 .2) _ _ is-pair head-is rest-is (a .taken) _ (at-if2 .if2 .left) (at-dots-next .dots-next .ensures) (first .last .0) _ _ _ (first .kept .0) head, literals-still (a .work .now) (a .form .dots) (a .form .literals) (a .node) (a .form .wrap) (a .k) (a .top) asks (p .1 .1) (p .1 .2) _ _ is-pair head-is rest-is (a .taken) _ (at-if2 .if2 .left) (at-dots-next .dots-next .ensures) (first .last .0) _ _ _ (first .kept .0) head, small-rest (a .work .now) (a .form .dots) (a .form .literals) (a .node) (a .form .wrap) (a .k) (a .top) asks (p .1 .1) (p .1 .2) _ _ is-pair head-is rest-is (a .taken) _ (at-if2 .if2 .left) (at-dots-next .dots-next .ensures) (first .last .0) _ _ _ (first .kept .0) head (p .1 .3), begins-still (a .work .now) (a .form .dots) (a .form .literals) (a .node) (a .form .wrap) (a .k) (a .top) asks (p .1 .1) (p .1 .2) _ _ is-pair head-is rest-is (a .taken) _ (at-if2 .if2 .left) (at-dots-next .dots-next .ensures) (first .last .0) _ _ _ (first .kept .0) head))
+    let head = made-head here (a .k) (at-if2 .if2 .left) (at-dots-next .dots-next .ensures) (first .last .0) _ _ _ _ (at-a .a .given .1) (first .ensures) in
+    (omega (arith, p .0, rest-below (a .work .now) (a .node) (a .form .wrap) (a .top) asks _ _ is-pair head-is rest-is), (asks-rest (a .work .now) (a .node) (a .form .wrap) (a .top) asks _ _ is-pair head-is rest-is _ _ _ (first .kept .0) (head .grows), dots-still here (a .k) (at-if2 .if2 .left) (at-dots-next .dots-next .ensures) (first .kept .0) head, literals-still here (a .k) (at-if2 .if2 .left) (at-dots-next .dots-next .ensures) (first .kept .0) head, small-rest here (a .k) (at-if2 .if2 .left) (at-dots-next .dots-next .ensures) (first .kept .0) head (p .1 .3), begins-still here (a .k) (at-if2 .if2 .left) (at-dots-next .dots-next .ensures) (first .kept .0) head))
 
 pattern-returns-5 : (t : ℕ) → pattern-lts.Need-returns-5 (pattern-claims t) (pattern-at t) pattern.Post
 pattern-returns-5 t c =
@@ -179,10 +185,11 @@ pattern-returns-5 t c =
     let is-pair = sym (at-word .word .ensures) ∙ at-if1 .if1 .left in
     let head-is = at-reference .reference .ensures in
     let rest-is = at-reference2 .reference2 .ensures in
+    let here = pair-here (a .work .now) (a .form) (a .node) (a .top) asks (p .1 .1) (p .1 .2) is-pair head-is rest-is in
     let first = at-pattern2 .pattern2 in
-    let head = made-head (a .work .now) (a .form .dots) (a .form .literals) (a .node) (a .form .wrap) (a .k) (a .top) asks (p .1 .1) (p .1 .2) _ _ is-pair head-is rest-is (a .taken) _ (at-if2 .if2 .left) (at-dots-next .dots-next .ensures) (first .last .0) _ _ _ _ (at-a .a .given .1) (first .ensures) in
+    let head = made-head here (a .k) (at-if2 .if2 .left) (at-dots-next .dots-next .ensures) (first .last .0) _ _ _ _ (at-a .a .given .1) (first .ensures) in
     let second = at-pattern3 .pattern3 in
-    left-bad-rest (a .work .now) (a .form .dots) (a .form .literals) (a .node) (a .form .wrap) (a .k) (a .top) asks (p .1 .1) (p .1 .2) _ _ is-pair head-is rest-is (a .taken) _ (at-if2 .if2 .left) (at-dots-next .dots-next .ensures) (first .last .0) _ _ _ (first .kept .0) head (second .last .0) _ (c .enum-told2 .given .1) (second .ensures)
+    left-bad-rest here (a .k) (at-if2 .if2 .left) (at-dots-next .dots-next .ensures) (first .kept .0) head (second .last .0) _ (c .enum-told2 .given .1) (second .ensures)
 
 pattern-put-list-requires : (t : ℕ) → pattern-lts.Need-put-list-requires (pattern-claims t) (pattern-at t) pattern.Post
 pattern-put-list-requires t c κs =
@@ -203,10 +210,11 @@ pattern-put-list-requires t c κs =
     let is-pair = sym (at-word .word .ensures) ∙ at-if1 .if1 .left in
     let head-is = at-reference .reference .ensures in
     let rest-is = at-reference2 .reference2 .ensures in
+    let here = pair-here (a .work .now) (a .form) (a .node) (a .top) asks (p .1 .1) (p .1 .2) is-pair head-is rest-is in
     let first = at-pattern2 .pattern2 in
-    let head = made-head (a .work .now) (a .form .dots) (a .form .literals) (a .node) (a .form .wrap) (a .k) (a .top) asks (p .1 .1) (p .1 .2) _ _ is-pair head-is rest-is (a .taken) _ (at-if2 .if2 .left) (at-dots-next .dots-next .ensures) (first .last .0) _ _ _ _ (at-a .a .given .1) (first .ensures) in
+    let head = made-head here (a .k) (at-if2 .if2 .left) (at-dots-next .dots-next .ensures) (first .last .0) _ _ _ _ (at-a .a .given .1) (first .ensures) in
     let second = at-pattern3 .pattern3 in
-    let later = made-rest (a .work .now) (a .form .dots) (a .form .literals) (a .node) (a .form .wrap) (a .k) (a .top) asks (p .1 .1) (p .1 .2) _ _ is-pair head-is rest-is (a .taken) _ (at-if2 .if2 .left) (at-dots-next .dots-next .ensures) (first .last .0) _ _ _ (first .kept .0) head (second .last .0) _ _ _ _ (at-b .b .given .1) (second .ensures) in
+    let later = made-rest here (a .k) (at-if2 .if2 .left) (at-dots-next .dots-next .ensures) (first .kept .0) head (second .last .0) _ _ _ _ (at-b .b .given .1) (second .ensures) in
     (room-pair (a .work .now) (a .node) (a .form .wrap) (a .top) asks _ _ is-pair head-is rest-is _ _ _ (first .kept .0) (head .grows) _ _ _ (second .kept .0) (later .grows), omega (arith, head .grows .at-most, later .grows .up), later .grows .at-most)
 
 pattern-returns-6 : (t : ℕ) → pattern-lts.Need-returns-6 (pattern-claims t) (pattern-at t) pattern.Post
@@ -232,11 +240,12 @@ pattern-returns-6 t c =
     let is-pair = sym (at-word .word .ensures) ∙ at-if1 .if1 .left in
     let head-is = at-reference .reference .ensures in
     let rest-is = at-reference2 .reference2 .ensures in
+    let here = pair-here (a .work .now) (a .form) (a .node) (a .top) asks (p .1 .1) (p .1 .2) is-pair head-is rest-is in
     let first = at-pattern2 .pattern2 in
-    let head = made-head (a .work .now) (a .form .dots) (a .form .literals) (a .node) (a .form .wrap) (a .k) (a .top) asks (p .1 .1) (p .1 .2) _ _ is-pair head-is rest-is (a .taken) _ (at-if2 .if2 .left) (at-dots-next .dots-next .ensures) (first .last .0) _ _ _ _ (at-a .a .given .1) (first .ensures) in
+    let head = made-head here (a .k) (at-if2 .if2 .left) (at-dots-next .dots-next .ensures) (first .last .0) _ _ _ _ (at-a .a .given .1) (first .ensures) in
     let second = at-pattern3 .pattern3 in
-    let later = made-rest (a .work .now) (a .form .dots) (a .form .literals) (a .node) (a .form .wrap) (a .k) (a .top) asks (p .1 .1) (p .1 .2) _ _ is-pair head-is rest-is (a .taken) _ (at-if2 .if2 .left) (at-dots-next .dots-next .ensures) (first .last .0) _ _ _ (first .kept .0) head (second .last .0) _ _ _ _ (at-b .b .given .1) (second .ensures) in
-    left-list (a .work .now) (a .form .dots) (a .form .literals) (a .node) (a .form .wrap) (a .k) (a .top) asks (p .1 .1) (p .1 .2) _ _ is-pair head-is rest-is (a .taken) _ (at-if2 .if2 .left) (at-dots-next .dots-next .ensures) (first .last .0) _ _ _ (first .kept .0) head _ _ _ _ _ _ _ (sym (at-if3 .if3 .left) ∙ at-crowded .crowded .ensures) (at-following .following .ensures (a .form .wrap)) later (at-put-list .put-list .ensures .0)
+    let later = made-rest here (a .k) (at-if2 .if2 .left) (at-dots-next .dots-next .ensures) (first .kept .0) head (second .last .0) _ _ _ _ (at-b .b .given .1) (second .ensures) in
+    left-list here (a .k) (at-if2 .if2 .left) (at-dots-next .dots-next .ensures) (first .kept .0) head _ _ _ _ _ _ _ (sym (at-if3 .if3 .left) ∙ at-crowded .crowded .ensures) (at-following .following .ensures (a .form .wrap)) later (at-put-list .put-list .ensures .0)
 
 pub +pattern-spec : {M : Type 1} → statement M
 +pattern-spec = close μ-pattern λ t. pattern-lts.spec (pattern-claims t)

@@ -30,7 +30,7 @@ use Rattle.rule_cells.specs.Parse.{TemplateLeft, restPlace}
 use mathlib.Core.Path.{sym, _∙_, refl}
 use native.Mathlib.Omega.{arith}
 use Rattle.arena.specs.Arena.{treeAt}
-use Rattle.rule_cells.specs.TemplateLaws.{left-leaf, left-taken, left-bad, made-head, left-undriven, under-still, dots-still, left-bad-rest, made-rest, left-list, left-plain, left-unescaped, inside-below, asks-inside, some-top, left-escape}
+use Rattle.rule_cells.specs.TemplateLaws.{template-here, left-leaf, left-taken, left-bad, made-head, left-undriven, under-still, dots-still, left-bad-rest, made-rest, left-list, left-plain, left-unescaped, inside-below, asks-inside, some-top, left-escape}
 use Rattle.rule_cells.specs.Scopes.{dotsUnder, variablesUnder}
 
 abbrev μ-list-rest : Measures 2 list-rest-kinds.ps ℕ
@@ -106,8 +106,9 @@ list-rest-returns-2 t c =
     let is-pair = sym (at-word .word .ensures) ∙ at-if1 .if1 .left in
     let head-is = at-reference .reference .ensures in
     let rest-is = at-reference2 .reference2 .ensures in
+    let here = template-here (a .work .now) (a .vars .now) (a .scope) (a .node) (a .top) asks (p .1 .3) (p .1 .4) is-pair head-is rest-is in
     let l = at-list-rest .list-rest in
-    left-taken (a .work .now) (a .vars .now) (a .scope .count) (a .scope .dots) (a .node) (a .scope .wrap) (a .scope .d) (a .top) asks (p .1 .3) (p .1 .4) _ _ is-pair head-is rest-is (a .taken) (l .last .0) (builtOf (l .result)) (at-if2 .if2 .taken) (l .ensures)
+    left-taken here (a .taken) (l .last .0) (builtOf (l .result)) (at-if2 .if2 .taken) (l .ensures)
 
 list-rest-element-depth-requires : (t : ℕ) → list-rest-lts.Need-element-depth-requires (list-rest-claims t) (list-rest-at t) list-rest.Post
 list-rest-element-depth-requires t c κs =
@@ -162,11 +163,12 @@ list-rest-returns-3 t c =
     let is-pair = sym (at-word .word .ensures) ∙ at-if1 .if1 .left in
     let head-is = at-reference .reference .ensures in
     let rest-is = at-reference2 .reference2 .ensures in
+    let here = template-here (a .work .now) (a .vars .now) (a .scope) (a .node) (a .top) asks (p .1 .3) (p .1 .4) is-pair head-is rest-is in
     let untaken = at-if2 .if2 .left in
     let next = at-dots-next .dots-next .ensures in
     let deeper = deeper-by (dotsUnder (a .work .now) (a .scope)) (treeAt (a .work .now) _ (a .scope .wrap)) (a .scope .d) _ _ (at-element-depth .element-depth .ensures) next in
     let first = at-template .template in
-    left-bad (a .work .now) (a .vars .now) (a .scope .count) (a .scope .dots) (a .node) (a .scope .wrap) (a .scope .d) (a .top) asks (p .1 .3) (p .1 .4) _ _ is-pair head-is rest-is (a .taken) _ _ untaken next deeper (first .last .0) (builtOf (first .result)) (sym (at-parts .parts .ensures) ∙ c .enum-told .given .1) (first .ensures)
+    left-bad here untaken next deeper (first .last .0) (builtOf (first .result)) (sym (at-parts .parts .ensures) ∙ c .enum-told .given .1) (first .ensures)
 
 list-rest-list-rest-requires-2 : (t : ℕ) → list-rest-lts.Need-list-rest-requires-2 (list-rest-claims t) (list-rest-at t) list-rest.Post
 list-rest-list-rest-requires-2 t c κs =
@@ -187,13 +189,14 @@ list-rest-list-rest-requires-2 t c κs =
     let is-pair = sym (at-word .word .ensures) ∙ at-if1 .if1 .left in
     let head-is = at-reference .reference .ensures in
     let rest-is = at-reference2 .reference2 .ensures in
+    let here = template-here (a .work .now) (a .vars .now) (a .scope) (a .node) (a .top) asks (p .1 .3) (p .1 .4) is-pair head-is rest-is in
     let untaken = at-if2 .if2 .left in
     let next = at-dots-next .dots-next .ensures in
     let deeper = deeper-by (dotsUnder (a .work .now) (a .scope)) (treeAt (a .work .now) _ (a .scope .wrap)) (a .scope .d) _ _ (at-element-depth .element-depth .ensures) next in
     let first = at-template .template in
-    let head = made-head (a .work .now) (a .vars .now) (a .scope .count) (a .scope .dots) (a .node) (a .scope .wrap) (a .scope .d) (a .top) asks (p .1 .3) (p .1 .4) _ _ is-pair head-is rest-is (a .taken) _ _ untaken next deeper (first .last .0) (builtOf (first .result)) _ _ (sym (at-parts .parts .ensures) ∙ at-a .a .given .1) (first .ensures) in
+    let head = made-head here untaken next deeper (first .last .0) (builtOf (first .result)) _ _ (sym (at-parts .parts .ensures) ∙ at-a .a .given .1) (first .ensures) in
     let below = rest-below (a .work .now) (a .node) (a .scope .wrap) (a .top) asks _ _ is-pair head-is rest-is in
-    (omega (arith, p .0, below), (asks-rest (a .work .now) (a .node) (a .scope .wrap) (a .top) asks _ _ is-pair head-is rest-is _ _ _ (first .kept .0) (head .grows), p .1 .1, p .1 .2, under-still (a .work .now) (a .vars .now) (a .scope .count) (a .scope .dots) (a .node) (a .scope .wrap) (a .scope .d) (a .top) asks (p .1 .3) (p .1 .4) _ _ is-pair head-is rest-is (a .taken) _ _ untaken next deeper (first .last .0) _ _ (first .kept .0) head, dots-still (a .work .now) (a .vars .now) (a .scope .count) (a .scope .dots) (a .node) (a .scope .wrap) (a .scope .d) (a .top) asks (p .1 .3) (p .1 .4) _ _ is-pair head-is rest-is (a .taken) _ _ untaken next deeper (first .last .0) _ _ (first .kept .0) head, omega (arith, p .1 .5, below)))
+    (omega (arith, p .0, below), (asks-rest (a .work .now) (a .node) (a .scope .wrap) (a .top) asks _ _ is-pair head-is rest-is _ _ _ (first .kept .0) (head .grows), p .1 .1, p .1 .2, under-still here untaken next deeper (first .kept .0) head, dots-still here untaken next deeper (first .kept .0) head, omega (arith, p .1 .5, below)))
 
 list-rest-returns-4 : (t : ℕ) → list-rest-lts.Need-returns-4 (list-rest-claims t) (list-rest-at t) list-rest.Post
 unfolding builtOf
@@ -217,13 +220,14 @@ list-rest-returns-4 t c =
     let is-pair = sym (at-word .word .ensures) ∙ at-if1 .if1 .left in
     let head-is = at-reference .reference .ensures in
     let rest-is = at-reference2 .reference2 .ensures in
+    let here = template-here (a .work .now) (a .vars .now) (a .scope) (a .node) (a .top) asks (p .1 .3) (p .1 .4) is-pair head-is rest-is in
     let untaken = at-if2 .if2 .left in
     let next = at-dots-next .dots-next .ensures in
     let deeper = deeper-by (dotsUnder (a .work .now) (a .scope)) (treeAt (a .work .now) _ (a .scope .wrap)) (a .scope .d) _ _ (at-element-depth .element-depth .ensures) next in
     let first = at-template .template in
-    let head = made-head (a .work .now) (a .vars .now) (a .scope .count) (a .scope .dots) (a .node) (a .scope .wrap) (a .scope .d) (a .top) asks (p .1 .3) (p .1 .4) _ _ is-pair head-is rest-is (a .taken) _ _ untaken next deeper (first .last .0) (builtOf (first .result)) _ _ (sym (at-parts .parts .ensures) ∙ at-a .a .given .1) (first .ensures) in
+    let head = made-head here untaken next deeper (first .last .0) (builtOf (first .result)) _ _ (sym (at-parts .parts .ensures) ∙ at-a .a .given .1) (first .ensures) in
     let second = at-list-rest2 .list-rest2 in
-    left-bad-rest (a .work .now) (a .vars .now) (a .scope .count) (a .scope .dots) (a .node) (a .scope .wrap) (a .scope .d) (a .top) asks (p .1 .3) (p .1 .4) _ _ is-pair head-is rest-is (a .taken) _ _ untaken next deeper (first .last .0) _ _ (first .kept .0) head (second .last .0) (builtOf (second .result)) (sym (at-parts2 .parts2 .ensures) ∙ c .enum-told2 .given .1) (second .ensures)
+    left-bad-rest here untaken next deeper (first .kept .0) head (second .last .0) (builtOf (second .result)) (sym (at-parts2 .parts2 .ensures) ∙ c .enum-told2 .given .1) (second .ensures)
 
 list-rest-put-list-requires : (t : ℕ) → list-rest-lts.Need-put-list-requires (list-rest-claims t) (list-rest-at t) list-rest.Post
 list-rest-put-list-requires t c κs =
@@ -247,13 +251,14 @@ list-rest-put-list-requires t c κs =
     let is-pair = sym (at-word .word .ensures) ∙ at-if1 .if1 .left in
     let head-is = at-reference .reference .ensures in
     let rest-is = at-reference2 .reference2 .ensures in
+    let here = template-here (a .work .now) (a .vars .now) (a .scope) (a .node) (a .top) asks (p .1 .3) (p .1 .4) is-pair head-is rest-is in
     let untaken = at-if2 .if2 .left in
     let next = at-dots-next .dots-next .ensures in
     let deeper = deeper-by (dotsUnder (a .work .now) (a .scope)) (treeAt (a .work .now) _ (a .scope .wrap)) (a .scope .d) _ _ (at-element-depth .element-depth .ensures) next in
     let first = at-template .template in
-    let head = made-head (a .work .now) (a .vars .now) (a .scope .count) (a .scope .dots) (a .node) (a .scope .wrap) (a .scope .d) (a .top) asks (p .1 .3) (p .1 .4) _ _ is-pair head-is rest-is (a .taken) _ _ untaken next deeper (first .last .0) (builtOf (first .result)) _ _ (sym (at-parts .parts .ensures) ∙ at-a .a .given .1) (first .ensures) in
+    let head = made-head here untaken next deeper (first .last .0) (builtOf (first .result)) _ _ (sym (at-parts .parts .ensures) ∙ at-a .a .given .1) (first .ensures) in
     let second = at-list-rest2 .list-rest2 in
-    let later = made-rest (a .work .now) (a .vars .now) (a .scope .count) (a .scope .dots) (a .node) (a .scope .wrap) (a .scope .d) (a .top) asks (p .1 .3) (p .1 .4) _ _ is-pair head-is rest-is (a .taken) _ _ untaken next deeper (first .last .0) _ _ (first .kept .0) head (second .last .0) (builtOf (second .result)) _ _ (sym (at-parts2 .parts2 .ensures) ∙ at-b .b .given .1) (second .ensures) in
+    let later = made-rest here untaken next deeper (first .kept .0) head (second .last .0) (builtOf (second .result)) _ _ (sym (at-parts2 .parts2 .ensures) ∙ at-b .b .given .1) (second .ensures) in
     (room-pair (a .work .now) (a .node) (a .scope .wrap) (a .top) asks _ _ is-pair head-is rest-is _ _ _ (first .kept .0) (head .grows) _ _ _ (second .kept .0) (later .grows), omega (arith, head .grows .at-most, later .grows .up), later .grows .at-most)
 
 list-rest-returns-5 : (t : ℕ) → list-rest-lts.Need-returns-5 (list-rest-claims t) (list-rest-at t) list-rest.Post
@@ -281,14 +286,15 @@ list-rest-returns-5 t c =
     let is-pair = sym (at-word .word .ensures) ∙ at-if1 .if1 .left in
     let head-is = at-reference .reference .ensures in
     let rest-is = at-reference2 .reference2 .ensures in
+    let here = template-here (a .work .now) (a .vars .now) (a .scope) (a .node) (a .top) asks (p .1 .3) (p .1 .4) is-pair head-is rest-is in
     let untaken = at-if2 .if2 .left in
     let next = at-dots-next .dots-next .ensures in
     let deeper = deeper-by (dotsUnder (a .work .now) (a .scope)) (treeAt (a .work .now) _ (a .scope .wrap)) (a .scope .d) _ _ (at-element-depth .element-depth .ensures) next in
     let first = at-template .template in
-    let head = made-head (a .work .now) (a .vars .now) (a .scope .count) (a .scope .dots) (a .node) (a .scope .wrap) (a .scope .d) (a .top) asks (p .1 .3) (p .1 .4) _ _ is-pair head-is rest-is (a .taken) _ _ untaken next deeper (first .last .0) (builtOf (first .result)) _ _ (sym (at-parts .parts .ensures) ∙ at-a .a .given .1) (first .ensures) in
+    let head = made-head here untaken next deeper (first .last .0) (builtOf (first .result)) _ _ (sym (at-parts .parts .ensures) ∙ at-a .a .given .1) (first .ensures) in
     let second = at-list-rest2 .list-rest2 in
-    let later = made-rest (a .work .now) (a .vars .now) (a .scope .count) (a .scope .dots) (a .node) (a .scope .wrap) (a .scope .d) (a .top) asks (p .1 .3) (p .1 .4) _ _ is-pair head-is rest-is (a .taken) _ _ untaken next deeper (first .last .0) _ _ (first .kept .0) head (second .last .0) (builtOf (second .result)) _ _ (sym (at-parts2 .parts2 .ensures) ∙ at-b .b .given .1) (second .ensures) in
-    let left = left-list (a .work .now) (a .vars .now) (a .scope .count) (a .scope .dots) (a .node) (a .scope .wrap) (a .scope .d) (a .top) asks (p .1 .3) (p .1 .4) _ _ is-pair head-is rest-is (a .taken) _ _ untaken next deeper (first .last .0) _ _ (first .kept .0) head _ _ _ _ _ (sym (at-if3 .if3 .taken) ∙ at-accepted .accepted .ensures) later (at-put-list .put-list .ensures .1) in
+    let later = made-rest here untaken next deeper (first .kept .0) head (second .last .0) (builtOf (second .result)) _ _ (sym (at-parts2 .parts2 .ensures) ∙ at-b .b .given .1) (second .ensures) in
+    let left = left-list here untaken next deeper (first .kept .0) head _ _ _ _ _ (sym (at-if3 .if3 .taken) ∙ at-accepted .accepted .ensures) later (at-put-list .put-list .ensures .1) in
     packs-at (TemplateLeft _ _ _ _ _ _ _ _) _ _ _ _ (packs (a .work .now) (a .node) (a .scope .wrap) (a .top) asks) (c .pair .ensures) (left .grows .words) left
 
 list-rest-returns-6 : (t : ℕ) → list-rest-lts.Need-returns-6 (list-rest-claims t) (list-rest-at t) list-rest.Post
@@ -312,12 +318,13 @@ list-rest-returns-6 t c =
     let is-pair = sym (at-word .word .ensures) ∙ at-if1 .if1 .left in
     let head-is = at-reference .reference .ensures in
     let rest-is = at-reference2 .reference2 .ensures in
+    let here = template-here (a .work .now) (a .vars .now) (a .scope) (a .node) (a .top) asks (p .1 .3) (p .1 .4) is-pair head-is rest-is in
     let untaken = at-if2 .if2 .left in
     let next = at-dots-next .dots-next .ensures in
     let deeper = deeper-by (dotsUnder (a .work .now) (a .scope)) (treeAt (a .work .now) _ (a .scope .wrap)) (a .scope .d) _ _ (at-element-depth .element-depth .ensures) next in
     let first = at-template .template in
-    let head = made-head (a .work .now) (a .vars .now) (a .scope .count) (a .scope .dots) (a .node) (a .scope .wrap) (a .scope .d) (a .top) asks (p .1 .3) (p .1 .4) _ _ is-pair head-is rest-is (a .taken) _ _ untaken next deeper (first .last .0) (builtOf (first .result)) _ _ (sym (at-parts .parts .ensures) ∙ at-a .a .given .1) (first .ensures) in
-    left-undriven (a .work .now) (a .vars .now) (a .scope .count) (a .scope .dots) (a .node) (a .scope .wrap) (a .scope .d) (a .top) asks (p .1 .3) (p .1 .4) _ _ is-pair head-is rest-is (a .taken) _ _ untaken next deeper (first .last .0) _ _ (first .kept .0) head (sym (c .if3 .left) ∙ at-accepted .accepted .ensures)
+    let head = made-head here untaken next deeper (first .last .0) (builtOf (first .result)) _ _ (sym (at-parts .parts .ensures) ∙ at-a .a .given .1) (first .ensures) in
+    left-undriven here untaken next deeper (first .kept .0) head (sym (c .if3 .left) ∙ at-accepted .accepted .ensures)
 
 template-template-leaf-requires : (t : ℕ) → template-lts.Need-template-leaf-requires (template-claims t) (template-at t) template.Post
 template-template-leaf-requires t c κs =
@@ -339,8 +346,9 @@ template-template-requires t c κs =
     let p = at-args .pre in
     let asks = p .1 .0 in
     let is-pair = sym (at-word .word .ensures) ∙ at-if1 .if1 .left in
-    let below = inside-below (a .work .now) (a .vars .now) (a .scope .count) (a .scope .dots) (a .node) (a .scope .wrap) (a .scope .d) (a .top) asks (p .1 .3) (p .1 .4) _ _ is-pair refl (at-reference .reference .ensures) _ (at-first .first .ensures) in
-    (omega (arith, p .0, below), (asks-inside (a .work .now) (a .vars .now) (a .scope .count) (a .scope .dots) (a .node) (a .scope .wrap) (a .scope .d) (a .top) asks (p .1 .3) (p .1 .4) _ _ is-pair refl (at-reference .reference .ensures) _ (at-first .first .ensures), p .1 .1, p .1 .2, p .1 .3, some-top (a .work .now) (a .vars .now) (a .scope .count) (a .scope .dots) (a .node) (a .scope .wrap) (a .scope .d) (a .top) asks (p .1 .3) (p .1 .4) _ _ is-pair refl (at-reference .reference .ensures) _ (at-first .first .ensures), omega (arith, p .1 .5, below)))
+    let here = template-here (a .work .now) (a .vars .now) (a .scope) (a .node) (a .top) asks (p .1 .3) (p .1 .4) is-pair refl (at-reference .reference .ensures) in
+    let below = inside-below here (at-first .first .ensures) in
+    (omega (arith, p .0, below), (asks-inside here (at-first .first .ensures), p .1 .1, p .1 .2, p .1 .3, some-top here (at-first .first .ensures), omega (arith, p .1 .5, below)))
 
 template-returns-2 : (t : ℕ) → template-lts.Need-returns-2 (template-claims t) (template-at t) template.Post
 template-returns-2 t c =
@@ -358,8 +366,9 @@ template-returns-2 t c =
     let p = at-args .pre in
     let asks = p .1 .0 in
     let is-pair = sym (at-word .word .ensures) ∙ at-if1 .if1 .left in
+    let here = template-here (a .work .now) (a .vars .now) (a .scope) (a .node) (a .top) asks (p .1 .3) (p .1 .4) is-pair refl (at-reference .reference .ensures) in
     let l = at-template .template in
-    left-escape (a .work .now) (a .vars .now) (a .scope .count) (a .scope .dots) (a .node) (a .scope .wrap) (a .scope .d) (a .top) asks (p .1 .3) (p .1 .4) _ _ is-pair refl (at-reference .reference .ensures) _ (at-first .first .ensures) (l .last .0) (builtOf (l .result)) (sym (at-if2 .if2 .taken) ∙ at-dots-next .dots-next .ensures) (sym (at-if3 .if3 .taken) ∙ at-is-list-of .is-list-of .ensures (a .scope .wrap)) (l .ensures)
+    left-escape here (at-first .first .ensures) (l .last .0) (builtOf (l .result)) (sym (at-if2 .if2 .taken) ∙ at-dots-next .dots-next .ensures) (sym (at-if3 .if3 .taken) ∙ at-is-list-of .is-list-of .ensures (a .scope .wrap)) (l .ensures)
 
 template-returns-3 : (t : ℕ) → template-lts.Need-returns-3 (template-claims t) (template-at t) template.Post
 unfolding builtOf
@@ -375,7 +384,8 @@ template-returns-3 t c =
     let p = at-args .pre in
     let asks = p .1 .0 in
     let is-pair = sym (at-word .word .ensures) ∙ at-if1 .if1 .left in
-    left-unescaped (a .work .now) (a .vars .now) (a .scope .count) (a .scope .dots) (a .node) (a .scope .wrap) (a .scope .d) (a .top) asks (p .1 .3) (p .1 .4) _ _ is-pair refl (at-reference .reference .ensures) (sym (at-if2 .if2 .taken) ∙ at-dots-next .dots-next .ensures) (sym (c .if3 .left) ∙ at-is-list-of .is-list-of .ensures (a .scope .wrap))
+    let here = template-here (a .work .now) (a .vars .now) (a .scope) (a .node) (a .top) asks (p .1 .3) (p .1 .4) is-pair refl (at-reference .reference .ensures) in
+    left-unescaped here (sym (at-if2 .if2 .taken) ∙ at-dots-next .dots-next .ensures) (sym (c .if3 .left) ∙ at-is-list-of .is-list-of .ensures (a .scope .wrap))
 
 template-list-rest-requires : (t : ℕ) → template-lts.Need-list-rest-requires (template-claims t) (template-at t) template.Post
 template-list-rest-requires t c κs =
@@ -395,8 +405,9 @@ template-returns-4 t c =
     let p = at-args .pre in
     let asks = p .1 .0 in
     let is-pair = sym (at-word .word .ensures) ∙ at-if1 .if1 .left in
+    let here = template-here (a .work .now) (a .vars .now) (a .scope) (a .node) (a .top) asks (p .1 .3) (p .1 .4) is-pair refl refl in
     let l = at-list-rest .list-rest in
-    left-plain (a .work .now) (a .vars .now) (a .scope .count) (a .scope .dots) (a .node) (a .scope .wrap) (a .scope .d) (a .top) asks (p .1 .3) (p .1 .4) _ _ is-pair refl refl (l .last .0) (builtOf (l .result)) (sym (at-if2 .if2 .left) ∙ at-dots-next .dots-next .ensures) (l .ensures)
+    left-plain here (l .last .0) (builtOf (l .result)) (sym (at-if2 .if2 .left) ∙ at-dots-next .dots-next .ensures) (l .ensures)
 
 pub +list-rest+template-spec : {M : Type 1} → statement M
 +list-rest+template-spec = close μ-list-rest μ-template (λ t. list-rest-lts.spec (list-rest-claims t)
