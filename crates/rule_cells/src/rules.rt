@@ -30,7 +30,7 @@ use words::packed::Built;
 
 // A rule from the rest p of its pattern and its template q, before the rules at `next`.
 fn rule_parts(work: &mut [u32], form: Form, p: u32, q: u32, next: u32, top: u32) -> u64
-    requires { ⌜ PartsAsk (now work) (form .dots) (form .literals) p q (form .wrap) next top ⌝ }
+    requires { ⌜ PartsAsk (now work) form p q next top ⌝ }
     ensures { λ r. ⌜ RuleLeft (partsOf (dotsOf (now (work .entry)) form) (literalsOf (now (work .entry)) form) (treeAt (now (work .entry)) p (form .wrap)) (treeAt (now (work .entry)) q (form .wrap))) (size (treeAt (now (work .entry)) p (form .wrap)) + size (treeAt (now (work .entry)) q (form .wrap)) + 1) (now (work .entry)) (now (work .exit)) next top (builtOf r) ⌝ }
 {
     let mut vars = [0u32; variables::WORDS];

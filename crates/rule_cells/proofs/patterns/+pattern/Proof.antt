@@ -106,8 +106,10 @@ pattern-returns-3 t c =
     let is-pair = sym (at-word .word .ensures) ∙ at-if1 .if1 .left in
     let head-is = at-reference .reference .ensures in
     let rest-is = at-reference2 .reference2 .ensures in
+    let untaken = at-if2 .if2 .left in
+    let next = at-dots-next .dots-next .ensures in
     let here = pair-here (a .work .now) (a .form) (a .node) (a .top) asks (p .1 .1) (p .1 .2) is-pair head-is rest-is in
-    left-crowded here (a .k) (at-if2 .if2 .left) (at-dots-next .dots-next .ensures) (sym (c .if3 .taken) ∙ at-crowded .crowded .ensures)
+    left-crowded here (a .k) untaken next (sym (c .if3 .taken) ∙ at-crowded .crowded .ensures)
 
 pattern-pattern-requires-2 : (t : ℕ) → pattern-lts.Need-pattern-requires-2 (pattern-claims t) (pattern-at t) pattern.Post
 pattern-pattern-requires-2 t c κs =
@@ -141,9 +143,11 @@ pattern-returns-4 t c =
     let is-pair = sym (at-word .word .ensures) ∙ at-if1 .if1 .left in
     let head-is = at-reference .reference .ensures in
     let rest-is = at-reference2 .reference2 .ensures in
+    let untaken = at-if2 .if2 .left in
+    let next = at-dots-next .dots-next .ensures in
     let here = pair-here (a .work .now) (a .form) (a .node) (a .top) asks (p .1 .1) (p .1 .2) is-pair head-is rest-is in
     let first = at-pattern2 .pattern2 in
-    left-bad here (a .k) (at-if2 .if2 .left) (at-dots-next .dots-next .ensures) (first .last .0) _ (c .enum-told .given .1) (first .ensures)
+    left-bad here (a .k) untaken next (first .last .0) _ (c .enum-told .given .1) (first .ensures)
 
 pattern-pattern-requires-3 : (t : ℕ) → pattern-lts.Need-pattern-requires-3 (pattern-claims t) (pattern-at t) pattern.Post
 pattern-pattern-requires-3 t c κs =
@@ -162,10 +166,18 @@ pattern-pattern-requires-3 t c κs =
     let is-pair = sym (at-word .word .ensures) ∙ at-if1 .if1 .left in
     let head-is = at-reference .reference .ensures in
     let rest-is = at-reference2 .reference2 .ensures in
+    let untaken = at-if2 .if2 .left in
+    let next = at-dots-next .dots-next .ensures in
     let here = pair-here (a .work .now) (a .form) (a .node) (a .top) asks (p .1 .1) (p .1 .2) is-pair head-is rest-is in
     let first = at-pattern2 .pattern2 in
-    let head = made-head here (a .k) (at-if2 .if2 .left) (at-dots-next .dots-next .ensures) (first .last .0) _ _ _ _ (at-a .a .given .1) (first .ensures) in
-    (omega (arith, p .0, rest-below (a .work .now) (a .node) (a .form .wrap) (a .top) asks _ _ is-pair head-is rest-is), (asks-rest (a .work .now) (a .node) (a .form .wrap) (a .top) asks _ _ is-pair head-is rest-is _ _ _ (first .kept .0) (head .grows), dots-still here (a .k) (at-if2 .if2 .left) (at-dots-next .dots-next .ensures) (first .kept .0) head, literals-still here (a .k) (at-if2 .if2 .left) (at-dots-next .dots-next .ensures) (first .kept .0) head, small-rest here (a .k) (at-if2 .if2 .left) (at-dots-next .dots-next .ensures) (first .kept .0) head (p .1 .3), begins-still here (a .k) (at-if2 .if2 .left) (at-dots-next .dots-next .ensures) (first .kept .0) head))
+    let head = made-head here (a .k) untaken next (first .last .0) _ _ _ _ (at-a .a .given .1) (first .ensures) in
+    let below = rest-below (a .work .now) (a .node) (a .form .wrap) (a .top) asks _ _ is-pair head-is rest-is in
+    let asks-next = asks-rest (a .work .now) (a .node) (a .form .wrap) (a .top) asks _ _ is-pair head-is rest-is _ _ _ (first .kept .0) (head .grows) in
+    let dots-left = dots-still here (a .k) untaken next (first .kept .0) head in
+    let literals-left = literals-still here (a .k) untaken next (first .kept .0) head in
+    let small = small-rest here (a .k) untaken next (first .kept .0) head (p .1 .3) in
+    let begins = begins-still here (a .k) untaken next (first .kept .0) head in
+    (omega (arith, p .0, below), (asks-next, dots-left, literals-left, small, begins))
 
 pattern-returns-5 : (t : ℕ) → pattern-lts.Need-returns-5 (pattern-claims t) (pattern-at t) pattern.Post
 pattern-returns-5 t c =
@@ -185,11 +197,13 @@ pattern-returns-5 t c =
     let is-pair = sym (at-word .word .ensures) ∙ at-if1 .if1 .left in
     let head-is = at-reference .reference .ensures in
     let rest-is = at-reference2 .reference2 .ensures in
+    let untaken = at-if2 .if2 .left in
+    let next = at-dots-next .dots-next .ensures in
     let here = pair-here (a .work .now) (a .form) (a .node) (a .top) asks (p .1 .1) (p .1 .2) is-pair head-is rest-is in
     let first = at-pattern2 .pattern2 in
-    let head = made-head here (a .k) (at-if2 .if2 .left) (at-dots-next .dots-next .ensures) (first .last .0) _ _ _ _ (at-a .a .given .1) (first .ensures) in
+    let head = made-head here (a .k) untaken next (first .last .0) _ _ _ _ (at-a .a .given .1) (first .ensures) in
     let second = at-pattern3 .pattern3 in
-    left-bad-rest here (a .k) (at-if2 .if2 .left) (at-dots-next .dots-next .ensures) (first .kept .0) head (second .last .0) _ (c .enum-told2 .given .1) (second .ensures)
+    left-bad-rest here (a .k) untaken next (first .kept .0) head (second .last .0) _ (c .enum-told2 .given .1) (second .ensures)
 
 pattern-put-list-requires : (t : ℕ) → pattern-lts.Need-put-list-requires (pattern-claims t) (pattern-at t) pattern.Post
 pattern-put-list-requires t c κs =
@@ -210,11 +224,13 @@ pattern-put-list-requires t c κs =
     let is-pair = sym (at-word .word .ensures) ∙ at-if1 .if1 .left in
     let head-is = at-reference .reference .ensures in
     let rest-is = at-reference2 .reference2 .ensures in
+    let untaken = at-if2 .if2 .left in
+    let next = at-dots-next .dots-next .ensures in
     let here = pair-here (a .work .now) (a .form) (a .node) (a .top) asks (p .1 .1) (p .1 .2) is-pair head-is rest-is in
     let first = at-pattern2 .pattern2 in
-    let head = made-head here (a .k) (at-if2 .if2 .left) (at-dots-next .dots-next .ensures) (first .last .0) _ _ _ _ (at-a .a .given .1) (first .ensures) in
+    let head = made-head here (a .k) untaken next (first .last .0) _ _ _ _ (at-a .a .given .1) (first .ensures) in
     let second = at-pattern3 .pattern3 in
-    let later = made-rest here (a .k) (at-if2 .if2 .left) (at-dots-next .dots-next .ensures) (first .kept .0) head (second .last .0) _ _ _ _ (at-b .b .given .1) (second .ensures) in
+    let later = made-rest here (a .k) untaken next (first .kept .0) head (second .last .0) _ _ _ _ (at-b .b .given .1) (second .ensures) in
     (room-pair (a .work .now) (a .node) (a .form .wrap) (a .top) asks _ _ is-pair head-is rest-is _ _ _ (first .kept .0) (head .grows) _ _ _ (second .kept .0) (later .grows), omega (arith, head .grows .at-most, later .grows .up), later .grows .at-most)
 
 pattern-returns-6 : (t : ℕ) → pattern-lts.Need-returns-6 (pattern-claims t) (pattern-at t) pattern.Post
@@ -240,12 +256,14 @@ pattern-returns-6 t c =
     let is-pair = sym (at-word .word .ensures) ∙ at-if1 .if1 .left in
     let head-is = at-reference .reference .ensures in
     let rest-is = at-reference2 .reference2 .ensures in
+    let untaken = at-if2 .if2 .left in
+    let next = at-dots-next .dots-next .ensures in
     let here = pair-here (a .work .now) (a .form) (a .node) (a .top) asks (p .1 .1) (p .1 .2) is-pair head-is rest-is in
     let first = at-pattern2 .pattern2 in
-    let head = made-head here (a .k) (at-if2 .if2 .left) (at-dots-next .dots-next .ensures) (first .last .0) _ _ _ _ (at-a .a .given .1) (first .ensures) in
+    let head = made-head here (a .k) untaken next (first .last .0) _ _ _ _ (at-a .a .given .1) (first .ensures) in
     let second = at-pattern3 .pattern3 in
-    let later = made-rest here (a .k) (at-if2 .if2 .left) (at-dots-next .dots-next .ensures) (first .kept .0) head (second .last .0) _ _ _ _ (at-b .b .given .1) (second .ensures) in
-    left-list here (a .k) (at-if2 .if2 .left) (at-dots-next .dots-next .ensures) (first .kept .0) head _ _ _ _ _ _ _ (sym (at-if3 .if3 .left) ∙ at-crowded .crowded .ensures) (at-following .following .ensures (a .form .wrap)) later (at-put-list .put-list .ensures .0)
+    let later = made-rest here (a .k) untaken next (first .kept .0) head (second .last .0) _ _ _ _ (at-b .b .given .1) (second .ensures) in
+    left-list here (a .k) untaken next (first .kept .0) head _ _ _ _ _ _ _ (sym (at-if3 .if3 .left) ∙ at-crowded .crowded .ensures) (at-following .following .ensures (a .form .wrap)) later (at-put-list .put-list .ensures .0)
 
 pub +pattern-spec : {M : Type 1} → statement M
 +pattern-spec = close μ-pattern λ t. pattern-lts.spec (pattern-claims t)

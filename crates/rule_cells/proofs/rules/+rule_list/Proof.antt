@@ -16,6 +16,7 @@ use borrow.Author.Needs.{needs}
 use Rattle.words.specs.Packed.{builtOf}
 use Rattle.rule_cells.specs.ParseLaws.{packs-at, packs, asks-tail, rest-below}
 use Rattle.rule_cells.specs.RuleParse.{RulesLeft}
+use Rattle.rule_cells.specs.PatternLaws.{pair-here}
 use Rattle.rule_cells.specs.RuleListLaws.{left-end, left-later, made-later, asks-first, literals-still, left-both, dots-still}
 use mathlib.Core.Path.{sym, _∙_}
 use native.Mathlib.Omega.{arith}
@@ -41,7 +42,7 @@ rule-list-returns t c =
     let at-args = at-word .before .before .before in
     let a = at-args .args in
     let p = at-args .pre in
-    let left = left-end (a .work .now) (a .form .dots) (a .form .literals) (a .node) (a .form .wrap) (a .top) (p .1 .0) (p .1 .1) (p .1 .2) (λ z. at-if1 .if1 .taken (at-word .word .ensures ∙ z)) in
+    let left = left-end (a .work .now) (a .form) (a .node) (a .top) (λ z. at-if1 .if1 .taken (at-word .word .ensures ∙ z)) in
     packs-at (RulesLeft _ _ _ _ _) _ _ _ _ (packs (a .work .now) (a .node) (a .form .wrap) (a .top) (p .1 .0)) (c .pair .ensures) (left .words) left
 
 rule-list-rule-list-requires : (t : ℕ) → rule-list-lts.Need-rule-list-requires (rule-list-claims t) (rule-list-at t) rule-list.Post
@@ -75,8 +76,9 @@ rule-list-returns-2 t c =
     let is-pair = sym (at-word .word .ensures) ∙ at-if1 .if1 .left in
     let head-is = at-reference .reference .ensures in
     let rest-is = at-reference2 .reference2 .ensures in
+    let here = pair-here (a .work .now) (a .form) (a .node) (a .top) asks (p .1 .1) (p .1 .2) is-pair head-is rest-is in
     let l = at-rule-list .rule-list in
-    left-later (a .work .now) (a .form .dots) (a .form .literals) (a .node) (a .form .wrap) (a .top) asks (p .1 .1) (p .1 .2) _ _ is-pair head-is rest-is (l .last .0) (builtOf (l .result)) (sym (at-parts .parts .ensures) ∙ c .enum-told .given .1) (l .ensures)
+    left-later here (l .last .0) (builtOf (l .result)) (sym (at-parts .parts .ensures) ∙ c .enum-told .given .1) (l .ensures)
 
 rule-list-rule-requires : (t : ℕ) → rule-list-lts.Need-rule-requires (rule-list-claims t) (rule-list-at t) rule-list.Post
 rule-list-rule-requires t c κs =
@@ -94,9 +96,10 @@ rule-list-rule-requires t c κs =
     let is-pair = sym (at-word .word .ensures) ∙ at-if1 .if1 .left in
     let head-is = at-reference .reference .ensures in
     let rest-is = at-reference2 .reference2 .ensures in
+    let here = pair-here (a .work .now) (a .form) (a .node) (a .top) asks (p .1 .1) (p .1 .2) is-pair head-is rest-is in
     let l = at-rule-list .rule-list in
-    let later = made-later (a .work .now) (a .form .dots) (a .form .literals) (a .node) (a .form .wrap) (a .top) asks (p .1 .1) (p .1 .2) _ _ is-pair head-is rest-is (l .last .0) (builtOf (l .result)) _ _ (sym (at-parts .parts .ensures) ∙ at-next .next .given .1) (l .ensures) in
-    (asks-first (a .work .now) (a .form .dots) (a .form .literals) (a .node) (a .form .wrap) (a .top) asks (p .1 .1) (p .1 .2) _ _ is-pair head-is rest-is (l .last .0) _ _ (l .kept .0) later, dots-still (a .work .now) (a .form .dots) (a .form .literals) (a .node) (a .form .wrap) (a .top) asks (p .1 .1) (p .1 .2) _ _ is-pair head-is rest-is (l .last .0) _ _ (l .kept .0) later, literals-still (a .work .now) (a .form .dots) (a .form .literals) (a .node) (a .form .wrap) (a .top) asks (p .1 .1) (p .1 .2) _ _ is-pair head-is rest-is (l .last .0) _ _ (l .kept .0) later, later .at-most)
+    let later = made-later here (l .last .0) (builtOf (l .result)) _ _ (sym (at-parts .parts .ensures) ∙ at-next .next .given .1) (l .ensures) in
+    (asks-first here (l .kept .0) later, dots-still here (l .kept .0) later, literals-still here (l .kept .0) later, later .at-most)
 
 rule-list-returns-3 : (t : ℕ) → rule-list-lts.Need-returns-3 (rule-list-claims t) (rule-list-at t) rule-list.Post
 rule-list-returns-3 t c =
@@ -115,9 +118,10 @@ rule-list-returns-3 t c =
     let is-pair = sym (at-word .word .ensures) ∙ at-if1 .if1 .left in
     let head-is = at-reference .reference .ensures in
     let rest-is = at-reference2 .reference2 .ensures in
+    let here = pair-here (a .work .now) (a .form) (a .node) (a .top) asks (p .1 .1) (p .1 .2) is-pair head-is rest-is in
     let l = at-rule-list .rule-list in
-    let later = made-later (a .work .now) (a .form .dots) (a .form .literals) (a .node) (a .form .wrap) (a .top) asks (p .1 .1) (p .1 .2) _ _ is-pair head-is rest-is (l .last .0) (builtOf (l .result)) _ _ (sym (at-parts .parts .ensures) ∙ at-next .next .given .1) (l .ensures) in
-    left-both (a .work .now) (a .form .dots) (a .form .literals) (a .node) (a .form .wrap) (a .top) asks (p .1 .1) (p .1 .2) _ _ is-pair head-is rest-is (l .last .0) _ _ (l .kept .0) later (at-rule .rule .last .0) (builtOf (at-rule .rule .result)) (at-rule .rule .ensures)
+    let later = made-later here (l .last .0) (builtOf (l .result)) _ _ (sym (at-parts .parts .ensures) ∙ at-next .next .given .1) (l .ensures) in
+    left-both here (l .kept .0) later (at-rule .rule .last .0) (builtOf (at-rule .rule .result)) (at-rule .rule .ensures)
 
 pub +rule-list-spec : {M : Type 1} → statement M
 +rule-list-spec = close μ-rule-list λ t. rule-list-lts.spec (rule-list-claims t)

@@ -21,7 +21,7 @@ rule-parts-requires c κs =
     let at-if1 = at-first .before .before in
     let at-rule-shape = at-if1 .before in
     let at-args = at-rule-shape .before .before .before in
-    let a = at-args .args in parts-ask (a .work .now) (a .form .dots) (a .form .literals) (a .node) (a .form .wrap) (a .next) (a .top) (at-args .pre .0) (at-args .pre .1) (at-args .pre .2) (at-args .pre .3) _ _ _ _ (sym (at-if1 .if1 .taken) ∙ at-rule-shape .rule-shape .ensures) (at-first .first .ensures) (at-rest .rest .ensures) (at-rest2 .rest2 .ensures) (at-first2 .first2 .ensures)
+    let a = at-args .args in parts-ask (a .work .now) (a .form) (a .node) (a .next) (a .top) (at-args .pre .0) (at-args .pre .1) (at-args .pre .2) (at-args .pre .3) _ _ _ _ (sym (at-if1 .if1 .taken) ∙ at-rule-shape .rule-shape .ensures) (at-first .first .ensures) (at-rest .rest .ensures) (at-rest2 .rest2 .ensures) (at-first2 .first2 .ensures)
 
 returns : tie.Need-returns
 returns c =
@@ -33,14 +33,14 @@ returns c =
     let at-if1 = at-first .before .before in
     let at-rule-shape = at-if1 .before in
     let at-args = at-rule-shape .before .before .before in
-    let a = at-args .args in left-parts (a .work .now) (a .form .dots) (a .form .literals) (a .node) (a .form .wrap) (a .next) (a .top) (at-args .pre .0) (at-args .pre .1) (at-args .pre .2) (at-args .pre .3) _ _ _ _ (sym (at-if1 .if1 .taken) ∙ at-rule-shape .rule-shape .ensures) (at-first .first .ensures) (at-rest .rest .ensures) (at-rest2 .rest2 .ensures) (at-first2 .first2 .ensures) (at-rule-parts .rule-parts .last .0) (builtOf (at-rule-parts .rule-parts .result)) (at-rule-parts .rule-parts .ensures)
+    let a = at-args .args in left-parts (a .work .now) (a .form) (a .node) (a .next) (a .top) (at-args .pre .0) (at-args .pre .1) (at-args .pre .2) (at-args .pre .3) _ _ _ _ (sym (at-if1 .if1 .taken) ∙ at-rule-shape .rule-shape .ensures) (at-first .first .ensures) (at-rest .rest .ensures) (at-rest2 .rest2 .ensures) (at-first2 .first2 .ensures) (at-rule-parts .rule-parts .last .0) (builtOf (at-rule-parts .rule-parts .result)) (at-rule-parts .rule-parts .ensures)
 
 returns-2 : tie.Need-returns-2
 unfolding builtOf
 returns-2 c =
     let at-rule-shape = c .before in
     let at-args = at-rule-shape .before .before .before in
-    let a = at-args .args in left-shape (a .work .now) (a .form .dots) (a .form .literals) (a .node) (a .form .wrap) (a .next) (a .top) (at-args .pre .0) (at-args .pre .1) (at-args .pre .2) (at-args .pre .3) (sym (c .if1 .left) ∙ at-rule-shape .rule-shape .ensures)
+    let a = at-args .args in left-shape (a .work .now) (a .form) (a .node) (a .next) (a .top) (at-args .pre .0) (at-args .pre .1) (at-args .pre .2) (at-args .pre .3) (sym (c .if1 .left) ∙ at-rule-shape .rule-shape .ensures)
 
 pub rule-spec : {M : Type 1} → statement M
 rule-spec =

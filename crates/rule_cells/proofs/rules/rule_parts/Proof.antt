@@ -24,7 +24,7 @@ gather-requires : tie.Need-gather-requires
 gather-requires c κs =
     let a = c .before .before .before .args in
     let ask = c .before .before .before .pre in
-    (omega arith, held-none (a .work .now) (a .form .wrap) _, small-p (a .work .now) (a .form .dots) (a .form .literals) (a .p) (a .q) (a .form .wrap) (a .next) (a .top) ask)
+    (omega arith, held-none (a .work .now) (a .form .wrap) _, small-p ask)
 
 returns : tie.Need-returns
 unfolding builtOf
@@ -34,14 +34,14 @@ returns c =
     let a = at-args .args in
     let ask = at-args .pre in
     let g = at-gather .gather in
-    left-variables (a .work .now) (a .form .dots) (a .form .literals) (a .p) (a .q) (a .form .wrap) (a .next) (a .top) ask _ (g .last .1 .0) (keptOf (g .result)) (kept-bad (g .result) (c .if1 .taken)) (g .ensures)
+    left-variables ask _ (g .last .1 .0) (keptOf (g .result)) (kept-bad (g .result) (c .if1 .taken)) (g .ensures)
 
 pattern-requires : tie.Need-pattern-requires
 pattern-requires c κs =
     let at-args = c .before .before .before .before .before .before .before in
     let a = at-args .args in
     let ask = at-args .pre in
-    (asks-p (a .work .now) (a .form .dots) (a .form .literals) (a .p) (a .q) (a .form .wrap) (a .next) (a .top) ask, ask .dots-below, ask .literals-below, small-size (a .work .now) (a .form .dots) (a .form .literals) (a .p) (a .q) (a .form .wrap) (a .next) (a .top) ask, λ z. absurd (false≢true z))
+    (asks-p ask, ask .dots-below, ask .literals-below, small-size ask, λ z. absurd (false≢true z))
 
 returns-2 : tie.Need-returns-2
 unfolding builtOf
@@ -50,7 +50,7 @@ returns-2 c =
     let at-args = at-pattern .before .before .before .before .before .before .before .before in
     let a = at-args .args in
     let ask = at-args .pre in
-    left-pattern (a .work .now) (a .form .dots) (a .form .literals) (a .p) (a .q) (a .form .wrap) (a .next) (a .top) ask (at-pattern .pattern .last .0) _ (c .enum-told .given .1) (at-pattern .pattern .ensures)
+    left-pattern ask (at-pattern .pattern .last .0) _ (c .enum-told .given .1) (at-pattern .pattern .ensures)
 
 template-requires : tie.Need-template-requires
 template-requires c κs =
@@ -64,8 +64,8 @@ template-requires c κs =
     let g = at-gather .gather in
     let stored = gathered-stored _ _ _ _ _ _ (g .last .1 .0) (keptOf (g .result)) _ (kept-count (g .result) (at-if1 .if1 .left)) (g .ensures) in
     let p = at-pattern .pattern in
-    let pattern = made-pattern (a .work .now) (a .form .dots) (a .form .literals) (a .p) (a .q) (a .form .wrap) (a .next) (a .top) ask (p .last .0) _ _ _ _ (at-a .a .given .1) (p .ensures) in
-    (asks-q (a .work .now) (a .form .dots) (a .form .literals) (a .p) (a .q) (a .form .wrap) (a .next) (a .top) ask _ (g .last .1 .0) _ stored (p .last .0) _ _ _ (p .kept .0) pattern, stored .held .most, omega (arith, g .kept .1 .0), under-top (a .work .now) (a .form .dots) (a .form .literals) (a .p) (a .q) (a .form .wrap) (a .next) (a .top) ask _ (g .last .1 .0) _ stored (p .last .0) _ _ _ (p .kept .0) pattern, dots-still (a .work .now) (a .form .dots) (a .form .literals) (a .p) (a .q) (a .form .wrap) (a .next) (a .top) ask _ (g .last .1 .0) _ stored (p .last .0) _ _ _ (p .kept .0) pattern, small-q (a .work .now) (a .form .dots) (a .form .literals) (a .p) (a .q) (a .form .wrap) (a .next) (a .top) ask _ (g .last .1 .0) _ stored (p .last .0) _ _ _ (p .kept .0) pattern)
+    let pattern = made-pattern ask (p .last .0) _ _ _ _ (at-a .a .given .1) (p .ensures) in
+    (asks-q ask stored (p .kept .0) pattern, stored .held .most, omega (arith, g .kept .1 .0), under-top ask stored (p .kept .0) pattern, dots-still ask stored (p .kept .0) pattern, small-q ask stored (p .kept .0) pattern)
 
 returns-3 : tie.Need-returns-3
 unfolding builtOf
@@ -82,9 +82,9 @@ returns-3 c =
     let g = at-gather .gather in
     let stored = gathered-stored _ _ _ _ _ _ (g .last .1 .0) (keptOf (g .result)) _ (kept-count (g .result) (at-if1 .if1 .left)) (g .ensures) in
     let p = at-pattern .pattern in
-    let pattern = made-pattern (a .work .now) (a .form .dots) (a .form .literals) (a .p) (a .q) (a .form .wrap) (a .next) (a .top) ask (p .last .0) _ _ _ _ (at-a .a .given .1) (p .ensures) in
+    let pattern = made-pattern ask (p .last .0) _ _ _ _ (at-a .a .given .1) (p .ensures) in
     let q = at-template .template in
-    left-template (a .work .now) (a .form .dots) (a .form .literals) (a .p) (a .q) (a .form .wrap) (a .next) (a .top) ask _ (g .last .1 .0) _ stored (p .last .0) _ _ _ (p .kept .0) pattern (q .last .0) (builtOf (q .result)) (sym (at-parts .parts .ensures) ∙ c .enum-told2 .given .1) (q .ensures)
+    left-template ask stored (p .kept .0) pattern (q .last .0) (builtOf (q .result)) (sym (at-parts .parts .ensures) ∙ c .enum-told2 .given .1) (q .ensures)
 
 put-rule-requires : tie.Need-put-rule-requires
 put-rule-requires c κs =
@@ -101,10 +101,10 @@ put-rule-requires c κs =
     let g = at-gather .gather in
     let stored = gathered-stored _ _ _ _ _ _ (g .last .1 .0) (keptOf (g .result)) _ (kept-count (g .result) (at-if1 .if1 .left)) (g .ensures) in
     let p = at-pattern .pattern in
-    let pattern = made-pattern (a .work .now) (a .form .dots) (a .form .literals) (a .p) (a .q) (a .form .wrap) (a .next) (a .top) ask (p .last .0) _ _ _ _ (at-a .a .given .1) (p .ensures) in
+    let pattern = made-pattern ask (p .last .0) _ _ _ _ (at-a .a .given .1) (p .ensures) in
     let q = at-template .template in
-    let template = made-template (a .work .now) (a .form .dots) (a .form .literals) (a .p) (a .q) (a .form .wrap) (a .next) (a .top) ask _ (g .last .1 .0) _ stored (p .last .0) _ _ _ (p .kept .0) pattern (q .last .0) (builtOf (q .result)) _ _ (sym (at-parts .parts .ensures) ∙ at-b .b .given .1) (q .ensures) in
-    rule-asks (a .work .now) (a .form .dots) (a .form .literals) (a .p) (a .q) (a .form .wrap) (a .next) (a .top) ask _ (g .last .1 .0) _ stored (p .last .0) _ _ _ (p .kept .0) pattern (q .last .0) _ _ (q .kept .0) template
+    let template = made-template ask stored (p .kept .0) pattern (q .last .0) (builtOf (q .result)) _ _ (sym (at-parts .parts .ensures) ∙ at-b .b .given .1) (q .ensures) in
+    rule-asks ask stored (p .kept .0) pattern (q .kept .0) template
 
 returns-4 : tie.Need-returns-4
 returns-4 c =
@@ -122,11 +122,11 @@ returns-4 c =
     let g = at-gather .gather in
     let stored = gathered-stored _ _ _ _ _ _ (g .last .1 .0) (keptOf (g .result)) _ (kept-count (g .result) (at-if1 .if1 .left)) (g .ensures) in
     let p = at-pattern .pattern in
-    let pattern = made-pattern (a .work .now) (a .form .dots) (a .form .literals) (a .p) (a .q) (a .form .wrap) (a .next) (a .top) ask (p .last .0) _ _ _ _ (at-a .a .given .1) (p .ensures) in
+    let pattern = made-pattern ask (p .last .0) _ _ _ _ (at-a .a .given .1) (p .ensures) in
     let q = at-template .template in
-    let template = made-template (a .work .now) (a .form .dots) (a .form .literals) (a .p) (a .q) (a .form .wrap) (a .next) (a .top) ask _ (g .last .1 .0) _ stored (p .last .0) _ _ _ (p .kept .0) pattern (q .last .0) (builtOf (q .result)) _ _ (sym (at-parts .parts .ensures) ∙ at-b .b .given .1) (q .ensures) in
-    let left = left-rule (a .work .now) (a .form .dots) (a .form .literals) (a .p) (a .q) (a .form .wrap) (a .next) (a .top) ask _ (g .last .1 .0) _ stored (p .last .0) _ _ _ (p .kept .0) pattern (q .last .0) _ _ (q .kept .0) template _ _ (at-put-rule .put-rule .ensures) in
-    packs-at (RuleLeft _ _ _ _ _ _) _ _ _ _ (packs-rule (a .work .now) (a .form .dots) (a .form .literals) (a .p) (a .q) (a .form .wrap) (a .next) (a .top) ask) (c .pair .ensures) (left .words) left
+    let template = made-template ask stored (p .kept .0) pattern (q .last .0) (builtOf (q .result)) _ _ (sym (at-parts .parts .ensures) ∙ at-b .b .given .1) (q .ensures) in
+    let left = left-rule ask stored (p .kept .0) pattern (q .kept .0) template _ _ (at-put-rule .put-rule .ensures) in
+    packs-at (RuleLeft _ _ _ _ _ _) _ _ _ _ (packs-rule ask) (c .pair .ensures) (left .words) left
 
 pub rule-parts-spec : {M : Type 1} → statement M
 rule-parts-spec =

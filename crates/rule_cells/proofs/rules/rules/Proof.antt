@@ -21,7 +21,12 @@ rule-list-requires c κs =
     let at-after-chosen = at-first .before .before in
     let at-ellipsis = at-after-chosen .before .before in
     let at-args = at-ellipsis .before .before .before .before .before .before in
-    let a = at-args .args in (asks-list (a .work .now) (a .node) (a .w) (a .top) (at-args .pre) _ _ _ _ (at-ellipsis .ellipsis .ensures) (at-after-chosen .after-chosen .ensures) (at-first .first .ensures) (at-rest .rest .ensures), dots-under (a .work .now) (a .node) (a .w) (a .top) (at-args .pre) _ _ _ _ (at-ellipsis .ellipsis .ensures) (at-after-chosen .after-chosen .ensures) (at-first .first .ensures) (at-rest .rest .ensures), literals-under (a .work .now) (a .node) (a .w) (a .top) (at-args .pre) _ _ _ _ (at-ellipsis .ellipsis .ensures) (at-after-chosen .after-chosen .ensures) (at-first .first .ensures) (at-rest .rest .ensures))
+    let a = at-args .args in
+    let dots = at-ellipsis .ellipsis .ensures in
+    let after = at-after-chosen .after-chosen .ensures in
+    let literals = at-first .first .ensures in
+    let list = at-rest .rest .ensures in
+    (asks-list (a .work .now) (a .node) (a .w) (a .top) (at-args .pre) dots after literals list, dots-under (a .work .now) (a .node) (a .w) (a .top) (at-args .pre) dots after literals list, literals-under (a .work .now) (a .node) (a .w) (a .top) (at-args .pre) dots after literals list)
 
 returns : tie.Need-returns
 returns c =
@@ -33,7 +38,12 @@ returns c =
     let at-if1 = at-ellipsis .before .before in
     let at-is-rules-form = at-if1 .before in
     let at-args = at-is-rules-form .before .before .before in
-    let a = at-args .args in left-form (a .work .now) (a .node) (a .w) (a .top) (at-args .pre) _ _ _ _ (at-ellipsis .ellipsis .ensures) (at-after-chosen .after-chosen .ensures) (at-first .first .ensures) (at-rest .rest .ensures) (at-rule-list .rule-list .last .0) (builtOf (at-rule-list .rule-list .result)) (sym (at-if1 .if1 .taken) ∙ at-is-rules-form .is-rules-form .ensures) (at-rule-list .rule-list .ensures)
+    let a = at-args .args in
+    let dots = at-ellipsis .ellipsis .ensures in
+    let after = at-after-chosen .after-chosen .ensures in
+    let literals = at-first .first .ensures in
+    let list = at-rest .rest .ensures in
+    left-form (a .work .now) (a .node) (a .w) (a .top) (at-args .pre) dots after literals list (at-rule-list .rule-list .last .0) (builtOf (at-rule-list .rule-list .result)) (sym (at-if1 .if1 .taken) ∙ at-is-rules-form .is-rules-form .ensures) (at-rule-list .rule-list .ensures)
 
 returns-2 : tie.Need-returns-2
 unfolding builtOf
