@@ -1,6 +1,6 @@
 -- Laws of the arena: what a cell means depends on the words below its reference alone; what each kind of wrap and node means;
 -- and that waiting on a tree is carrying through it.
-use mathlib.Core.Path.{_≡_, refl, sym, ap, ap₂, _∙_}
+use mathlib.Core.Path.{_≡_, refl, sym, ap, ap₂, fun-ext, _∙_}
 use mathlib.Core.Bool.{Bool, true, false, _&&_, _||_, or-true}
 use mathlib.Core.List.{List, [], _∷_}
 use mathlib.Core.Option.{Option, none, some}
@@ -77,6 +77,45 @@ referenceAt-below a b at k p e = ap (falling at) (wordAt-below a b at k p e)
 pub take-less : (a b : List ℕ) (m n : ℕ) → m ≤ n → take n a ≡ take n b → take m a ≡ take m b
 take-less a b m n h e = sym (take-take m n a h) ∙ ap (take m) e ∙ take-take m n b h
 
+-- ---- any reading of cells in steps
+
+-- `from` is what gas and a reference mean, `step` one step of it
+pub record Reads {A : Type 0} (from : ℕ → ℕ → A) (step : (ℕ → A) → ℕ → A) (nothing : A) : Type 0 where
+  pub steps : (g at : ℕ) → from (suc g) at ≡ step (from g) at
+  pub ends : (g : ℕ) → from g 0 ≡ nothing
+
+-- readings of two tables agree, where their steps do: what a reference means depends on the words below it alone, and gas that is
+-- enough changes nothing
+module _ {A : Type 0} {from from′ : ℕ → ℕ → A} {step step′ : (ℕ → A) → ℕ → A} {nothing : A} (x : Reads from step nothing) (y : Reads from′ step′ nothing) (a b : List ℕ)
+    (step-agree : (at : ℕ) → 0 < at → take at a ≡ take at b → (f g : ℕ → A) → ((r : ℕ) → r < at → f r ≡ g r) → step f at ≡ step′ g at) where
+  from-empty : (g h at : ℕ) → at ≡ 0 → from g at ≡ from′ h at
+  from-empty g h at e = rw e (x .ends g ∙ sym (y .ends h))
+
+  from-more : (g h : ℕ) → ((at : ℕ) → at ≤ g → at ≤ h → take at a ≡ take at b → from g at ≡ from′ h at) → (at : ℕ) → at ≤ suc g → at ≤ suc h → take at a ≡ take at b → from (suc g) at ≡ from′ (suc h) at
+  from-more g h ih zero p q e = from-empty (suc g) (suc h) zero refl
+  from-more g h ih (suc at) p q e =
+      x .steps g (suc at)
+      ∙ step-agree (suc at) (omega arith) e (from g) (from′ h) (λ r l. ih r (omega arith) (omega arith) (take-less a b r (suc at) (omega arith) e))
+      ∙ sym (y .steps h (suc at))
+
+  pub from-agree : (g h at : ℕ) → at ≤ g → at ≤ h → take at a ≡ take at b → from g at ≡ from′ h at
+  from-agree zero h at p q e = from-empty zero h at (omega arith)
+  from-agree (suc g) zero at p q e = from-empty (suc g) zero at (omega arith)
+  from-agree (suc g) (suc h) at p q e = from-more g h (from-agree g h) at p q e
+
+  -- the reference itself is gas enough
+  pub from-below : (at : ℕ) → take at a ≡ take at b → from at at ≡ from′ at at
+  from-below at e = from-agree at at at (omega arith) (omega arith) e
+
+-- what a cell refers to is read in the same way
+pub from-whole : {A : Type 0} {from : ℕ → ℕ → A} {step : (ℕ → A) → ℕ → A} {nothing : A} → Reads from step nothing
+    → ((at : ℕ) → 0 < at → (f g : ℕ → A) → ((r : ℕ) → r < at → f r ≡ g r) → step f at ≡ step g at)
+    → (at : ℕ) → 0 < at → from at at ≡ step (λ r. from r r) at
+from-whole x same zero h = absurd (omega arith)
+from-whole {from = from} x same (suc at) h =
+    x .steps at (suc at)
+    ∙ same (suc at) h (from at) (λ r. from r r) (λ r l. from-agree x x [] [] (λ n p e. same n p) at r r (omega arith) (omega arith) refl)
+
 -- ---- what a wrap means depends on the words below it alone
 
 byTag-cong : (t : ℕ) (f f′ g g′ h h′ : Name → Name) (x : Name) → f x ≡ f′ x → g x ≡ g′ x → h x ≡ h′ x → byTag t f g h (λ y. y) x ≡ byTag t f′ g′ h′ (λ y. y) x
@@ -120,49 +159,32 @@ module _ (a b : List ℕ) (f g : ℕ → Name → Name) (w : ℕ) (some-word : 0
       rw (wordAt-below a b w 1 (omega arith) e)
       (byTag-cong (wordAt b w TAG) (markOn a f w) (markOn b g w) (joinOn a f w) (joinOn b g w) (binderOn a f w) (binderOn b g w) x (mark-agree x) (join-agree x) (binder-agree x))
 
-wrapFrom-none : (work : List ℕ) (gas : ℕ) (x : Name) → wrapFrom work gas 0 x ≡ x
+wrapStep-agree : (a b : List ℕ) (at : ℕ) → 0 < at → take at a ≡ take at b → (f g : ℕ → Name → Name) → ((r : ℕ) → r < at → f r ≡ g r) → wrapStep a f at ≡ wrapStep b g at
+wrapStep-agree a b at h e f g same = fun-ext (λ x. step-agree a b f g at h e (λ r l y. ap (λ (k : Name → Name). k y) (same r l)) x)
+
+wrapFrom-none : (work : List ℕ) (gas : ℕ) → wrapFrom work gas 0 ≡ λ x. x
 unfolding wrapFrom wrapStep byTag wordAt within
-wrapFrom-none work zero x = refl
-wrapFrom-none work (suc gas) x = refl
+wrapFrom-none work zero = refl
+wrapFrom-none work (suc gas) = refl
 
--- gas that is enough changes nothing either
-abbrev Agree : (a b : List ℕ) (g h w : ℕ) → Type 0
-Agree a b g h w = w ≤ g → w ≤ h → take w a ≡ take w b → (x : Name) → wrapFrom a g w x ≡ wrapFrom b h w x
-
-wrapFrom-more : (a b : List ℕ) (g h : ℕ) → ((w : ℕ) → Agree a b g h w) → (w : ℕ) → Agree a b (suc g) (suc h) w
+reads-wrap : (work : List ℕ) → Reads (wrapFrom work) (wrapStep work) (λ x. x)
 unfolding wrapFrom
-wrapFrom-more a b g h ih zero p q e x = wrapFrom-none a (suc g) x ∙ sym (wrapFrom-none b (suc h) x)
-wrapFrom-more a b g h ih (suc w) p q e x =
-    step-agree a b (wrapFrom a g) (wrapFrom b h) (suc w) (omega arith) e
-    (λ r l y. ih r (omega arith) (omega arith) (take-less a b r (suc w) (omega arith) e) y)
-    x
-
-wrapFrom-empty : (a b : List ℕ) (g h w : ℕ) → w ≡ 0 → (x : Name) → wrapFrom a g w x ≡ wrapFrom b h w x
-wrapFrom-empty a b g h w e x = rw e (wrapFrom-none a g x ∙ sym (wrapFrom-none b h x))
-
-wrapFrom-agree : (a b : List ℕ) (g h w : ℕ) → Agree a b g h w
-wrapFrom-agree a b zero h w p q e x = wrapFrom-empty a b zero h w (omega arith) x
-wrapFrom-agree a b (suc g) zero w p q e x = wrapFrom-empty a b (suc g) zero w (omega arith) x
-wrapFrom-agree a b (suc g) (suc h) w p q e x = wrapFrom-more a b g h (wrapFrom-agree a b g h) w p q e x
+reads-wrap work = record { steps = λ g at. refl; ends = wrapFrom-none work }
 
 pub wrapAt-below : (a b : List ℕ) (w : ℕ) → take w a ≡ take w b → (x : Name) → wrapAt a w x ≡ wrapAt b w x
 unfolding wrapAt
-wrapAt-below a b w e x = wrapFrom-agree a b w w w (omega arith) (omega arith) e x
+wrapAt-below a b w e x = ap (λ (k : Name → Name). k x) (from-below (reads-wrap a) (reads-wrap b) a b (wrapStep-agree a b) w e)
 
 -- ---- what each wrap means
 
 pub wrapAt-none : (work : List ℕ) (x : Name) → wrapAt work 0 x ≡ x
 unfolding wrapAt
-wrapAt-none work x = wrapFrom-none work 0 x
+wrapAt-none work x = ap (λ (k : Name → Name). k x) (wrapFrom-none work 0)
 
 -- a wrap's inner wraps are wraps
 wrapAt-step : (work : List ℕ) (w : ℕ) (x : Name) → 0 < w → wrapAt work w x ≡ wrapStep work (wrapAt work) w x
-unfolding wrapAt wrapFrom
-wrapAt-step work zero x h = absurd (omega arith)
-wrapAt-step work (suc w) x h =
-    step-agree work work (wrapFrom work w) (wrapAt work) (suc w) h refl
-    (λ r l y. wrapFrom-agree work work w r r (omega arith) (omega arith) refl y)
-    x
+unfolding wrapAt
+wrapAt-step work w x h = ap (λ (k : Name → Name). k x) (from-whole (reads-wrap work) (λ at p. wrapStep-agree work work at p refl) w h)
 
 -- a cell with a word has words below its reference
 pub wordAt-some : (work : List ℕ) (at k : ℕ) → 0 < k → (wordAt work at k ≡ 0 → ⊥) → 0 < at

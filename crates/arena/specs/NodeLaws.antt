@@ -14,7 +14,7 @@ use Rattle.recipe.specs.Table.{byKind}
 use Rattle.arena.specs.Offsets.{KIND, OWN, HEAD, TAIL}
 use Rattle.arena.specs.Arena.{wordAt, referenceAt, wrapAt, originName, nodeName, numberOf, nameAt, constantAt, treeStep, treeFrom, treeAt}
 use Rattle.words.specs.ListLaws.{either}
-use Rattle.arena.specs.ArenaLaws.{wordAt-below, referenceAt-below, referenceAt-falls, take-less, wrapAt-below, wrapAt-none, wrapAt-number}
+use Rattle.arena.specs.ArenaLaws.{Reads, from-below, from-whole, wordAt-below, referenceAt-below, referenceAt-falls, take-less, wrapAt-below, wrapAt-none, wrapAt-number}
 
 -- a name's number is its node's, whatever waits on it
 pub nameAt-number : (work : List ℕ) (node w : ℕ) → nameAt work node w .number ≡ numberOf work node
@@ -51,29 +51,15 @@ unfolding treeFrom treeStep byKind wordAt within
 treeFrom-none work zero w = refl
 treeFrom-none work (suc gas) w = refl
 
-abbrev Agree : (a b : List ℕ) (g h w node : ℕ) → Type 0
-Agree a b g h w node = node ≤ g → node ≤ h → take node a ≡ take node b → treeFrom a g node w ≡ treeFrom b h node w
-
-module _ (a b : List ℕ) (w : ℕ) (d : take w a ≡ take w b) where
-  treeFrom-more : (g h : ℕ) → ((node : ℕ) → Agree a b g h w node) → (node : ℕ) → Agree a b (suc g) (suc h) w node
-  unfolding treeFrom
-  treeFrom-more g h ih zero p q e = treeFrom-none a (suc g) w ∙ sym (treeFrom-none b (suc h) w)
-  treeFrom-more g h ih (suc node) p q e =
-      treeStep-agree a b (suc node) w (omega arith) e d (treeFrom a g) (treeFrom b h)
-      (λ r l. ih r (omega arith) (omega arith) (take-less a b r (suc node) (omega arith) e))
-
-  treeFrom-empty : (g h node : ℕ) → node ≡ 0 → treeFrom a g node w ≡ treeFrom b h node w
-  treeFrom-empty g h node e = rw e (treeFrom-none a g w ∙ sym (treeFrom-none b h w))
-
-  treeFrom-agree : (g h node : ℕ) → Agree a b g h w node
-  treeFrom-agree zero h node p q e = treeFrom-empty zero h node (omega arith)
-  treeFrom-agree (suc g) zero node p q e = treeFrom-empty (suc g) zero node (omega arith)
-  treeFrom-agree (suc g) (suc h) node p q e = treeFrom-more g h (treeFrom-agree g h) node p q e
+reads-tree : (work : List ℕ) (w : ℕ) → Reads (λ g node. treeFrom work g node w) (λ f node. treeStep work (λ r v. f r) node w) empty
+unfolding treeFrom treeStep
+reads-tree work w = record { steps = λ g node. refl; ends = λ g. treeFrom-none work g w }
 
 -- appending above changes no earlier meaning
 pub treeAt-below : (a b : List ℕ) (node w : ℕ) → take node a ≡ take node b → take w a ≡ take w b → treeAt a node w ≡ treeAt b node w
 unfolding treeAt
-treeAt-below a b node w e d = treeFrom-agree a b w d node node node (omega arith) (omega arith) e
+treeAt-below a b node w e d =
+    from-below (reads-tree a w) (reads-tree b w) a b (λ at p q f g same. treeStep-agree a b at w p q d (λ r v. f r) (λ r v. g r) same) node e
 
 -- ---- what each node means
 
@@ -81,8 +67,7 @@ treeAt-step : (work : List ℕ) (node w : ℕ) → treeAt work node w ≡ treeSt
 unfolding treeAt treeFrom treeStep byKind wordAt within
 treeAt-step work zero w = refl
 treeAt-step work (suc node) w =
-    treeStep-agree work work (suc node) w (omega arith) refl refl (treeFrom work node) (treeAt work)
-    (λ r l. treeFrom-agree work work w refl node r r (omega arith) (omega arith) refl)
+    from-whole (reads-tree work w) (λ at p f g same. treeStep-agree work work at w p refl refl (λ r v. f r) (λ r v. g r) same) (suc node) (omega arith)
 
 module _ (work : List ℕ) (node w : ℕ) where
   pub treeAt-empty : wordAt work node KIND ≡ 0 → treeAt work node w ≡ empty
