@@ -14,6 +14,7 @@ use Rattle.datum.specs.Constant.{Constant}
 use Rattle.recipe.specs.Name.{Binding, variable, macro, Name, plainName, bindingKey, markName}
 use Rattle.recipe.specs.Tree.{Tree, empty, constant, name, pair}
 use Rattle.recipe.specs.Table.{byKind}
+use Rattle.arena.specs.Offsets.{KIND, ORIGIN, OWN, HEAD, TAIL, FIRST, SECOND, TAG, INNER, STEP, OUTER, KEY, BOUND-KEY, BOUND-NUMBER, BOUND-COUNT, BOUND-NEWEST, BOUND-PENDING, BOUND-OWN}
 
 -- ---- cells
 
@@ -63,14 +64,14 @@ byTag tag forMark forJoin forBinder forNone = cond (eqb tag 1) forMark (cond (eq
 -- `inner` is what the wraps below mean
 module _ (work : List ℕ) (inner : ℕ → Name → Name) where
   unfoldable pub markOn : ℕ → Name → Name
-  markOn w x = marked (wordAt work w 3) (inner (referenceAt work w 2) x)
+  markOn w x = marked (wordAt work w STEP) (inner (referenceAt work w INNER) x)
 
   unfoldable pub joinOn : ℕ → Name → Name
-  joinOn w x = inner (referenceAt work w 3) (inner (referenceAt work w 2) x)
+  joinOn w x = inner (referenceAt work w OUTER) (inner (referenceAt work w INNER) x)
 
   -- the marks of a binder's own name, as they were at its time
   unfoldable pub ownMarks : ℕ → List ℕ
-  ownMarks w = inner (referenceAt work w 8) (inner (referenceAt work w 9) (plainName 0 0)) .marks
+  ownMarks w = inner (referenceAt work w BOUND-PENDING) (inner (referenceAt work w BOUND-OWN) (plainName 0 0)) .marks
 
   -- the marks are compared where there are more than the newest to compare
   unfoldable pub sameMarks : ℕ → List ℕ → Bool
@@ -79,17 +80,17 @@ module _ (work : List ℕ) (inner : ℕ → Name → Name) where
   -- x is the same as the binder's own name; count and newest mark tell most others apart
   unfoldable pub isOwn : ℕ → Name → Bool
   isOwn w x =
-      eqb (wordAt work w 5) (x .number) && (eqb (wordAt work w 4) (bindingKey (x .binding)) && (eqb (wordAt work w 6) (length (x .marks))
-      && (eqb (wordAt work w 7) (newest (x .marks)) && sameMarks w (x .marks))))
+      eqb (wordAt work w BOUND-NUMBER) (x .number) && (eqb (wordAt work w BOUND-KEY) (bindingKey (x .binding)) && (eqb (wordAt work w BOUND-COUNT) (length (x .marks))
+      && (eqb (wordAt work w BOUND-NEWEST) (newest (x .marks)) && sameMarks w (x .marks))))
 
   unfoldable pub rebound : ℕ → Name → Name
-  rebound w x = cond (isOwn w x) (giveKey (wordAt work w 3) x) x
+  rebound w x = cond (isOwn w x) (giveKey (wordAt work w KEY) x) x
 
   unfoldable pub binderOn : ℕ → Name → Name
-  binderOn w x = rebound w (inner (referenceAt work w 2) x)
+  binderOn w x = rebound w (inner (referenceAt work w INNER) x)
 
   unfoldable pub wrapStep : ℕ → Name → Name
-  wrapStep w = byTag (wordAt work w 1) (markOn w) (joinOn w) (binderOn w) (λ x. x)
+  wrapStep w = byTag (wordAt work w TAG) (markOn w) (joinOn w) (binderOn w) (λ x. x)
 
 -- references fall, so that the reference itself is gas enough
 unfoldable pub wrapFrom : List ℕ → ℕ → ℕ → Name → Name
@@ -108,25 +109,25 @@ originName o = record { number = o / 2 % namesMost; item = o / (2 * namesMost); 
 
 -- the name of a name node before any wrap
 unfoldable pub nodeName : List ℕ → ℕ → Name
-nodeName work node = originName (wordAt work node 2)
+nodeName work node = originName (wordAt work node ORIGIN)
 
 unfoldable pub numberOf : List ℕ → ℕ → ℕ
 numberOf work node = nodeName work node .number
 
 -- the name of a name node under a pending wrap: its own wrap, then the pending one
 unfoldable pub nameAt : List ℕ → ℕ → ℕ → Name
-nameAt work node w = wrapAt work w (wrapAt work (referenceAt work node 1) (nodeName work node))
+nameAt work node w = wrapAt work w (wrapAt work (referenceAt work node OWN) (nodeName work node))
 
 unfoldable pub constantAt : List ℕ → ℕ → Constant
-constantAt work node = record { kind = wordAt work node 3; first = wordAt work node 2; second = wordAt work node 1 }
+constantAt work node = record { kind = wordAt work node KIND; first = wordAt work node FIRST; second = wordAt work node SECOND }
 
 -- opening a list hands its wrap on unchanged
 unfoldable pub treeStep : List ℕ → (ℕ → ℕ → Tree) → ℕ → ℕ → Tree
 treeStep work below node w =
-    byKind (wordAt work node 3)
+    byKind (wordAt work node KIND)
     empty
     (name (nameAt work node w))
-    (pair (below (referenceAt work node 2) w) (below (referenceAt work node 1) w))
+    (pair (below (referenceAt work node HEAD) w) (below (referenceAt work node TAIL) w))
     (constant (constantAt work node))
 
 unfoldable pub treeFrom : List ℕ → ℕ → ℕ → ℕ → Tree

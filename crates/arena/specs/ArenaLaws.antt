@@ -1,6 +1,6 @@
 -- Laws of the arena: what a cell means depends on the words below its reference alone; what each kind of wrap and node means;
 -- and that waiting on a tree is carrying through it.
-use mathlib.Core.Path.{_≡_, refl, sym, ap, ap₂, _∙_}
+use mathlib.Core.Path.{_≡_, refl, sym, ap, ap₂, fun-ext, _∙_}
 use mathlib.Core.Bool.{Bool, true, false, _&&_, _||_, or-true}
 use mathlib.Core.List.{List, [], _∷_}
 use mathlib.Core.Option.{Option, none, some}
@@ -14,6 +14,7 @@ use Rattle.words.specs.Lists.{within, equal}
 use Rattle.words.specs.TestLaws.{iff-eq, within-is, within-parts}
 use Rattle.words.specs.ListLaws.{either, equal-true}
 use Rattle.recipe.specs.Name.{Binding, variable, macro, Name, plainName, bindingKey, markName, bindName, giveBinding, same, toggle}
+use Rattle.arena.specs.Offsets.{TAG, INNER, STEP, OUTER, KEY, BOUND-KEY, BOUND-NUMBER, BOUND-COUNT, BOUND-NEWEST}
 use Rattle.arena.specs.Arena.{wordAt, falling, referenceAt, bindingOf, giveKey, stepLimit, marked, newest, byTag, markOn, joinOn, ownMarks, sameMarks, isOwn, rebound, binderOn, wrapStep, wrapFrom, wrapAt}
 
 -- ---- words and references
@@ -76,6 +77,45 @@ referenceAt-below a b at k p e = ap (falling at) (wordAt-below a b at k p e)
 pub take-less : (a b : List ℕ) (m n : ℕ) → m ≤ n → take n a ≡ take n b → take m a ≡ take m b
 take-less a b m n h e = sym (take-take m n a h) ∙ ap (take m) e ∙ take-take m n b h
 
+-- ---- any reading of cells in steps
+
+-- `from` is what gas and a reference mean, `step` one step of it
+pub record Reads {A : Type 0} (from : ℕ → ℕ → A) (step : (ℕ → A) → ℕ → A) (nothing : A) : Type 0 where
+  pub steps : (g at : ℕ) → from (suc g) at ≡ step (from g) at
+  pub ends : (g : ℕ) → from g 0 ≡ nothing
+
+-- readings of two tables agree, where their steps do: what a reference means depends on the words below it alone, and gas that is
+-- enough changes nothing
+module _ {A : Type 0} {from from′ : ℕ → ℕ → A} {step step′ : (ℕ → A) → ℕ → A} {nothing : A} (x : Reads from step nothing) (y : Reads from′ step′ nothing) (a b : List ℕ)
+    (step-agree : (at : ℕ) → 0 < at → take at a ≡ take at b → (f g : ℕ → A) → ((r : ℕ) → r < at → f r ≡ g r) → step f at ≡ step′ g at) where
+  from-empty : (g h at : ℕ) → at ≡ 0 → from g at ≡ from′ h at
+  from-empty g h at e = rw e (x .ends g ∙ sym (y .ends h))
+
+  from-more : (g h : ℕ) → ((at : ℕ) → at ≤ g → at ≤ h → take at a ≡ take at b → from g at ≡ from′ h at) → (at : ℕ) → at ≤ suc g → at ≤ suc h → take at a ≡ take at b → from (suc g) at ≡ from′ (suc h) at
+  from-more g h ih zero p q e = from-empty (suc g) (suc h) zero refl
+  from-more g h ih (suc at) p q e =
+      x .steps g (suc at)
+      ∙ step-agree (suc at) (omega arith) e (from g) (from′ h) (λ r l. ih r (omega arith) (omega arith) (take-less a b r (suc at) (omega arith) e))
+      ∙ sym (y .steps h (suc at))
+
+  pub from-agree : (g h at : ℕ) → at ≤ g → at ≤ h → take at a ≡ take at b → from g at ≡ from′ h at
+  from-agree zero h at p q e = from-empty zero h at (omega arith)
+  from-agree (suc g) zero at p q e = from-empty (suc g) zero at (omega arith)
+  from-agree (suc g) (suc h) at p q e = from-more g h (from-agree g h) at p q e
+
+  -- the reference itself is gas enough
+  pub from-below : (at : ℕ) → take at a ≡ take at b → from at at ≡ from′ at at
+  from-below at e = from-agree at at at (omega arith) (omega arith) e
+
+-- what a cell refers to is read in the same way
+pub from-whole : {A : Type 0} {from : ℕ → ℕ → A} {step : (ℕ → A) → ℕ → A} {nothing : A} → Reads from step nothing
+    → ((at : ℕ) → 0 < at → (f g : ℕ → A) → ((r : ℕ) → r < at → f r ≡ g r) → step f at ≡ step g at)
+    → (at : ℕ) → 0 < at → from at at ≡ step (λ r. from r r) at
+from-whole x same zero h = absurd (omega arith)
+from-whole {from = from} x same (suc at) h =
+    x .steps at (suc at)
+    ∙ same (suc at) h (from at) (λ r. from r r) (λ r l. from-agree x x [] [] (λ n p e. same n p) at r r (omega arith) (omega arith) refl)
+
 -- ---- what a wrap means depends on the words below it alone
 
 byTag-cong : (t : ℕ) (f f′ g g′ h h′ : Name → Name) (x : Name) → f x ≡ f′ x → g x ≡ g′ x → h x ≡ h′ x → byTag t f g h (λ y. y) x ≡ byTag t f′ g′ h′ (λ y. y) x
@@ -111,57 +151,40 @@ module _ (a b : List ℕ) (f g : ℕ → Name → Name) (w : ℕ) (some-word : 0
 
   binder-agree : (x : Name) → binderOn a f w x ≡ binderOn b g w x
   unfolding binderOn
-  binder-agree x = ap (rebound a f w) (inner-agree 2 (omega arith) x) ∙ rebound-agree (g (referenceAt b w 2) x)
+  binder-agree x = ap (rebound a f w) (inner-agree 2 (omega arith) x) ∙ rebound-agree (g (referenceAt b w INNER) x)
 
   step-agree : (x : Name) → wrapStep a f w x ≡ wrapStep b g w x
   unfolding wrapStep
   step-agree x =
       rw (wordAt-below a b w 1 (omega arith) e)
-      (byTag-cong (wordAt b w 1) (markOn a f w) (markOn b g w) (joinOn a f w) (joinOn b g w) (binderOn a f w) (binderOn b g w) x (mark-agree x) (join-agree x) (binder-agree x))
+      (byTag-cong (wordAt b w TAG) (markOn a f w) (markOn b g w) (joinOn a f w) (joinOn b g w) (binderOn a f w) (binderOn b g w) x (mark-agree x) (join-agree x) (binder-agree x))
 
-wrapFrom-none : (work : List ℕ) (gas : ℕ) (x : Name) → wrapFrom work gas 0 x ≡ x
+wrapStep-agree : (a b : List ℕ) (at : ℕ) → 0 < at → take at a ≡ take at b → (f g : ℕ → Name → Name) → ((r : ℕ) → r < at → f r ≡ g r) → wrapStep a f at ≡ wrapStep b g at
+wrapStep-agree a b at h e f g same = fun-ext (λ x. step-agree a b f g at h e (λ r l y. ap (λ (k : Name → Name). k y) (same r l)) x)
+
+wrapFrom-none : (work : List ℕ) (gas : ℕ) → wrapFrom work gas 0 ≡ λ x. x
 unfolding wrapFrom wrapStep byTag wordAt within
-wrapFrom-none work zero x = refl
-wrapFrom-none work (suc gas) x = refl
+wrapFrom-none work zero = refl
+wrapFrom-none work (suc gas) = refl
 
--- gas that is enough changes nothing either
-abbrev Agree : (a b : List ℕ) (g h w : ℕ) → Type 0
-Agree a b g h w = w ≤ g → w ≤ h → take w a ≡ take w b → (x : Name) → wrapFrom a g w x ≡ wrapFrom b h w x
-
-wrapFrom-more : (a b : List ℕ) (g h : ℕ) → ((w : ℕ) → Agree a b g h w) → (w : ℕ) → Agree a b (suc g) (suc h) w
+reads-wrap : (work : List ℕ) → Reads (wrapFrom work) (wrapStep work) (λ x. x)
 unfolding wrapFrom
-wrapFrom-more a b g h ih zero p q e x = wrapFrom-none a (suc g) x ∙ sym (wrapFrom-none b (suc h) x)
-wrapFrom-more a b g h ih (suc w) p q e x =
-    step-agree a b (wrapFrom a g) (wrapFrom b h) (suc w) (omega arith) e
-    (λ r l y. ih r (omega arith) (omega arith) (take-less a b r (suc w) (omega arith) e) y)
-    x
-
-wrapFrom-empty : (a b : List ℕ) (g h w : ℕ) → w ≡ 0 → (x : Name) → wrapFrom a g w x ≡ wrapFrom b h w x
-wrapFrom-empty a b g h w e x = rw e (wrapFrom-none a g x ∙ sym (wrapFrom-none b h x))
-
-wrapFrom-agree : (a b : List ℕ) (g h w : ℕ) → Agree a b g h w
-wrapFrom-agree a b zero h w p q e x = wrapFrom-empty a b zero h w (omega arith) x
-wrapFrom-agree a b (suc g) zero w p q e x = wrapFrom-empty a b (suc g) zero w (omega arith) x
-wrapFrom-agree a b (suc g) (suc h) w p q e x = wrapFrom-more a b g h (wrapFrom-agree a b g h) w p q e x
+reads-wrap work = record { steps = λ g at. refl; ends = wrapFrom-none work }
 
 pub wrapAt-below : (a b : List ℕ) (w : ℕ) → take w a ≡ take w b → (x : Name) → wrapAt a w x ≡ wrapAt b w x
 unfolding wrapAt
-wrapAt-below a b w e x = wrapFrom-agree a b w w w (omega arith) (omega arith) e x
+wrapAt-below a b w e x = ap (λ (k : Name → Name). k x) (from-below (reads-wrap a) (reads-wrap b) a b (wrapStep-agree a b) w e)
 
 -- ---- what each wrap means
 
 pub wrapAt-none : (work : List ℕ) (x : Name) → wrapAt work 0 x ≡ x
 unfolding wrapAt
-wrapAt-none work x = wrapFrom-none work 0 x
+wrapAt-none work x = ap (λ (k : Name → Name). k x) (wrapFrom-none work 0)
 
 -- a wrap's inner wraps are wraps
 wrapAt-step : (work : List ℕ) (w : ℕ) (x : Name) → 0 < w → wrapAt work w x ≡ wrapStep work (wrapAt work) w x
-unfolding wrapAt wrapFrom
-wrapAt-step work zero x h = absurd (omega arith)
-wrapAt-step work (suc w) x h =
-    step-agree work work (wrapFrom work w) (wrapAt work) (suc w) h refl
-    (λ r l y. wrapFrom-agree work work w r r (omega arith) (omega arith) refl y)
-    x
+unfolding wrapAt
+wrapAt-step work w x h = ap (λ (k : Name → Name). k x) (from-whole (reads-wrap work) (λ at p. wrapStep-agree work work at p refl) w h)
 
 -- a cell with a word has words below its reference
 pub wordAt-some : (work : List ℕ) (at k : ℕ) → 0 < k → (wordAt work at k ≡ 0 → ⊥) → 0 < at
@@ -169,19 +192,19 @@ wordAt-some work zero k p h = absurd (h (wordAt-none work k p))
 wordAt-some work (suc at) k p h = omega arith
 
 module _ (work : List ℕ) (w : ℕ) (some-word : 0 < w) where
-  pub wrapAt-mark : wordAt work w 1 ≡ 1 → (x : Name) → wrapAt work w x ≡ marked (wordAt work w 3) (wrapAt work (referenceAt work w 2) x)
+  pub wrapAt-mark : wordAt work w TAG ≡ 1 → (x : Name) → wrapAt work w x ≡ marked (wordAt work w STEP) (wrapAt work (referenceAt work w INNER) x)
   unfolding wrapStep byTag markOn
   wrapAt-mark e x = wrapAt-step work w x some-word ∙ rw e refl
 
-  pub wrapAt-join : wordAt work w 1 ≡ 2 → (x : Name) → wrapAt work w x ≡ wrapAt work (referenceAt work w 3) (wrapAt work (referenceAt work w 2) x)
+  pub wrapAt-join : wordAt work w TAG ≡ 2 → (x : Name) → wrapAt work w x ≡ wrapAt work (referenceAt work w OUTER) (wrapAt work (referenceAt work w INNER) x)
   unfolding wrapStep byTag joinOn
   wrapAt-join e x = wrapAt-step work w x some-word ∙ rw e refl
 
-  pub wrapAt-binder : wordAt work w 1 ≡ 3 → (x : Name) → wrapAt work w x ≡ rebound work (wrapAt work) w (wrapAt work (referenceAt work w 2) x)
+  pub wrapAt-binder : wordAt work w TAG ≡ 3 → (x : Name) → wrapAt work w x ≡ rebound work (wrapAt work) w (wrapAt work (referenceAt work w INNER) x)
   unfolding wrapStep byTag binderOn
   wrapAt-binder e x = wrapAt-step work w x some-word ∙ rw e refl
 
-  pub wrapAt-other : (wordAt work w 1 ≡ 1 → ⊥) → (wordAt work w 1 ≡ 2 → ⊥) → (wordAt work w 1 ≡ 3 → ⊥) → (x : Name) → wrapAt work w x ≡ x
+  pub wrapAt-other : (wordAt work w TAG ≡ 1 → ⊥) → (wordAt work w TAG ≡ 2 → ⊥) → (wordAt work w TAG ≡ 3 → ⊥) → (x : Name) → wrapAt work w x ≡ x
   unfolding wrapStep byTag
   wrapAt-other a b c x = wrapAt-step work w x some-word ∙ rw (ne-eqb _ _ a, ne-eqb _ _ b, ne-eqb _ _ c)
 
@@ -238,12 +261,12 @@ module _ (work : List ℕ) (R : Name → Name → Type 0) (by-mark : (m : ℕ) (
   wrapFrom-keeps zero w x y r = r
   wrapFrom-keeps (suc gas) w x y r =
       let once : (v : ℕ) → R (wrapFrom work gas v x) (wrapFrom work gas v y) = λ v. wrapFrom-keeps gas v x y r in
-      either (eqb (wordAt work w 1) 1)
-      (λ a. rw a (by-mark (wordAt work w 3) _ _ (once (referenceAt work w 2))))
+      either (eqb (wordAt work w TAG) 1)
+      (λ a. rw a (by-mark (wordAt work w STEP) _ _ (once (referenceAt work w INNER))))
       (λ a.
-      either (eqb (wordAt work w 1) 2)
-      (λ b. rw (a, b) (wrapFrom-keeps gas (referenceAt work w 3) _ _ (once (referenceAt work w 2))))
-      (λ b. either (eqb (wordAt work w 1) 3) (λ c. rw (a, b, c) (by-binder (wrapFrom work gas) w _ _ (once (referenceAt work w 2)))) (λ c. rw (a, b, c) r)))
+      either (eqb (wordAt work w TAG) 2)
+      (λ b. rw (a, b) (wrapFrom-keeps gas (referenceAt work w OUTER) _ _ (once (referenceAt work w INNER))))
+      (λ b. either (eqb (wordAt work w TAG) 3) (λ c. rw (a, b, c) (by-binder (wrapFrom work gas) w _ _ (once (referenceAt work w INNER)))) (λ c. rw (a, b, c) r)))
 
   pub wrapAt-keeps : (w : ℕ) (x y : Name) → R x y → R (wrapAt work w x) (wrapAt work w y)
   unfolding wrapAt
@@ -287,10 +310,10 @@ same-shape true true true true true false p q r = sym (r refl refl refl)
 
 -- a binder's cell says this of its own name
 pub record Own (work : List ℕ) (w : ℕ) (i : Name) : Type 0 where
-  pub number-is : wordAt work w 5 ≡ i .number
-  pub binding-is : wordAt work w 4 ≡ bindingKey (i .binding)
-  pub count-is : wordAt work w 6 ≡ length (i .marks)
-  pub newest-is : wordAt work w 7 ≡ newest (i .marks)
+  pub number-is : wordAt work w BOUND-NUMBER ≡ i .number
+  pub binding-is : wordAt work w BOUND-KEY ≡ bindingKey (i .binding)
+  pub count-is : wordAt work w BOUND-COUNT ≡ length (i .marks)
+  pub newest-is : wordAt work w BOUND-NEWEST ≡ newest (i .marks)
   pub marks-are : ownMarks work (wrapAt work) w ≡ i .marks
 
 isOwn-same : (work : List ℕ) (w : ℕ) (i x : Name) → Own work w i → isOwn work (wrapAt work) w x ≡ same i x
@@ -302,6 +325,6 @@ isOwn-same work w i x o =
     (λ t. eq-eqb _ _ (ap newest (equal-true (i .marks) (x .marks) t)))
     (few-equal (i .marks) (x .marks)))
 
-pub rebound-is : (work : List ℕ) (w : ℕ) (i : Name) (b : Binding) (x : Name) → Own work w i → wordAt work w 3 ≡ bindingKey (some b) → rebound work (wrapAt work) w x ≡ bindName i b x
+pub rebound-is : (work : List ℕ) (w : ℕ) (i : Name) (b : Binding) (x : Name) → Own work w i → wordAt work w KEY ≡ bindingKey (some b) → rebound work (wrapAt work) w x ≡ bindName i b x
 unfolding rebound bindName giveKey giveBinding
 rebound-is work w i b x o e = rw (isOwn-same work w i x o, e, bindingOf-key (some b))

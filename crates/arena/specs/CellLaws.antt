@@ -8,9 +8,11 @@ use lib.Seq.{getD-set-same, getD-set-other, take-set-le}
 use Rattle.recipe.specs.Name.{Name, plainName, markName, bindName}
 use Rattle.recipe.specs.Tree.{empty, constant, name, pair, onNames, mark}
 use Rattle.recipe.specs.TreeLaws.{onNames-∘, onNames-cong}
+use Rattle.arena.specs.declared.cells.Binder.{Binder}
 use Rattle.arena.specs.Arena.{wordAt, referenceAt, stepLimit, marked, ownMarks, wrapAt, originName, nodeName, nameAt, constantAt, treeAt}
 use Rattle.arena.specs.ArenaLaws.{wordAt-in, wordAt-below, falling-is, take-less, wrapAt-below, wrapAt-mark, wrapAt-join, wrapAt-binder, marked-is, Own, rebound-is}
 use Rattle.arena.specs.NodeLaws.{treeAt-wrap, treeAt-below, treeAt-empty, treeAt-name, treeAt-pair, treeAt-constant}
+use Rattle.arena.specs.Offsets.{OWN, HEAD, TAIL, INNER, OUTER, BOUND-PENDING, BOUND-OWN}
 use Rattle.arena.specs.Cells.{Cell, Wrapped, Described, Bound, Grown}
 
 -- ---- three words at the top
@@ -74,7 +76,7 @@ module _ (old new : List ℕ) (top r : ℕ) where
         kept = c .kept;
         means = λ x.
             wrapAt-mark new r (omega (arith, c .end)) (c .third) x
-            ∙ ap₂ marked (c .first) (ap (λ (p : ℕ). wrapAt new p x) (reference-is new r 2 parent (c .second) (omega (arith, c .end))) ∙ wrap-kept old new top parent h (c .kept) x)
+            ∙ ap₂ marked (c .first) (ap (λ (p : ℕ). wrapAt new p x) (reference-is new r INNER parent (c .second) (omega (arith, c .end))) ∙ wrap-kept old new top parent h (c .kept) x)
             ∙ marked-is m _ l;
       }
 
@@ -85,7 +87,7 @@ module _ (old new : List ℕ) (top r : ℕ) where
         kept = c .kept;
         means = λ x.
             wrapAt-join new r (omega (arith, c .end)) (c .third) x
-            ∙ ap₂ (λ (p q : ℕ). wrapAt new p (wrapAt new q x)) (reference-is new r 3 outer (c .first) (omega (arith, c .end))) (reference-is new r 2 inner (c .second) (omega (arith, c .end)))
+            ∙ ap₂ (λ (p q : ℕ). wrapAt new p (wrapAt new q x)) (reference-is new r OUTER outer (c .first) (omega (arith, c .end))) (reference-is new r INNER inner (c .second) (omega (arith, c .end)))
             ∙ wrap-kept old new top outer h (c .kept) _
             ∙ ap (wrapAt old outer) (wrap-kept old new top inner l (c .kept) x);
       }
@@ -103,7 +105,8 @@ lower-cell a b c old part new top at j r x e l f = (up 3 (omega arith) (omega ar
         ∙ sym (wordAt-in new at k (omega (arith, x .end)) (omega (arith, x .end)) (omega arith))
         ∙ wordAt-below new part at k p f
 
-module _ (number binding count mark own pending key parent : ℕ) (old one two new : List ℕ) (top p q r : ℕ) (own-below : own ≤ top) (pending-below : pending ≤ top) (parent-below : parent ≤ top) (first : Cell own pending mark old one top p) (second : Cell count number binding one two p q) (third : Cell key parent 3 two new q r) where
+module _ (b : Binder) (old one two new : List ℕ) (top p q r : ℕ) (own-below : b .own ≤ top) (pending-below : b .pending ≤ top) (parent-below : b .parent ≤ top)
+    (first : Cell (b .own) (b .pending) (b .newest) old one top p) (second : Cell (b .count) (b .number) (b .binding) one two p q) (third : Cell (b .key) (b .parent) 3 two new q r) where
   end-is : r ≡ top + 9
   end-is = omega (arith, first .end, second .end, third .end)
 
@@ -113,33 +116,35 @@ module _ (number binding count mark own pending key parent : ℕ) (old one two n
   kept-all : take top new ≡ take top old
   kept-all = take-less new one top p (omega (arith, first .end)) kept-one ∙ first .kept
 
-  own-described : (i : Name) → Described old i number binding count mark own pending → Own new r i
+  own-described : (i : Name) → Described old i b → Own new r i
   unfolding ownMarks
   own-described i d =
-      let low = lower-cell own pending mark old one new top p 6 r first (omega (arith, second .end, third .end)) (third .inside) kept-one in
-      let high = lower-cell count number binding one two new p q 3 r second (third .end) (third .inside) (third .kept) in
+      let low = lower-cell (b .own) (b .pending) (b .newest) old one new top p 6 r first (omega (arith, second .end, third .end)) (third .inside) kept-one in
+      let high = lower-cell (b .count) (b .number) (b .binding) one two new p q 3 r second (third .end) (third .inside) (third .kept) in
       record {
         number-is = high .1 ∙ d .number-is;
         binding-is = high .2 ∙ d .binding-is;
         count-is = high .0 ∙ d .count-is;
         newest-is = low .2 ∙ d .newest-is;
         marks-are =
-            ap₂ (λ (a b : ℕ). wrapAt new a (wrapAt new b (plainName 0 0)) .marks)
-            (reference-is new r 8 pending (low .1) (omega (arith, end-is)))
-            (reference-is new r 9 own (low .0) (omega (arith, end-is)))
-            ∙ ap (λ (x : Name). x .marks) (wrap-kept old new top pending pending-below kept-all _ ∙ ap (wrapAt old pending) (wrap-kept old new top own own-below kept-all _))
+            ap₂ (λ (u v : ℕ). wrapAt new u (wrapAt new v (plainName 0 0)) .marks)
+            (reference-is new r BOUND-PENDING (b .pending) (low .1) (omega (arith, end-is)))
+            (reference-is new r BOUND-OWN (b .own) (low .0) (omega (arith, end-is)))
+            ∙ ap (λ (x : Name). x .marks) (wrap-kept old new top (b .pending) pending-below kept-all _ ∙ ap (wrapAt old (b .pending)) (wrap-kept old new top (b .own) own-below kept-all _))
             ∙ d .marks-are;
       }
 
-  pub bound-cells : Bound number binding count mark own pending key parent old new top r
+  pub bound-cells : Bound b old new top r
   bound-cells =
       record {
         end = end-is;
         kept = kept-all;
-        means = λ i b d e x.
+        means = λ i to d e x.
             wrapAt-binder new r (omega (arith, end-is)) (third .third) x
-            ∙ rebound-is new r i b _ (own-described i d) (third .first ∙ e)
-            ∙ ap (bindName i b) (ap (λ (u : ℕ). wrapAt new u x) (reference-is new r 2 parent (third .second) (omega (arith, end-is))) ∙ wrap-kept old new top parent parent-below kept-all x);
+            ∙ rebound-is new r i to _ (own-described i d) (third .first ∙ e)
+            ∙ ap (bindName i to)
+            (ap (λ (u : ℕ). wrapAt new u x) (reference-is new r INNER (b .parent) (third .second) (omega (arith, end-is)))
+            ∙ wrap-kept old new top (b .parent) parent-below kept-all x);
       }
 
 -- ---- nodes
@@ -156,8 +161,8 @@ module _ (old new : List ℕ) (top r : ℕ) where
         means = λ w p.
             treeAt-pair new r w (c .first)
             ∙ ap₂ pair
-            (ap (λ (n : ℕ). treeAt new n w) (reference-is new r 2 head (c .second) (omega (arith, c .end))) ∙ tree-kept old new top head w h p (c .kept))
-            (ap (λ (n : ℕ). treeAt new n w) (reference-is new r 1 tail (c .third) (omega (arith, c .end))) ∙ tree-kept old new top tail w l p (c .kept));
+            (ap (λ (n : ℕ). treeAt new n w) (reference-is new r HEAD head (c .second) (omega (arith, c .end))) ∙ tree-kept old new top head w h p (c .kept))
+            (ap (λ (n : ℕ). treeAt new n w) (reference-is new r TAIL tail (c .third) (omega (arith, c .end))) ∙ tree-kept old new top tail w l p (c .kept));
       }
 
   pub grown-name : (origin own : ℕ) → own ≤ top → Cell 3 origin own old new top r → Grown (λ w. name (wrapAt old w (wrapAt old own (originName origin)))) old new top r
@@ -169,7 +174,7 @@ module _ (old new : List ℕ) (top r : ℕ) where
         means = λ w p.
             treeAt-name new r w (c .first)
             ∙ ap name
-            (ap₂ (λ (u o : ℕ). wrapAt new w (wrapAt new u (originName o))) (reference-is new r 1 own (c .third) (omega (arith, c .end))) (c .second)
+            (ap₂ (λ (u o : ℕ). wrapAt new w (wrapAt new u (originName o))) (reference-is new r OWN own (c .third) (omega (arith, c .end))) (c .second)
             ∙ wrap-kept old new top w p (c .kept) _
             ∙ ap (wrapAt old w) (wrap-kept old new top own h (c .kept) _));
       }

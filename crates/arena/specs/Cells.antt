@@ -6,6 +6,7 @@ use Prim.Native.Nat.{ℕ, _+_, _^_, _≤_, _<_}
 use lib.ListN.{length, take}
 use Rattle.recipe.specs.Name.{Binding, Name, bindingKey, bindName, plainName}
 use Rattle.recipe.specs.Tree.{Tree}
+use Rattle.arena.specs.declared.cells.Binder.{Binder}
 use Rattle.arena.specs.Arena.{wordAt, wrapAt, newest, nameAt, treeAt}
 
 -- room for a cell of n words: the budget of ground 9 gives it, and references fit a word
@@ -29,19 +30,19 @@ pub record Wrapped (f : Name → Name) (n : ℕ) (old new : List ℕ) (top r : �
   pub means : (x : Name) → wrapAt new r x ≡ f x
 
 -- a binder is given its own name by number, key, count of marks, newest mark and the two wraps that its marks come from
-pub record Described (work : List ℕ) (i : Name) (number binding count mark own pending : ℕ) : Type 0 where
-  pub number-is : number ≡ i .number
-  pub binding-is : binding ≡ bindingKey (i .binding)
-  pub count-is : count ≡ length (i .marks)
-  pub newest-is : mark ≡ newest (i .marks)
-  pub marks-are : wrapAt work pending (wrapAt work own (plainName 0 0)) .marks ≡ i .marks
+pub record Described (work : List ℕ) (i : Name) (b : Binder) : Type 0 where
+  pub number-is : b .number ≡ i .number
+  pub binding-is : b .binding ≡ bindingKey (i .binding)
+  pub count-is : b .count ≡ length (i .marks)
+  pub newest-is : b .newest ≡ newest (i .marks)
+  pub marks-are : wrapAt work (b .pending) (wrapAt work (b .own) (plainName 0 0)) .marks ≡ i .marks
 
 -- it binds that name, whatever the binding that the new key stands for
-pub record Bound (number binding count mark own pending key parent : ℕ) (old new : List ℕ) (top r : ℕ) : Type 0 where
+pub record Bound (binder : Binder) (old new : List ℕ) (top r : ℕ) : Type 0 where
   pub end : r ≡ top + 9
   pub kept : take top new ≡ take top old
-  pub means : (i : Name) (b : Binding) → Described old i number binding count mark own pending → key ≡ bindingKey (some b)
-      → (x : Name) → wrapAt new r x ≡ bindName i b (wrapAt old parent x)
+  pub means : (i : Name) (b : Binding) → Described old i binder → binder .key ≡ bindingKey (some b)
+      → (x : Name) → wrapAt new r x ≡ bindName i b (wrapAt old (binder .parent) x)
 
 -- it binds the name of a node under a wrap
 pub record Binds (node w key parent : ℕ) (old new : List ℕ) (top r : ℕ) : Type 0 where

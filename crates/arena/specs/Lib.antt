@@ -6,6 +6,7 @@ pub mod Origins
 pub mod Cells
 pub mod CellLaws
 pub mod Nodes
+pub mod Offsets
 pub mod LayOut
 pub mod Lists
 pub mod ListLaws

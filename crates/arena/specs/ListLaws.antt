@@ -11,6 +11,7 @@ use Rattle.datum.specs.Constant.{Constant}
 use Rattle.recipe.specs.Name.{Name, isOrdinary, isEllipsis, isWildcard}
 use Rattle.recipe.specs.Tree.{Tree, empty, constant, name, pair, onEmpty, onName, onPair, isName, isOrdinaryName, isList, isListOf, elements, element, tail, past}
 use Rattle.recipe.specs.TreeLaws.{element-past}
+use Rattle.arena.specs.Offsets.{KIND, HEAD, TAIL}
 use Rattle.arena.specs.Arena.{wordAt, referenceAt, nameAt, constantAt, treeAt, numberOf}
 use Rattle.words.specs.ListLaws.{either}
 use Rattle.arena.specs.ArenaLaws.{wordAt-some, wordAt-none, referenceAt-most, referenceAt-falls}
@@ -24,9 +25,9 @@ pub treeAt-none : (work : List ℕ) (w : ℕ) → treeAt work 0 w ≡ empty
 treeAt-none work w = treeAt-empty work 0 w (wordAt-none work 3 (omega arith))
 
 module _ (work : List ℕ) (node w : ℕ) where
-  pub tree-cases : (P : Tree → Type 0) → (wordAt work node 3 ≡ 0 → P empty) → (wordAt work node 3 ≡ 3 → P (name (nameAt work node w))) → (wordAt work node 3 ≡ 4 → P (pair (treeAt work (referenceAt work node 2) w) (treeAt work (referenceAt work node 1) w))) → ((wordAt work node 3 ≡ 0 → ⊥) → (wordAt work node 3 ≡ 3 → ⊥) → (wordAt work node 3 ≡ 4 → ⊥) → P (constant (constantAt work node))) → P (treeAt work node w)
+  pub tree-cases : (P : Tree → Type 0) → (wordAt work node KIND ≡ 0 → P empty) → (wordAt work node KIND ≡ 3 → P (name (nameAt work node w))) → (wordAt work node KIND ≡ 4 → P (pair (treeAt work (referenceAt work node HEAD) w) (treeAt work (referenceAt work node TAIL) w))) → ((wordAt work node KIND ≡ 0 → ⊥) → (wordAt work node KIND ≡ 3 → ⊥) → (wordAt work node KIND ≡ 4 → ⊥) → P (constant (constantAt work node))) → P (treeAt work node w)
   tree-cases P e n p c =
-      let kind = wordAt work node 3 in
+      let kind = wordAt work node KIND in
       either (eqb kind 0)
       (λ t. subst P (sym (treeAt-empty work node w (eqb-true kind 0 t))) (e (eqb-true kind 0 t)))
       (λ t.
@@ -37,21 +38,21 @@ module _ (work : List ℕ) (node w : ℕ) where
       (λ v. subst P (sym (treeAt-pair work node w (eqb-true kind 4 v))) (p (eqb-true kind 4 v)))
       (λ v. subst P (sym (treeAt-constant work node w (eqb-false kind 0 t) (eqb-false kind 3 u) (eqb-false kind 4 v))) (c (eqb-false kind 0 t) (eqb-false kind 3 u) (eqb-false kind 4 v)))))
 
-  pub no-name : {A : Type 0} (f : Name → A) (a : A) → (wordAt work node 3 ≡ 3 → ⊥) → onName f a (treeAt work node w) ≡ a
+  pub no-name : {A : Type 0} (f : Name → A) (a : A) → (wordAt work node KIND ≡ 3 → ⊥) → onName f a (treeAt work node w) ≡ a
   unfolding onName
   no-name f a n = tree-cases (λ t. onName f a t ≡ a) (λ e. refl) (λ e. absurd (n e)) (λ e. refl) (λ p q r. refl)
 
-  pub no-elements : (wordAt work node 3 ≡ 4 → ⊥) → elements (treeAt work node w) ≡ []
+  pub no-elements : (wordAt work node KIND ≡ 4 → ⊥) → elements (treeAt work node w) ≡ []
   unfolding elements
   no-elements n = tree-cases (λ t. elements t ≡ []) (λ e. refl) (λ e. refl) (λ e. absurd (n e)) (λ p q r. refl)
 
-module _ (work : List ℕ) (node kind : ℕ) (kind-is : kind ≡ wordAt work node 3) where
+module _ (work : List ℕ) (node kind : ℕ) (kind-is : kind ≡ wordAt work node KIND) where
   -- what holds of every tree that is no pair
   pub no-pair : (P : Tree → Type 0) → P empty → ((x : Name) → P (name x)) → ((a : Constant) → P (constant a)) → (kind ≡ 4 → ⊥)
       → (w : ℕ) → P (treeAt work node w)
   no-pair P e n c other w = tree-cases work node w P (λ z. e) (λ z. n _) (λ z. absurd (other (kind-is ∙ z))) (λ p q r. c _)
 
-  pub a-pair : kind ≡ 4 → (w : ℕ) → treeAt work node w ≡ pair (treeAt work (referenceAt work node 2) w) (treeAt work (referenceAt work node 1) w)
+  pub a-pair : kind ≡ 4 → (w : ℕ) → treeAt work node w ≡ pair (treeAt work (referenceAt work node HEAD) w) (treeAt work (referenceAt work node TAIL) w)
   a-pair e w = treeAt-pair work node w (sym kind-is ∙ e)
 
   pub kind-some : kind ≡ 4 → 0 < node
@@ -63,7 +64,7 @@ module _ (work : List ℕ) (node kind : ℕ) (kind-is : kind ≡ wordAt work nod
   unfolding element elements
   first-none other = record { is = λ w. treeAt-none work w ∙ no-pair (λ t. empty ≡ element 0 t) refl (λ x. refl) (λ a. refl) other w; low = omega arith }
 
-  pub first-some : kind ≡ 4 → (r : ℕ) → r ≡ referenceAt work node 2 → Means work node r (element 0)
+  pub first-some : kind ≡ 4 → (r : ℕ) → r ≡ referenceAt work node HEAD → Means work node r (element 0)
   unfolding element elements
   first-some e r h = record { is = λ w. rw (h, a-pair e w) refl; low = omega (arith, referenceAt-most work node 2) }
 
@@ -71,7 +72,7 @@ module _ (work : List ℕ) (node kind : ℕ) (kind-is : kind ≡ wordAt work nod
   unfolding tail onPair
   rest-none other = record { is = λ w. treeAt-none work w ∙ no-pair (λ t. empty ≡ tail t) refl (λ x. refl) (λ a. refl) other w; low = omega arith }
 
-  pub rest-some : kind ≡ 4 → (r : ℕ) → r ≡ referenceAt work node 1 → Means work node r tail
+  pub rest-some : kind ≡ 4 → (r : ℕ) → r ≡ referenceAt work node TAIL → Means work node r tail
   unfolding tail onPair
   rest-some e r h = record { is = λ w. rw (h, a-pair e w) refl; low = omega (arith, referenceAt-most work node 1) }
 
@@ -85,7 +86,7 @@ module _ (work : List ℕ) (node kind : ℕ) (kind-is : kind ≡ wordAt work nod
         low = omega (arith, c .low);
       }
 
-  pub count-more : (list k r : ℕ) → kind ≡ 4 → r ≡ referenceAt work node 1 → Counted work list node k → Counted work list r (k + 1)
+  pub count-more : (list k r : ℕ) → kind ≡ 4 → r ≡ referenceAt work node TAIL → Counted work list node k → Counted work list r (k + 1)
   unfolding elements
   count-more list k r e h c =
       record {
@@ -112,7 +113,7 @@ module _ (work : List ℕ) (node kind : ℕ) (kind-is : kind ≡ wordAt work nod
       (λ z. absurd (other (kind-is ∙ z))) (λ z. ne-eqb kind 4 (λ y. omega arith)) (λ z. eq-eqb kind 4 (kind-is ∙ z)) (λ p q r. ne-eqb kind 4 (λ y. r (sym kind-is ∙ y)))
 
 -- a pair's parts stand below it
-pub pair-falls : (work : List ℕ) (node k : ℕ) → wordAt work node 3 ≡ 4 → referenceAt work node k < node
+pub pair-falls : (work : List ℕ) (node k : ℕ) → wordAt work node KIND ≡ 4 → referenceAt work node k < node
 pair-falls work node k e = referenceAt-falls work node k (kind-some work node _ refl e)
 
 pub count-begins : (work : List ℕ) (list : ℕ) → Counted work list list 0
@@ -154,7 +155,7 @@ module _ (work : List ℕ) (node n : ℕ) (r : Bool) (listed : Tests isList work
 
 -- ---- names that may be bound
 
-module _ (work : List ℕ) (node kind : ℕ) (kind-is : kind ≡ wordAt work node 3) where
+module _ (work : List ℕ) (node kind : ℕ) (kind-is : kind ≡ wordAt work node KIND) where
   pub ordinary-other : (kind ≡ 3 → ⊥) → Tests isOrdinaryName work node false
   unfolding isOrdinaryName
   ordinary-other other w = sym (no-name work node w isOrdinary false (λ z. other (kind-is ∙ z)))

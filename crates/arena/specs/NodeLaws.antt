@@ -11,9 +11,10 @@ use Rattle.words.specs.Lists.{within}
 use Rattle.recipe.specs.Name.{Name}
 use Rattle.recipe.specs.Tree.{Tree, empty, constant, name, pair, onNames}
 use Rattle.recipe.specs.Table.{byKind}
+use Rattle.arena.specs.Offsets.{KIND, OWN, HEAD, TAIL}
 use Rattle.arena.specs.Arena.{wordAt, referenceAt, wrapAt, originName, nodeName, numberOf, nameAt, constantAt, treeStep, treeFrom, treeAt}
 use Rattle.words.specs.ListLaws.{either}
-use Rattle.arena.specs.ArenaLaws.{wordAt-below, referenceAt-below, referenceAt-falls, take-less, wrapAt-below, wrapAt-none, wrapAt-number}
+use Rattle.arena.specs.ArenaLaws.{Reads, from-below, from-whole, wordAt-below, referenceAt-below, referenceAt-falls, take-less, wrapAt-below, wrapAt-none, wrapAt-number}
 
 -- a name's number is its node's, whatever waits on it
 pub nameAt-number : (work : List ℕ) (node w : ℕ) → nameAt work node w .number ≡ numberOf work node
@@ -29,7 +30,7 @@ module _ (a b : List ℕ) (node w : ℕ) (some-word : 0 < node) (e : take node a
   pub nameAt-agree : nameAt a node w ≡ nameAt b node w
   unfolding nameAt nodeName
   nameAt-agree =
-      let own = referenceAt a node 1 in
+      let own = referenceAt a node OWN in
       let l : own ≤ node = omega (arith, referenceAt-falls a node 1 some-word) in
       wrapAt-below a b w d _
       ∙ ap (wrapAt b w) (wrapAt-below a b own (take-less a b own node l e) _ ∙ ap₂ (wrapAt b) (referenceAt-below a b node 1 (omega arith) e) (ap originName (wordAt-below a b node 2 (omega arith) e)))
@@ -43,36 +44,22 @@ module _ (a b : List ℕ) (node w : ℕ) (some-word : 0 < node) (e : take node a
   treeStep-agree f g same =
       let child : (k : ℕ) → 0 < k → f (referenceAt a node k) w ≡ g (referenceAt b node k) w = λ k p. same _ (referenceAt-falls a node k some-word) ∙ ap (λ (r : ℕ). g r w) (referenceAt-below a b node k p e) in
       rw (wordAt-below a b node 3 (omega arith) e)
-      (byKind-cong (wordAt b node 3) _ _ _ _ _ _ (ap name nameAt-agree) (ap₂ pair (child 2 (omega arith)) (child 1 (omega arith))) (ap constant constantAt-agree))
+      (byKind-cong (wordAt b node KIND) _ _ _ _ _ _ (ap name nameAt-agree) (ap₂ pair (child 2 (omega arith)) (child 1 (omega arith))) (ap constant constantAt-agree))
 
 treeFrom-none : (work : List ℕ) (gas w : ℕ) → treeFrom work gas 0 w ≡ empty
 unfolding treeFrom treeStep byKind wordAt within
 treeFrom-none work zero w = refl
 treeFrom-none work (suc gas) w = refl
 
-abbrev Agree : (a b : List ℕ) (g h w node : ℕ) → Type 0
-Agree a b g h w node = node ≤ g → node ≤ h → take node a ≡ take node b → treeFrom a g node w ≡ treeFrom b h node w
-
-module _ (a b : List ℕ) (w : ℕ) (d : take w a ≡ take w b) where
-  treeFrom-more : (g h : ℕ) → ((node : ℕ) → Agree a b g h w node) → (node : ℕ) → Agree a b (suc g) (suc h) w node
-  unfolding treeFrom
-  treeFrom-more g h ih zero p q e = treeFrom-none a (suc g) w ∙ sym (treeFrom-none b (suc h) w)
-  treeFrom-more g h ih (suc node) p q e =
-      treeStep-agree a b (suc node) w (omega arith) e d (treeFrom a g) (treeFrom b h)
-      (λ r l. ih r (omega arith) (omega arith) (take-less a b r (suc node) (omega arith) e))
-
-  treeFrom-empty : (g h node : ℕ) → node ≡ 0 → treeFrom a g node w ≡ treeFrom b h node w
-  treeFrom-empty g h node e = rw e (treeFrom-none a g w ∙ sym (treeFrom-none b h w))
-
-  treeFrom-agree : (g h node : ℕ) → Agree a b g h w node
-  treeFrom-agree zero h node p q e = treeFrom-empty zero h node (omega arith)
-  treeFrom-agree (suc g) zero node p q e = treeFrom-empty (suc g) zero node (omega arith)
-  treeFrom-agree (suc g) (suc h) node p q e = treeFrom-more g h (treeFrom-agree g h) node p q e
+reads-tree : (work : List ℕ) (w : ℕ) → Reads (λ g node. treeFrom work g node w) (λ f node. treeStep work (λ r v. f r) node w) empty
+unfolding treeFrom treeStep
+reads-tree work w = record { steps = λ g node. refl; ends = λ g. treeFrom-none work g w }
 
 -- appending above changes no earlier meaning
 pub treeAt-below : (a b : List ℕ) (node w : ℕ) → take node a ≡ take node b → take w a ≡ take w b → treeAt a node w ≡ treeAt b node w
 unfolding treeAt
-treeAt-below a b node w e d = treeFrom-agree a b w d node node node (omega arith) (omega arith) e
+treeAt-below a b node w e d =
+    from-below (reads-tree a w) (reads-tree b w) a b (λ at p q f g same. treeStep-agree a b at w p q d (λ r v. f r) (λ r v. g r) same) node e
 
 -- ---- what each node means
 
@@ -80,24 +67,23 @@ treeAt-step : (work : List ℕ) (node w : ℕ) → treeAt work node w ≡ treeSt
 unfolding treeAt treeFrom treeStep byKind wordAt within
 treeAt-step work zero w = refl
 treeAt-step work (suc node) w =
-    treeStep-agree work work (suc node) w (omega arith) refl refl (treeFrom work node) (treeAt work)
-    (λ r l. treeFrom-agree work work w refl node r r (omega arith) (omega arith) refl)
+    from-whole (reads-tree work w) (λ at p f g same. treeStep-agree work work at w p refl refl (λ r v. f r) (λ r v. g r) same) (suc node) (omega arith)
 
 module _ (work : List ℕ) (node w : ℕ) where
-  pub treeAt-empty : wordAt work node 3 ≡ 0 → treeAt work node w ≡ empty
+  pub treeAt-empty : wordAt work node KIND ≡ 0 → treeAt work node w ≡ empty
   unfolding treeStep byKind
   treeAt-empty e = treeAt-step work node w ∙ rw e refl
 
-  pub treeAt-name : wordAt work node 3 ≡ 3 → treeAt work node w ≡ name (nameAt work node w)
+  pub treeAt-name : wordAt work node KIND ≡ 3 → treeAt work node w ≡ name (nameAt work node w)
   unfolding treeStep byKind
   treeAt-name e = treeAt-step work node w ∙ rw e refl
 
   -- opening a list hands its wrap on
-  pub treeAt-pair : wordAt work node 3 ≡ 4 → treeAt work node w ≡ pair (treeAt work (referenceAt work node 2) w) (treeAt work (referenceAt work node 1) w)
+  pub treeAt-pair : wordAt work node KIND ≡ 4 → treeAt work node w ≡ pair (treeAt work (referenceAt work node HEAD) w) (treeAt work (referenceAt work node TAIL) w)
   unfolding treeStep byKind
   treeAt-pair e = treeAt-step work node w ∙ rw e refl
 
-  pub treeAt-constant : (wordAt work node 3 ≡ 0 → ⊥) → (wordAt work node 3 ≡ 3 → ⊥) → (wordAt work node 3 ≡ 4 → ⊥) → treeAt work node w ≡ constant (constantAt work node)
+  pub treeAt-constant : (wordAt work node KIND ≡ 0 → ⊥) → (wordAt work node KIND ≡ 3 → ⊥) → (wordAt work node KIND ≡ 4 → ⊥) → treeAt work node w ≡ constant (constantAt work node)
   unfolding treeStep byKind
   treeAt-constant a b c = treeAt-step work node w ∙ rw (ne-eqb _ _ a, ne-eqb _ _ b, ne-eqb _ _ c)
 
@@ -116,8 +102,8 @@ treeFrom-wrap : (work : List ℕ) (gas node w : ℕ) → treeFrom work gas node 
 unfolding treeFrom treeStep onNames
 treeFrom-wrap work zero node w = refl
 treeFrom-wrap work (suc gas) node w =
-    byKind-cong (wordAt work node 3) _ _ _ _ _ _ (ap name (nameAt-wrap work node w)) (ap₂ pair (treeFrom-wrap work gas _ w) (treeFrom-wrap work gas _ w)) refl
-    ∙ sym (onNames-byKind (wrapAt work w) (wordAt work node 3) _ _ _)
+    byKind-cong (wordAt work node KIND) _ _ _ _ _ _ (ap name (nameAt-wrap work node w)) (ap₂ pair (treeFrom-wrap work gas _ w) (treeFrom-wrap work gas _ w)) refl
+    ∙ sym (onNames-byKind (wrapAt work w) (wordAt work node KIND) _ _ _)
 
 -- what waits on a tree is carried through it
 pub treeAt-wrap : (work : List ℕ) (node w : ℕ) → treeAt work node w ≡ onNames (wrapAt work w) (treeAt work node 0)

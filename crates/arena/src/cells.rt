@@ -10,14 +10,15 @@ ghost use Rattle.recipe.specs.Name.{markName};
 ghost use Rattle.recipe.specs.Tree.{empty, constant, name, pair};
 ghost use Rattle.arena.specs.Arena.{wordAt, referenceAt, stepLimit, wrapAt, originName, treeAt};
 ghost use Rattle.arena.specs.Cells.{Room, Cell, Wrapped, Bound, Grown};
+use datum::kinds;
 use std::num;
 
 // Kinds of nodes, as of items; every other is a constant's.
-pub const EMPTY: u32 = 0;
+pub const EMPTY: u32 = kinds::EMPTY;
 
-pub const NAME: u32 = 3;
+pub const NAME: u32 = kinds::NAME;
 
-pub const PAIR: u32 = 4;
+pub const PAIR: u32 = kinds::PAIR;
 
 // Tags of wraps.
 pub const MARK: u32 = 1;
@@ -158,26 +159,27 @@ pub fn put_join(work: &mut [u32], top: u32, outer: u32, inner: u32) -> u32
     put(work, top, outer, inner, JOIN)
 }
 
-// A binder after what `parent` means: its own name by number, key, count of marks, newest mark and the two wraps that its
-// marks come from, then the key of the new binding.
-pub fn put_binder(
-    work: &mut [u32],
-    top: u32,
-    number: u32,
-    binding: u32,
-    count: u32,
-    newest: u32,
-    own: u32,
-    pending: u32,
-    key: u32,
-    parent: u32,
-) -> u32
-    requires { ⌜ (Room (now work) top 9) × (own ≤ top) × (pending ≤ top) × (parent ≤ top) ⌝ }
-    ensures { λ r. ⌜ Bound number binding count newest own pending key parent (now (work .entry)) (now (work .exit)) top r ⌝ }
+// A binder: its own name by number, key, count of marks, newest mark and the two wraps that its marks come from; the key of the
+// new binding, and the wrap inside.
+pub struct Binder {
+    pub number: u32,
+    pub binding: u32,
+    pub count: u32,
+    pub newest: u32,
+    pub own: u32,
+    pub pending: u32,
+    pub key: u32,
+    pub parent: u32,
+}
+
+// A binder after what its parent means.
+pub fn put_binder(work: &mut [u32], top: u32, binder: Binder) -> u32
+    requires { ⌜ (Room (now work) top 9) × (binder .own ≤ top) × (binder .pending ≤ top) × (binder .parent ≤ top) ⌝ }
+    ensures { λ r. ⌜ Bound binder (now (work .entry)) (now (work .exit)) top r ⌝ }
 {
-    let p = put(work, top, own, pending, newest);
-    let q = put(work, p, count, number, binding);
-    put(work, q, key, parent, BINDER)
+    let p = put(work, top, binder.own, binder.pending, binder.newest);
+    let q = put(work, p, binder.count, binder.number, binder.binding);
+    put(work, q, binder.key, binder.parent, BINDER)
 }
 
 // A pair of two nodes.

@@ -3,10 +3,8 @@ ghost use mathlib.Core.Path.{_≡_};
 ghost use Rattle.datum.specs.Constant as C;
 ghost use Rattle.datum.specs.ConstantLaws.{made};
 
-// Kinds of numbers.
-pub const INTEGER: u32 = 1;
-
-pub const DECIMAL: u32 = 5;
+// The kind of decimals.
+pub const DECIMAL: u32 = crate::kinds::DECIMAL;
 
 pub fn matches(kind: u32, first: u32, second: u32, kind2: u32, first2: u32, second2: u32) -> bool
     ensures { λ r. ⌜ r ≡ C.matches (made kind first second) (made kind2 first2 second2) ⌝ }

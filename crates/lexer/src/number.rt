@@ -44,7 +44,7 @@ fn appended(value: u64, digit: u8) -> u64
 }
 
 // The digits of a run from the left, up to the first byte that is none.
-pub fn digits_after(before: u64, run: &[u8]) -> Digits
+fn digits_after(before: u64, run: &[u8]) -> Digits
     requires { ⌜ before ≤ 2147483649 ⌝ }
     ensures { λ r. ⌜ DigitsAfter before (now (run .entry)) r ⌝ }
 {

@@ -43,7 +43,7 @@ pub fn skip(text: &[u8], from: usize) -> usize
 }
 
 // The end of the longest run.
-pub fn run_end(text: &[u8], from: usize) -> usize
+fn run_end(text: &[u8], from: usize) -> usize
     requires { ⌜ from ≤ length (now text) ⌝ }
     ensures { λ r. ⌜ RunTo (now (text .entry)) from r ⌝ }
 {
@@ -58,7 +58,7 @@ pub fn run_end(text: &[u8], from: usize) -> usize
 }
 
 // A run that does not start as a number is a name: 1 to 63 bytes, no single dot.
-pub fn is_name(word: &[u8]) -> bool
+fn is_name(word: &[u8]) -> bool
     ensures { λ r. ⌜ r ≡ isName (now (word .entry)) ⌝ }
 {
     if word.len() == 0 {
@@ -74,7 +74,7 @@ pub fn is_name(word: &[u8]) -> bool
 }
 
 // The token that a run is.
-pub fn run_token(text: &[u8], from: usize, to: usize) -> Token
+fn run_token(text: &[u8], from: usize, to: usize) -> Token
     requires { ⌜ (from < to) × (to ≤ length (now text)) ⌝ }
     ensures { λ r. ⌜ RunTold (now (text .entry)) from to r ⌝ }
 {
@@ -93,7 +93,7 @@ pub fn run_token(text: &[u8], from: usize, to: usize) -> Token
 }
 
 // #t or #f, past the #.
-pub fn flag_at(text: &[u8], at: usize) -> Token
+fn flag_at(text: &[u8], at: usize) -> Token
     requires { ⌜ at ≤ length (now text) ⌝ }
     ensures { λ r. ⌜ FlagTold (now (text .entry)) at r ⌝ }
 {

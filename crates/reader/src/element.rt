@@ -15,6 +15,7 @@ use crate::place::ground_at;
 use crate::place::is_complete;
 use crate::place::open_list;
 use crate::place::put_token;
+use datum::kinds;
 use lexer::token::Cursor;
 use lexer::token::Token;
 use lexer::token_reader::token_from;
@@ -28,7 +29,7 @@ pub enum Move {
 }
 
 // A name, by the number it has or the next one.
-pub fn put_name(
+fn put_name(
     items: &mut [u32],
     names: &mut [u8],
     index: &mut [u16],
@@ -43,13 +44,13 @@ pub fn put_name(
     let bucket = bucket_of(word);
     let number = find(names, index, place.known, word, bucket);
     if number < place.known {
-        return put_token(items, place, 3, number as u32, 0, place.known);
+        return put_token(items, place, kinds::NAME, number as u32, 0, place.known);
     }
     if number == words::NAMES {
         return Step::Refused(ground_at(place, number + 1, place.depth));
     }
     enter(names, index, number, word, bucket);
-    put_token(items, place, 3, number as u32, 0, number + 1)
+    put_token(items, place, kinds::NAME, number as u32, 0, number + 1)
 }
 
 // The kind of a number's item: an integer has no places.
@@ -102,7 +103,10 @@ pub fn advance(
         Token::Refused(ground, _) => Move::Refused(ground),
         Token::Open(next) => moved(open_list(items, place), next),
         Token::Close(next) => moved(close_list(items, place), next),
-        Token::Boolean(b, next) => moved(put_token(items, place, 2, b, 0, place.known), next),
+        Token::Boolean(b, next) => moved(
+            put_token(items, place, kinds::BOOLEAN, b, 0, place.known),
+            next,
+        ),
         Token::Number(z, places, next) => {
             let kind = number_kind(places);
             moved(

@@ -9,6 +9,7 @@ ghost use Rattle.datum.specs.NameTable.{lengthAt, nameAt};
 ghost use Rattle.reading.specs.Numbering.{numberOf, baseNames};
 ghost use Rattle.reader.specs.Code.Index.{bucketCount, indexSize, bucketOf, Indexed, linked};
 ghost use Rattle.reader.specs.Code.Stored.{stored, namesIn, NameTable};
+use words::casts;
 
 // Buckets of the index.
 const BUCKETS: usize = 256;
@@ -16,19 +17,13 @@ const BUCKETS: usize = 256;
 // Entries of the index, one for each bucket and each name.
 pub const ENTRIES: usize = BUCKETS + words::NAMES;
 
-fn wide(b: u8) -> usize
-    ensures { λ r. ⌜ r ≡ b ⌝ }
-{
-    b as usize
-}
-
 // A slot spells the word: its length first, then its bytes from the left.
 pub fn spells(names: &[u8], number: usize, word: &[u8]) -> bool
     requires { ⌜ (slotSize * number + slotSize ≤ length (now names)) × (lengthAt (now names) number ≤ nameLengthMost) ⌝ }
     ensures { λ r. ⌜ r ≡ equal (now (word .entry)) (nameAt (now (names .entry)) number) ⌝ }
 {
     let start = words::SLOT * number;
-    if wide(names[start]) != word.len() {
+    if casts::byte(names[start]) != word.len() {
         return false;
     }
     let mut i = 0;
@@ -48,7 +43,7 @@ pub fn bucket_of(word: &[u8]) -> usize
     let mut bucket = 0;
     let mut i = 0;
     while i < word.len() {
-        bucket = (9 * bucket + wide(word[i])) % BUCKETS;
+        bucket = (9 * bucket + casts::byte(word[i])) % BUCKETS;
         i += 1;
     }
     bucket
@@ -80,7 +75,7 @@ pub fn find(names: &[u8], index: &[u16], known: usize, word: &[u8], bucket: usiz
 }
 
 // The word in a slot, over zeros.
-pub fn store(names: &mut [u8], number: usize, word: &[u8])
+fn store(names: &mut [u8], number: usize, word: &[u8])
     requires { ⌜ (slotSize * number + slotSize ≤ length (now names)) × (length (now word) ≤ nameLengthMost) ⌝ }
     ensures { λ _. ⌜ now (names .exit) ≡ stored (now (names .entry)) number (now (word .entry)) ⌝ }
 {

@@ -6,6 +6,7 @@ ghost use lib.Dec.{eqb};
 ghost use lib.ListN.{length};
 ghost use Rattle.words.specs.Limits.{itemsMost};
 ghost use Rattle.reader.specs.Code.Placed.{put3, Sound, groundAt, TokenPut, ListOpened, ListClosed};
+use datum::kinds;
 use words::ITEM;
 
 // The next item, the pair whose tail is open, open lists, e, elements that the text lacks, names.
@@ -39,7 +40,13 @@ fn put_element(items: &mut [u32], item: usize, kind: u32, first: u32, second: u3
     requires { ⌜ (3 * item + 6 ≤ length (now items)) × (item ≤ itemsMost) ⌝ }
     ensures { λ _. ⌜ now (items .exit) ≡ put3 (put3 (now (items .entry)) (3 * item) 4 (item + 1) (item + 2)) (3 * (item + 1)) kind first second ⌝ }
 {
-    put_item(items, item, 4, (item + 1) as u32, (item + 2) as u32);
+    put_item(
+        items,
+        item,
+        kinds::PAIR,
+        (item + 1) as u32,
+        (item + 2) as u32,
+    );
     put_item(items, item + 1, kind, first, second);
 }
 
@@ -123,7 +130,13 @@ pub fn open_list(items: &mut [u32], place: Place) -> Step
         return Step::Refused(ground);
     }
     let next = place.next;
-    put_item(items, next, 4, (next + 1) as u32, place.pair as u32);
+    put_item(
+        items,
+        next,
+        kinds::PAIR,
+        (next + 1) as u32,
+        place.pair as u32,
+    );
     Step::Went(Place {
         next: next + 1,
         pair: next,

@@ -8,10 +8,10 @@ use lib.ListN.{length, getD, length-append, List·getD-append}
 use lib.Seq.{getD-at}
 use borrow.Author.Tests.{ltb-true, ltb-false}
 use Rattle.words.specs.Limits.{namesMost}
-use Rattle.words.specs.Lists.{equal}
-use Rattle.words.specs.ListLaws.{either, equal-refl}
+use Rattle.words.specs.ListLaws.{either}
 use Rattle.datum.specs.Datum.{datumItems, dataItems}
 use Rattle.reading.specs.Numbering.{baseNames, numberOf, withName}
+use Rattle.reading.specs.NumberingLaws.{number-kept, number-new}
 use Rattle.reading.specs.Elements.{got}
 use Rattle.reading.specs.Read.{Recipe, readElements}
 use Rattle.reading.specs.RecipeText.{
@@ -51,30 +51,6 @@ mutual
 -- each name's number is its own, so no two are equal
 unfoldable pub Own : List (List ℕ) → Type 0
 Own names = (n : ℕ) → n < length names → numberOf (getD names n []) names ≡ n
-
--- a number past the names is the next one
-pub number-most : (cs : List ℕ) (names : List (List ℕ)) → numberOf cs names ≤ length names
-unfolding numberOf
-number-most cs [] = omega arith
-number-most cs (x ∷ xs) =
-    either (equal cs x) (λ e. rw e (omega arith)) (λ e. rw e (omega (arith, number-most cs xs)))
-
-module _ (cs : List ℕ) where
-  -- a name keeps its number when others come
-  number-kept : (names more : List (List ℕ)) → numberOf cs names < length names → numberOf cs (names ++ more) ≡ numberOf cs names
-  unfolding numberOf
-  number-kept [] more h = absurd (omega arith)
-  number-kept (x ∷ xs) more h =
-      either (equal cs x) (λ e. rw e)
-      (λ e. let k : numberOf cs xs < length xs = omega (arith, rw e at h) in rw e (ap suc (number-kept xs more k)))
-
-  -- a new name's number is the next one
-  number-new : (names : List (List ℕ)) → length names ≤ numberOf cs names → numberOf cs (names ++ (cs ∷ [])) ≡ length names
-  unfolding numberOf
-  number-new [] h = rw (equal-refl cs)
-  number-new (x ∷ xs) h =
-      either (equal cs x) (λ e. absurd (omega (arith, rw e at h)))
-      (λ e. let k : length xs ≤ numberOf cs xs = omega (arith, rw e at h) in rw e (ap suc (number-new xs k)))
 
 pub own-more : (cs : List ℕ) (names : List (List ℕ)) → Own names → length names ≤ numberOf cs names → Own (names ++ (cs ∷ []))
 unfolding Own

@@ -4,6 +4,7 @@ pub mod Token
 pub mod Offset
 pub mod Meaning
 pub mod Numbering
+pub mod NumberingLaws
 pub mod Elements
 pub mod Read
 pub mod Rows

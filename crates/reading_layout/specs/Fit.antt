@@ -17,7 +17,7 @@ use Rattle.reading.specs.Meaning.{Meaning, begins, ends, constant, name, refuse
 use Rattle.reading.specs.Numbering.{baseNames, numberOf, withName}
 use Rattle.reading.specs.Laws.Elements.{names-grow-all}
 use Rattle.reading.specs.Laws.Meanings.{fraction-places}
-use Rattle.reading.specs.AcceptedLaws.{number-most}
+use Rattle.reading.specs.NumberingLaws.{number-most}
 use Rattle.reading.specs.RecipeText as R
 use Rattle.reading.specs.CoreText.{one, CoreText, coreElement}
 use Rattle.reading.specs.RecipeText.{HasTokens, Means, Mean, Element, Elements, constantE, nameE, listE, noneE, moreE, spelled, spelledAll, namesOf, namesOfAll, numbered, numberedAll, HasElements}

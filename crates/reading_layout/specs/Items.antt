@@ -13,6 +13,7 @@ use Rattle.datum.specs.Constant.{isConstant}
 use Rattle.datum.specs.Datum.{Datum, Data, constantD, nameD, listD, noneD, moreD, datumItems, dataItems}
 use Rattle.recipe.specs.Table.{Item, items}
 use Rattle.reading.specs.Numbering.{datumWords, dataWords}
+pub use Rattle.reading.specs.NumberingLaws.{datum-length, data-length}
 
 -- ---- constants that are ones, and names by number
 
@@ -42,22 +43,6 @@ module _ (k a b : ℕ) (h : isConstant (record { kind = k; first = a; second = b
   pub no-pair : eqb k 4 ≡ false
   unfolding isConstant
   no-pair = other-kind 4 refl
-
--- ---- three words an item
-
-mutual
-  unfolding datumItems dataItems datumWords dataWords
-
-  pub datum-length : (i : ℕ) (d : Datum) → length (datumWords i d) ≡ 3 * datumItems d
-  datum-length i (constantD a) = refl
-  datum-length i (nameD n) = refl
-  datum-length i (listD ds) = data-length i ds
-
-  pub data-length : (i : ℕ) (ds : Data) → length (dataWords i ds) ≡ 3 * dataItems ds
-  data-length i noneD = refl
-  data-length i (moreD d ds) =
-      let j = suc i + datumItems d in
-      omega (arith, length-append (datumWords (suc i) d) (dataWords j ds), datum-length (suc i) d, data-length j ds)
 
 pub datum-positive : (d : Datum) → 1 ≤ datumItems d
 unfolding datumItems dataItems

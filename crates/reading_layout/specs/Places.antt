@@ -7,7 +7,7 @@ use native.Mathlib.Omega.{arith}
 use lib.Dec.{eqb}
 use lib.ListN.{length}
 use borrow.Author.Tests.{eq-eqb, ne-eqb, eqb-true, eqb-false}
-use Rattle.words.specs.Lists.{allOf}
+use Rattle.words.specs.Lists.{allOf, upFrom}
 use Rattle.words.specs.ListLaws.{either}
 use Rattle.words.specs.TestLaws.{and-parts, and-both, or-left, or-right}
 use Rattle.datum.specs.Datum.{Datum, Data, constantD, nameD, listD, noneD, moreD, datumItems, dataItems}
@@ -32,11 +32,6 @@ unfolding references
 references-append [] ys = refl
 references-append (x ∷ xs) ys =
     either (eqb (x .kind) 4) (λ e. rw e (ap (λ l. x .first ∷ x .second ∷ l) (references-append xs ys))) (λ e. rw e (references-append xs ys))
-
--- n numbers from i
-unfoldable pub upFrom : ℕ → ℕ → List ℕ
-upFrom i zero = []
-upFrom i (suc n) = i ∷ upFrom (suc i) n
 
 up-append : (i m n : ℕ) → upFrom i (m + n) ≡ upFrom i m ++ upFrom (i + m) n
 unfolding upFrom

@@ -2,19 +2,19 @@
 use mathlib.Core.Path.{_≡_, refl, sym, ap, _∙_}
 use mathlib.Core.Bool.{Bool, true, false, _&&_, _||_}
 use mathlib.Core.List.{List}
-use Prim.Native.Nat.{ℕ, suc, _-_, _*_, _<_, _≤_}
+use Prim.Native.Nat.{ℕ, suc, _*_, _<_, _≤_}
 use native.Mathlib.Omega.{arith}
 use lib.Dec.{eqb, ltb}
 use lib.ListN.{length, drop}
 use borrow.Author.Tests.{eqb-true, eqb-false, ltb-true}
 use Rattle.words.specs.Limits.{namesMost, itemsLeast, itemsMost}
-use Rattle.words.specs.Lists.{within, allOf}
-use Rattle.words.specs.TestLaws.{and-left, and-right, within-least, within-most, all-head, all-drop}
+use Rattle.words.specs.Lists.{allOf}
+use Rattle.words.specs.TestLaws.{and-left, and-right, all-head, all-drop}
 use Rattle.recipe.specs.Name.{plainName}
 use Rattle.recipe.specs.Tree.{empty, constant, name, pair, isList, isListOf, elements, element}
-use Rattle.recipe.specs.Table.{items, byKind, constantOf, kindAt, isPairItem, isItem, treeOf, itemCount, isLayout}
+use Rattle.recipe.specs.Table.{items, byKind, constantOf, kindAt, isItem, treeOf, itemCount, isLayout}
 use Rattle.recipe.specs.ItemLaws.{itemAt, items-drop}
-use Rattle.recipe.specs.TableLaws.{isLayout-parts}
+use Rattle.recipe.specs.TableLaws.{isPairItem-parts, isLayout-parts, isItem-pair}
 use Rattle.recipe.specs.TreeFrom.{treeFrom, headAt, tailAt, from-empty, from-name, from-pair, from-constant, from-isList}
 
 -- the kind is that of a list
@@ -33,19 +33,16 @@ pub record PairItem (ws : List ℕ) (n i : ℕ) : Type 0 where
 
 module _ (ws : List ℕ) (n i : ℕ) (good : isItem ws n (itemAt ws i) ≡ true) (h : i < n) where
   pub pairItem : kindAt ws i ≡ 4 → PairItem ws n i
-  unfolding isItem isPairItem itemAt byKind headAt tailAt kindAt isListKind
+  unfolding itemAt headAt tailAt kindAt isListKind
   pairItem k =
-      let a = within (suc i) (n - 1) (headAt ws i) in
-      let b = within (suc i) (n - 1) (tailAt ws i) in
-      let t = isListKind (kindAt ws (tailAt ws i)) in
-      let g : (a && (b && t)) ≡ true = rw k at good in
-      let p = and-left a (b && t) g in
-      let q = and-left b t (and-right a (b && t) g) in
-      let p0 = within-least (suc i) (n - 1) (headAt ws i) p in
-      let p1 = within-most (suc i) (n - 1) (headAt ws i) p in
-      let q0 = within-least (suc i) (n - 1) (tailAt ws i) q in
-      let q1 = within-most (suc i) (n - 1) (tailAt ws i) q in
-      record { headAbove = omega arith; headBelow = omega arith; tailAbove = omega arith; tailBelow = omega arith; tailKind = and-right b t (and-right a (b && t) g) }
+      let p = isPairItem-parts ws n (itemAt ws i) (isItem-pair ws n (itemAt ws i) good k) in
+      record {
+        headAbove = p .head .above;
+        headBelow = omega (arith, p .head .below);
+        tailAbove = p .tail .above;
+        tailBelow = omega (arith, p .tail .below);
+        tailKind = p .tail-kind;
+      }
 
   pub nameItem : kindAt ws i ≡ 3 → headAt ws i < namesMost
   unfolding isItem itemAt byKind headAt tailAt kindAt

@@ -20,12 +20,13 @@ pub record Refers (n i j : ℕ) : Type 0 where
   pub above : suc i ≤ j
   pub below : j ≤ n - 1
 
-pub record PairItem (table : List ℕ) (n : ℕ) (x : Item) : Type 0 where
+-- what the test of a pair item says
+pub record PairTest (table : List ℕ) (n : ℕ) (x : Item) : Type 0 where
   pub head : Refers n (x .place) (x .first)
   pub tail : Refers n (x .place) (x .second)
   pub tail-kind : (eqb (kindAt table (x .second)) 0 || eqb (kindAt table (x .second)) 4) ≡ true
 
-pub isPairItem-parts : (table : List ℕ) (n : ℕ) (x : Item) → isPairItem table n x ≡ true → PairItem table n x
+pub isPairItem-parts : (table : List ℕ) (n : ℕ) (x : Item) → isPairItem table n x ≡ true → PairTest table n x
 unfolding isPairItem
 isPairItem-parts table n x e =
     let a = and-parts (within (suc (x .place)) (n - 1) (x .first)) _ e in
@@ -36,7 +37,8 @@ isPairItem-parts table n x e =
 
 -- ---- the layout
 
-pub record Layout (ws : List ℕ) : Type 0 where
+-- what ground 7 tests
+pub record LayoutTest (ws : List ℕ) : Type 0 where
   pub words : length ws ≡ 3 * itemCount ws
   pub count : (itemsLeast ≤ itemCount ws) × (itemCount ws ≤ itemsMost)
   pub item : allOf (isItem ws (itemCount ws)) (items 0 ws) ≡ true
@@ -44,7 +46,7 @@ pub record Layout (ws : List ℕ) : Type 0 where
   pub two : isListOf 2 (treeOf ws) ≡ true
   pub first : isList (element 0 (treeOf ws)) ≡ true
 
-pub isLayout-parts : (ws : List ℕ) → isLayout ws ≡ true → Layout ws
+pub isLayout-parts : (ws : List ℕ) → isLayout ws ≡ true → LayoutTest ws
 unfolding isLayout
 isLayout-parts ws e =
     let a = and-parts (eqb (length ws) (3 * itemCount ws)) _ e in
@@ -54,14 +56,14 @@ isLayout-parts ws e =
     let f = and-parts (isListOf 2 (treeOf ws)) _ (d .1) in
     record { words = eqb-true _ _ (a .0); count = within-parts itemsLeast itemsMost (itemCount ws) (b .0); item = c .0; referred = d .0; two = f .0; first = f .1 }
 
-pub items-length : (ws : List ℕ) (i : ℕ) → length (items i ws) ≡ itemCount ws
+pub items-counted : (ws : List ℕ) (i : ℕ) → length (items i ws) ≡ itemCount ws
 unfolding items itemCount
-items-length [] i = refl
-items-length (k ∷ []) i = refl
-items-length (k ∷ a ∷ []) i = refl
-items-length (k ∷ a ∷ b ∷ ws) i = omega (arith, items-length ws (suc i))
+items-counted [] i = refl
+items-counted (k ∷ []) i = refl
+items-counted (k ∷ a ∷ []) i = refl
+items-counted (k ∷ a ∷ b ∷ ws) i = omega (arith, items-counted ws (suc i))
 
-isItem-pair : (table : List ℕ) (n : ℕ) (x : Item) → isItem table n x ≡ true → x .kind ≡ 4 → isPairItem table n x ≡ true
+pub isItem-pair : (table : List ℕ) (n : ℕ) (x : Item) → isItem table n x ≡ true → x .kind ≡ 4 → isPairItem table n x ≡ true
 unfolding isItem byKind isPairItem
 isItem-pair table n x e k = rw k at e
 

@@ -14,7 +14,7 @@ use Rattle.datum.specs.Constant.{Constant}
 use Rattle.recipe.specs.Name.{plainName}
 use Rattle.recipe.specs.Tree.{Tree, empty, constant, name, pair, size}
 use Rattle.recipe.specs.Table.{Item, items, byKind, constantOf, references, occurrences, isPairItem, isItem, trees, treeOf, itemCount, isLayout}
-use Rattle.recipe.specs.TableLaws.{isPairItem-parts, Layout, isLayout-parts, items-length, references-higher, referred-once}
+use Rattle.recipe.specs.TableLaws.{isPairItem-parts, LayoutTest, isLayout-parts, items-counted, references-higher, referred-once}
 
 -- a leaf at a place has no more than the place's share, and a pair no more than that besides its parts
 pub record Measure : Type 0 where
@@ -152,15 +152,15 @@ table-weight μ table n (k ∷ a ∷ b ∷ ws) i ends good c once =
 -- ---- a table of the layout
 
 -- item 0 is counted once, and every other place by the one word that refers to it
-layout-once : (ws : List ℕ) → Layout ws → Once (more 0 (λ p. 0)) (references (items 0 ws)) 0 (itemCount ws)
+layout-once : (ws : List ℕ) → LayoutTest ws → Once (more 0 (λ p. 0)) (references (items 0 ws)) 0 (itemCount ws)
 layout-once ws l zero h k = omega (arith, more-same (λ p. 0) 0 0 refl, references-higher ws (itemCount ws) ws 0 0 (l .item) (omega arith))
-layout-once ws l (suc p) h k = omega (arith, more-other (λ p. 0) 0 (suc p) (omega arith), referred-once (references (items 0 ws)) ws 0 (suc p) (l .referred) (omega arith) h (omega (arith, items-length ws 0)))
+layout-once ws l (suc p) h k = omega (arith, more-other (λ p. 0) 0 (suc p) (omega arith), referred-once (references (items 0 ws)) ws 0 (suc p) (l .referred) (omega arith) h (omega (arith, items-counted ws 0)))
 
 pub treeOf-measure : (μ : Measure) (ws : List ℕ) → isLayout ws ≡ true → μ .measure (treeOf ws) ≤ shares μ 0 (itemCount ws)
 unfolding treeOf
 treeOf-measure μ ws e =
     let l = isLayout-parts ws e in
-    let n = items-length ws 0 in
+    let n = items-counted ws 0 in
     let w = weight-more μ (λ p. 0) 0 0 0 (trees (items 0 ws)) refl (omega (arith, n, trees-length (items 0 ws), l .count .0)) in
     let h = ap (shares μ 0) n in
     omega (arith, w, h, table-weight μ ws (itemCount ws) ws 0 (omega (arith, n)) (l .item) (more 0 (λ p. 0)) (layout-once ws l))

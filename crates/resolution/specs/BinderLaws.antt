@@ -9,6 +9,7 @@ use lib.ListN.{length, take}
 use borrow.Author.Tests.{eq-eqb, ne-eqb, lt-ltb, le-ltb}
 use Rattle.words.specs.Lists.{equal}
 use Rattle.recipe.specs.Name.{Name, bindingKey, plainName}
+use Rattle.arena.specs.Offsets.{KEY, BOUND-KEY, BOUND-NUMBER, BOUND-COUNT, BOUND-NEWEST, BOUND-PENDING, BOUND-OWN}
 use Rattle.arena.specs.Arena.{wordAt, referenceAt, newest, giveKey, ownMarks, sameMarks, isOwn, rebound, wrapAt}
 use Rattle.words.specs.ListLaws.{either, equal-true}
 use Rattle.arena.specs.ArenaLaws.{take-less, bindingKey-of}
@@ -17,7 +18,7 @@ use Rattle.resolution.specs.MarkLaws.{marksIn-length, marksIn-below}
 
 -- ---- the marks of its own name
 
-pub own-both : (work : List ℕ) (w own pending : ℕ) → own ≡ referenceAt work w 9 → pending ≡ referenceAt work w 8 → (old mid new : List ℕ) (s k r : ℕ) → MarksAfter (wrapAt work own) old mid s 0 k → MarksAfter (wrapAt work pending) mid new s k r → OwnMarks work w old new s r
+pub own-both : (work : List ℕ) (w own pending : ℕ) → own ≡ referenceAt work w BOUND-OWN → pending ≡ referenceAt work w BOUND-PENDING → (old mid new : List ℕ) (s k r : ℕ) → MarksAfter (wrapAt work own) old mid s 0 k → MarksAfter (wrapAt work pending) mid new s k r → OwnMarks work w old new s r
 unfolding ownMarks marksIn plainName
 own-both work w own pending p q old mid new s k r f g =
     record {
@@ -59,33 +60,33 @@ module _ (work : List ℕ) (w : ℕ) (x : Name) where
   Not-own = isOwn work (wrapAt work) w x ≡ false
 
   abbrev number-test : Bool
-  number-test = eqb (wordAt work w 5) (x .number)
+  number-test = eqb (wordAt work w BOUND-NUMBER) (x .number)
 
   abbrev binding-test : Bool
-  binding-test = eqb (wordAt work w 4) (bindingKey (x .binding))
+  binding-test = eqb (wordAt work w BOUND-KEY) (bindingKey (x .binding))
 
   abbrev count-test : Bool
-  count-test = eqb (wordAt work w 6) (length (x .marks))
+  count-test = eqb (wordAt work w BOUND-COUNT) (length (x .marks))
 
   abbrev newest-test : Bool
-  newest-test = eqb (wordAt work w 7) (newest (x .marks))
+  newest-test = eqb (wordAt work w BOUND-NEWEST) (newest (x .marks))
 
   abbrev marks-test : Bool
   marks-test = sameMarks work (wrapAt work) w (x .marks)
 
-  pub own-number : (wordAt work w 5 ≡ x .number → ⊥) → Not-own
+  pub own-number : (wordAt work w BOUND-NUMBER ≡ x .number → ⊥) → Not-own
   unfolding isOwn
   own-number h = rw (ne-eqb _ _ h)
 
-  pub own-binding : (wordAt work w 4 ≡ bindingKey (x .binding) → ⊥) → Not-own
+  pub own-binding : (wordAt work w BOUND-KEY ≡ bindingKey (x .binding) → ⊥) → Not-own
   unfolding isOwn
   own-binding h = second-fails binding-test count-test newest-test marks-test number-test (ne-eqb _ _ h)
 
-  pub own-count : (wordAt work w 6 ≡ length (x .marks) → ⊥) → Not-own
+  pub own-count : (wordAt work w BOUND-COUNT ≡ length (x .marks) → ⊥) → Not-own
   unfolding isOwn
   own-count h = third-fails count-test newest-test marks-test number-test binding-test (ne-eqb _ _ h)
 
-  pub own-newest : (wordAt work w 7 ≡ newest (x .marks) → ⊥) → Not-own
+  pub own-newest : (wordAt work w BOUND-NEWEST ≡ newest (x .marks) → ⊥) → Not-own
   unfolding isOwn
   own-newest h = fourth-fails newest-test marks-test number-test binding-test count-test (ne-eqb _ _ h)
 
@@ -102,7 +103,7 @@ module _ (work : List ℕ) (w : ℕ) (x : Name) where
   unfolding sameMarks
   equal-same h = rw h (or-true (ltb (length (x .marks)) 2))
 
-  pub own-all : wordAt work w 5 ≡ x .number → wordAt work w 4 ≡ bindingKey (x .binding) → wordAt work w 6 ≡ length (x .marks) → wordAt work w 7 ≡ newest (x .marks) → sameMarks work (wrapAt work) w (x .marks) ≡ true → isOwn work (wrapAt work) w x ≡ true
+  pub own-all : wordAt work w BOUND-NUMBER ≡ x .number → wordAt work w BOUND-KEY ≡ bindingKey (x .binding) → wordAt work w BOUND-COUNT ≡ length (x .marks) → wordAt work w BOUND-NEWEST ≡ newest (x .marks) → sameMarks work (wrapAt work) w (x .marks) ≡ true → isOwn work (wrapAt work) w x ≡ true
   unfolding isOwn
   own-all a b c d e = rw (eq-eqb _ _ a, eq-eqb _ _ b, eq-eqb _ _ c, eq-eqb _ _ d, e)
 
@@ -115,16 +116,16 @@ module _ (work : List ℕ) (w : ℕ) (old : List ℕ) (s number n binding : ℕ)
   count-is : (x : Name) → Holds x old s n number binding → length (x .marks) ≡ n
   count-is x o = ap length (o .marks-are) ∙ marksIn-length old s n
 
-  pub other-number : (v : ℕ) → v ≡ wordAt work w 5 → (v ≡ number → ⊥) → Told old false
+  pub other-number : (v : ℕ) → v ≡ wordAt work w BOUND-NUMBER → (v ≡ number → ⊥) → Told old false
   other-number v e h = record { told = λ x o. own-number work w x (λ z. h (e ∙ z ∙ o .number-is)); kept = refl }
 
-  pub other-binding : (v : ℕ) → v ≡ wordAt work w 4 → (v ≡ binding → ⊥) → Told old false
+  pub other-binding : (v : ℕ) → v ≡ wordAt work w BOUND-KEY → (v ≡ binding → ⊥) → Told old false
   other-binding v e h = record { told = λ x o. own-binding work w x (λ z. h (e ∙ z ∙ o .binding-is)); kept = refl }
 
-  pub other-count : (v : ℕ) → v ≡ wordAt work w 6 → (v ≡ n → ⊥) → Told old false
+  pub other-count : (v : ℕ) → v ≡ wordAt work w BOUND-COUNT → (v ≡ n → ⊥) → Told old false
   other-count v e h = record { told = λ x o. own-count work w x (λ z. h (e ∙ z ∙ count-is x o)); kept = refl }
 
-  pub other-newest : (v u : ℕ) → v ≡ wordAt work w 7 → u ≡ newest (marksIn old s n) → (v ≡ u → ⊥) → Told old false
+  pub other-newest : (v u : ℕ) → v ≡ wordAt work w BOUND-NEWEST → u ≡ newest (marksIn old s n) → (v ≡ u → ⊥) → Told old false
   other-newest v u e d h = record { told = λ x o. own-newest work w x (λ z. h (e ∙ z ∙ ap newest (o .marks-are) ∙ sym d)); kept = refl }
 
   -- the binder's own marks stand behind those in hand
@@ -148,7 +149,7 @@ module _ (work : List ℕ) (w : ℕ) (old : List ℕ) (s number n binding : ℕ)
       other-marks e h = record { told = λ x o. own-marks work w x (omega (arith, count-is x o)) (equal-is x o e ∙ sym h); kept = own .kept }
 
   -- all tests hold
-  module _ (a b c d u : ℕ) (ea : a ≡ wordAt work w 5) (fa : a ≡ number) (eb : b ≡ wordAt work w 4) (fb : b ≡ binding) (ec : c ≡ wordAt work w 6) (fc : c ≡ n) (ed : d ≡ wordAt work w 7) (eu : u ≡ newest (marksIn old s n)) (fd : d ≡ u) where
+  module _ (a b c d u : ℕ) (ea : a ≡ wordAt work w BOUND-NUMBER) (fa : a ≡ number) (eb : b ≡ wordAt work w BOUND-KEY) (fb : b ≡ binding) (ec : c ≡ wordAt work w BOUND-COUNT) (fc : c ≡ n) (ed : d ≡ wordAt work w BOUND-NEWEST) (eu : u ≡ newest (marksIn old s n)) (fd : d ≡ u) where
     same-as : (x : Name) → Holds x old s n number binding → sameMarks work (wrapAt work) w (x .marks) ≡ true → isOwn work (wrapAt work) w x ≡ true
     same-as x o =
         own-all work w x
@@ -188,11 +189,11 @@ module _ (work : List ℕ) (w : ℕ) (old new : List ℕ) (s number n binding : 
         kept = below-same false h;
       }
 
-  pub left-given : OwnIs work w old new s number n binding true → (v : ℕ) → v ≡ wordAt work w 3 → Left v
+  pub left-given : OwnIs work w old new s number n binding true → (v : ℕ) → v ≡ wordAt work w KEY → Left v
   unfolding rebound giveKey
   left-given h v e =
       record {
-        holds = λ x o. rw (h .told x o) (record { number-is = o .number-is; marks-are = o .marks-are ∙ sym (marks-same true h); binding-is = bindingKey-of (wordAt work w 3) ∙ sym e });
+        holds = λ x o. rw (h .told x o) (record { number-is = o .number-is; marks-are = o .marks-are ∙ sym (marks-same true h); binding-is = bindingKey-of (wordAt work w KEY) ∙ sym e });
         hand = hand-same true h;
         kept = below-same true h;
       }

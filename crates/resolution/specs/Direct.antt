@@ -6,11 +6,12 @@ use mathlib.Core.Option.{none}
 use Prim.Native.Nat.{ℕ, _<_}
 use lib.Dec.{eqb}
 use Rattle.recipe.specs.Name.{Name, bindingKey, markName}
+use Rattle.arena.specs.Offsets.{INNER}
 use Rattle.arena.specs.Arena.{referenceAt, stepLimit, rebound, wrapAt}
 
 -- a wrap means of a name of this number what the wrap inside it means
 abbrev pub SkipsTo : List ℕ → (number w : ℕ) → Type 0
-SkipsTo work number w = (x : Name) → x .number ≡ number → wrapAt work w x ≡ wrapAt work (referenceAt work w 2) x
+SkipsTo work number w = (x : Name) → x .number ≡ number → wrapAt work w x ≡ wrapAt work (referenceAt work w INNER) x
 
 -- wraps w and r bind a name of this number alike
 abbrev pub Passes : List ℕ → (number w r : ℕ) → Type 0
@@ -19,7 +20,7 @@ Passes work number w r = (x : Name) → x .number ≡ number → wrapAt work w x
 -- below the limit, the step of a mark, which is not 0
 pub record IsMark (work : List ℕ) (w r : ℕ) : Type 0 where
   pub some-step : r ≡ 0 → ⊥
-  pub means : (x : Name) → wrapAt work w x ≡ markName r (wrapAt work (referenceAt work w 2) x)
+  pub means : (x : Name) → wrapAt work w x ≡ markName r (wrapAt work (referenceAt work w INNER) x)
 
 abbrev pub MarkCell : List ℕ → (w r : ℕ) → Type 0
 MarkCell work w r = r < stepLimit → IsMark work w r
@@ -33,7 +34,7 @@ countOf m = cond (eqb m 0) 0 1
 
 -- below the limit, a wrap and a mark around it, or none, mean of a name of this number what the wrap inside and mark r around that mean
 abbrev pub OneMark : List ℕ → (number w mark r : ℕ) → Type 0
-OneMark work number w mark r = r < stepLimit → (x : Name) → x .number ≡ number → markOnce mark (wrapAt work w x) ≡ markOnce r (wrapAt work (referenceAt work w 2) x)
+OneMark work number w mark r = r < stepLimit → (x : Name) → x .number ≡ number → markOnce mark (wrapAt work w x) ≡ markOnce r (wrapAt work (referenceAt work w INNER) x)
 
 -- below the limit, all that a wrap means of a name of this number is one mark or none
 abbrev pub LoneMark : List ℕ → (number w r : ℕ) → Type 0

@@ -9,6 +9,7 @@ use lib.Dec.{eqb}
 use lib.ListN.{length}
 use borrow.Author.Tests.{ne-eqb, eqb-true}
 use Rattle.recipe.specs.Name.{Name, bindingKey, markName, toggle}
+use Rattle.arena.specs.Offsets.{OWN, TAG, INNER, STEP, KEY, BOUND-KEY, BOUND-NUMBER, BOUND-COUNT, BOUND-NEWEST}
 use Rattle.arena.specs.Arena.{wordAt, referenceAt, stepLimit, newest, giveKey, marked, isOwn, rebound, wrapAt, originName, nodeName, nameAt, numberOf}
 use Rattle.words.specs.ListLaws.{either}
 use Rattle.arena.specs.ArenaLaws.{wordAt-some, wrapAt-none, wrapAt-mark, wrapAt-binder, wrapAt-number, marked-is, marked-binding, bindingKey-of}
@@ -49,25 +50,25 @@ rebound-idle : (work : List ℕ) (w : ℕ) (x : Name) → isOwn work (wrapAt wor
 unfolding rebound
 rebound-idle work w x h = rw h
 
-module _ (work : List ℕ) (w tag : ℕ) (tag-is : tag ≡ wordAt work w 1) where
+module _ (work : List ℕ) (w tag : ℕ) (tag-is : tag ≡ wordAt work w TAG) where
   some-word : (tag ≡ 0 → ⊥) → 0 < w
   some-word h = wordAt-some work w 1 (omega arith) (λ z. h (tag-is ∙ z))
 
-  pub binder-skips : tag ≡ 3 → (number v : ℕ) → v ≡ wordAt work w 5 → (v ≡ number → ⊥) → SkipsTo work number w
+  pub binder-skips : tag ≡ 3 → (number v : ℕ) → v ≡ wordAt work w BOUND-NUMBER → (v ≡ number → ⊥) → SkipsTo work number w
   binder-skips t number v e h x n =
       wrapAt-binder work w (some-word (λ z. omega arith)) (sym tag-is ∙ t) x
-      ∙ rebound-idle work w _ (own-number work w _ (λ z. h (e ∙ z ∙ wrapAt-number work (referenceAt work w 2) x ∙ n)))
+      ∙ rebound-idle work w _ (own-number work w _ (λ z. h (e ∙ z ∙ wrapAt-number work (referenceAt work w INNER) x ∙ n)))
 
-  pub mark-passes : tag ≡ 1 → (number : ℕ) → Passes work number w (referenceAt work w 2)
-  mark-passes t number x n = ap (λ (y : Name). y .binding) (wrapAt-mark work w (some-word (λ z. omega arith)) (sym tag-is ∙ t) x) ∙ marked-binding (wordAt work w 3) _
+  pub mark-passes : tag ≡ 1 → (number : ℕ) → Passes work number w (referenceAt work w INNER)
+  mark-passes t number x n = ap (λ (y : Name). y .binding) (wrapAt-mark work w (some-word (λ z. omega arith)) (sym tag-is ∙ t) x) ∙ marked-binding (wordAt work w STEP) _
 
-  pub mark-cell : tag ≡ 1 → (r : ℕ) → r ≡ wordAt work w 3 → (r ≡ 0 → ⊥) → MarkCell work w r
+  pub mark-cell : tag ≡ 1 → (r : ℕ) → r ≡ wordAt work w STEP → (r ≡ 0 → ⊥) → MarkCell work w r
   mark-cell t r e h l =
       record {
         some-step = h;
         means = λ x.
             wrapAt-mark work w (some-word (λ z. omega arith)) (sym tag-is ∙ t) x
-            ∙ ap (λ (m : ℕ). marked m (wrapAt work (referenceAt work w 2) x)) (sym e)
+            ∙ ap (λ (m : ℕ). marked m (wrapAt work (referenceAt work w INNER) x)) (sym e)
             ∙ marked-is r _ l;
       }
 
@@ -78,10 +79,10 @@ no-mark work w l = absurd (omega arith)
 -- ---- wraps
 
 module _ (work : List ℕ) (number w : ℕ) where
-  pub skip-passes : SkipsTo work number w → Passes work number w (referenceAt work w 2)
+  pub skip-passes : SkipsTo work number w → Passes work number w (referenceAt work w INNER)
   skip-passes s x n = ap (λ (y : Name). y .binding) (s x n)
 
-  pub passes-on : (at r : ℕ) → Passes work number w at → Passes work number at (referenceAt work at 2) → r ≡ referenceAt work at 2 → Passes work number w r
+  pub passes-on : (at r : ℕ) → Passes work number w at → Passes work number at (referenceAt work at INNER) → r ≡ referenceAt work at INNER → Passes work number w r
   passes-on at r p q e x n = p x n ∙ q x n ∙ ap (λ (v : ℕ). wrapAt work v x .binding) (sym e)
 
   pub passes-ends : (at : ℕ) → Passes work number w at → at ≡ 0 → Passes work number w 0
@@ -106,7 +107,7 @@ module _ (work : List ℕ) (number w : ℕ) where
   unfolding markOnce
   around-begins = (omega arith, λ x n. refl)
 
-  pub around-on : (at mark r v : ℕ) → Around work number w at mark → OneMark work number at mark r → r < stepLimit → v ≡ referenceAt work at 2 → Around work number w v r
+  pub around-on : (at mark r v : ℕ) → Around work number w at mark → OneMark work number at mark r → r < stepLimit → v ≡ referenceAt work at INNER → Around work number w v r
   around-on at mark r v a o l e = (l, λ x n. a .1 x n ∙ o l x n ∙ ap (λ (u : ℕ). markOnce r (wrapAt work u x)) (sym e))
 
   pub around-ends : (at mark : ℕ) → Around work number w at mark → at ≡ 0 → LoneMark work number w mark
@@ -131,7 +132,7 @@ unfolding nodeName originName numberOf
 node-bare work node number n = record { number-is = sym n; no-marks = refl; no-binding = refl }
 
 -- so that one mark or none is all of its summary
-pub marked-summed : (work : List ℕ) (node w number own m k : ℕ) → number ≡ numberOf work node → own ≡ referenceAt work node 1 → OnlyMark work number own w m → m < stepLimit → k ≡ countOf m → Summed (nameAt work node w) 0 k m
+pub marked-summed : (work : List ℕ) (node w number own m k : ℕ) → number ≡ numberOf work node → own ≡ referenceAt work node OWN → OnlyMark work number own w m → m < stepLimit → k ≡ countOf m → Summed (nameAt work node w) 0 k m
 unfolding nameAt bindingKey
 marked-summed work node w number own m k n o f l e =
     let x = nodeName work node in
@@ -152,24 +153,24 @@ module _ (work : List ℕ) (number w mark : ℕ) where
   unfolding bindingKey
   gives-nothing h x b = sym (ap (λ (y : Name). bindingKey (y .binding)) (rebound-idle work w (markOnce mark x) (h x b)) ∙ ap bindingKey (once-binding number mark x b))
 
-  pub gives-number : (v : ℕ) → v ≡ wordAt work w 5 → (v ≡ number → ⊥) → Gives work number w mark 0
+  pub gives-number : (v : ℕ) → v ≡ wordAt work w BOUND-NUMBER → (v ≡ number → ⊥) → Gives work number w mark 0
   gives-number v e h = gives-nothing λ x b. own-number work w _ (λ z. h (e ∙ z ∙ once-number number mark x b))
 
-  pub gives-binding : (v : ℕ) → v ≡ wordAt work w 4 → (v ≡ 0 → ⊥) → Gives work number w mark 0
+  pub gives-binding : (v : ℕ) → v ≡ wordAt work w BOUND-KEY → (v ≡ 0 → ⊥) → Gives work number w mark 0
   unfolding bindingKey
   gives-binding v e h = gives-nothing λ x b. own-binding work w _ (λ z. h (e ∙ z ∙ ap bindingKey (once-binding number mark x b)))
 
-  pub gives-count : (v u : ℕ) → v ≡ wordAt work w 6 → u ≡ countOf mark → (v ≡ u → ⊥) → Gives work number w mark 0
+  pub gives-count : (v u : ℕ) → v ≡ wordAt work w BOUND-COUNT → u ≡ countOf mark → (v ≡ u → ⊥) → Gives work number w mark 0
   gives-count v u e f h = gives-nothing λ x b. own-count work w _ (λ z. h (e ∙ z ∙ once-count number mark x b ∙ sym f))
 
-  pub gives-newest : (v : ℕ) → v ≡ wordAt work w 7 → (v ≡ mark → ⊥) → Gives work number w mark 0
+  pub gives-newest : (v : ℕ) → v ≡ wordAt work w BOUND-NEWEST → (v ≡ mark → ⊥) → Gives work number w mark 0
   gives-newest v e h = gives-nothing λ x b. own-newest work w _ (λ z. h (e ∙ z ∙ once-newest number mark x b))
 
-  given-key : (x : Name) → isOwn work (wrapAt work) w x ≡ true → bindingKey (rebound work (wrapAt work) w x .binding) ≡ wordAt work w 3
+  given-key : (x : Name) → isOwn work (wrapAt work) w x ≡ true → bindingKey (rebound work (wrapAt work) w x .binding) ≡ wordAt work w KEY
   unfolding rebound giveKey
-  given-key x h = rw h (bindingKey-of (wordAt work w 3))
+  given-key x h = rw h (bindingKey-of (wordAt work w KEY))
 
-  pub gives-key : (a b c u d r : ℕ) → a ≡ wordAt work w 5 → a ≡ number → b ≡ wordAt work w 4 → b ≡ 0 → c ≡ wordAt work w 6 → u ≡ countOf mark → c ≡ u → d ≡ wordAt work w 7 → d ≡ mark → r ≡ wordAt work w 3 → Gives work number w mark r
+  pub gives-key : (a b c u d r : ℕ) → a ≡ wordAt work w BOUND-NUMBER → a ≡ number → b ≡ wordAt work w BOUND-KEY → b ≡ 0 → c ≡ wordAt work w BOUND-COUNT → u ≡ countOf mark → c ≡ u → d ≡ wordAt work w BOUND-NEWEST → d ≡ mark → r ≡ wordAt work w STEP → Gives work number w mark r
   unfolding bindingKey
   gives-key a b c u d r ea fa eb fb ec eu fc ed fd er x bare =
       let own : isOwn work (wrapAt work) w (markOnce mark x) ≡ true =
@@ -183,7 +184,7 @@ module _ (work : List ℕ) (number w mark : ℕ) where
 
 -- ---- what is found
 
-pub finds-name : (work : List ℕ) (node w number own r : ℕ) → number ≡ numberOf work node → own ≡ referenceAt work node 1 → Finds work number own w r → (r ≡ unknown → ⊥) → r ≡ bindingKey (nameAt work node w .binding)
+pub finds-name : (work : List ℕ) (node w number own r : ℕ) → number ≡ numberOf work node → own ≡ referenceAt work node OWN → Finds work number own w r → (r ≡ unknown → ⊥) → r ≡ bindingKey (nameAt work node w .binding)
 unfolding nameAt
 finds-name work node w number own r n o f h =
     f h (nodeName work node) (node-bare work node number n) ∙ ap (λ (v : ℕ). bindingKey (wrapAt work w (wrapAt work v (nodeName work node)) .binding)) o
@@ -192,7 +193,7 @@ module _ (work : List ℕ) (number own w : ℕ) where
   pub finds-nothing : Finds work number own w unknown
   finds-nothing h = absurd (h refl)
 
-  pub finds-binder : (tag inner mark r : ℕ) → tag ≡ wordAt work w 1 → tag ≡ 3 → inner ≡ referenceAt work w 2 → OnlyMark work number own inner mark → mark < stepLimit → Gives work number w mark r → Finds work number own w r
+  pub finds-binder : (tag inner mark r : ℕ) → tag ≡ wordAt work w TAG → tag ≡ 3 → inner ≡ referenceAt work w INNER → OnlyMark work number own inner mark → mark < stepLimit → Gives work number w mark r → Finds work number own w r
   finds-binder tag inner mark r e t i m k g u x b =
       let means : wrapAt work w (wrapAt work own x) ≡ rebound work (wrapAt work) w (markOnce mark x) =
       wrapAt-binder work w (some-word work w tag e (λ q. omega arith)) (sym e ∙ t) (wrapAt work own x)

@@ -7,6 +7,7 @@ use native.Mathlib.Omega.{arith}
 use lib.ListN.{length}
 use borrow.Author.Tests.{le-ltb}
 use Rattle.recipe.specs.Name.{Name, toggle, markName}
+use Rattle.arena.specs.Offsets.{TAG, INNER, STEP, OUTER}
 use Rattle.arena.specs.Arena.{wordAt, referenceAt, stepLimit, marked, rebound, wrapAt}
 use Rattle.arena.specs.ArenaLaws.{referenceAt-falls, marked-is, rebound-marks, wrapAt-none, wrapAt-mark, wrapAt-join, wrapAt-binder, wrapAt-other, wordAt-some}
 use Rattle.resolution.specs.Marks.{marksIn, Descends, none, Toggled, Fits, Tells, is-same, is-other, is-full, Hand, MarksAfter}
@@ -100,7 +101,7 @@ after-is f g old new s n r e p =
 pub wrap-none : (work : List ℕ) (w : ℕ) → w ≡ 0 → (x : Name) → wrapAt work w x ≡ x
 wrap-none work w e x = rw e (wrapAt-none work x)
 
-module _ (work : List ℕ) (w tag : ℕ) (tag-is : tag ≡ wordAt work w 1) where
+module _ (work : List ℕ) (w tag : ℕ) (tag-is : tag ≡ wordAt work w TAG) where
   pub wrap-some : (tag ≡ 0 → ⊥) → 0 < w
   wrap-some h = wordAt-some work w 1 (omega arith) (λ z. h (tag-is ∙ z))
 
@@ -110,18 +111,18 @@ module _ (work : List ℕ) (w tag : ℕ) (tag-is : tag ≡ wordAt work w 1) wher
   wrap-idle-at : (v : ℕ) → v ≡ w → (tag ≡ 1 → ⊥) → (tag ≡ 2 → ⊥) → (tag ≡ 3 → ⊥) → (x : Name) → wrapAt work v x ≡ x
   wrap-idle-at zero e a b c x = wrapAt-none work x
   wrap-idle-at (suc v) e a b c x =
-      let t : tag ≡ wordAt work (suc v) 1 = tag-is ∙ ap (λ (u : ℕ). wordAt work u 1) (sym e) in
+      let t : tag ≡ wordAt work (suc v) TAG = tag-is ∙ ap (λ (u : ℕ). wordAt work u TAG) (sym e) in
       wrapAt-other work (suc v) (omega arith) (λ z. a (t ∙ z)) (λ z. b (t ∙ z)) (λ z. c (t ∙ z)) x
 
   -- a cell that is no wrap
   pub wrap-idle : (tag ≡ 1 → ⊥) → (tag ≡ 2 → ⊥) → (tag ≡ 3 → ⊥) → (x : Name) → wrapAt work w x ≡ x
   wrap-idle a b c x = wrap-idle-at w refl a b c x
 
-  module _ (inner : ℕ) (inner-is : inner ≡ referenceAt work w 2) where
-    pub wrap-mark : (m : ℕ) → tag ≡ 1 → m ≡ wordAt work w 3 → (x : Name) → wrapAt work w x ≡ marked m (wrapAt work inner x)
+  module _ (inner : ℕ) (inner-is : inner ≡ referenceAt work w INNER) where
+    pub wrap-mark : (m : ℕ) → tag ≡ 1 → m ≡ wordAt work w STEP → (x : Name) → wrapAt work w x ≡ marked m (wrapAt work inner x)
     wrap-mark m t e x = rw (e, inner-is) (wrapAt-mark work w (wrap-some (λ z. omega arith)) (sym tag-is ∙ t) x)
 
-    pub wrap-join : (outer : ℕ) → tag ≡ 2 → outer ≡ referenceAt work w 3 → (x : Name) → wrapAt work w x ≡ wrapAt work outer (wrapAt work inner x)
+    pub wrap-join : (outer : ℕ) → tag ≡ 2 → outer ≡ referenceAt work w OUTER → (x : Name) → wrapAt work w x ≡ wrapAt work outer (wrapAt work inner x)
     wrap-join outer t e x = rw (e, inner-is) (wrapAt-join work w (wrap-some (λ z. omega arith)) (sym tag-is ∙ t) x)
 
     pub wrap-binder : tag ≡ 3 → (x : Name) → wrapAt work w x ≡ rebound work (wrapAt work) w (wrapAt work inner x)
@@ -129,10 +130,10 @@ module _ (work : List ℕ) (w tag : ℕ) (tag-is : tag ≡ wordAt work w 1) wher
 
     -- the marks after each
     module _ (old mid : List ℕ) (s n k : ℕ) (before : MarksAfter (wrapAt work inner) old mid s n k) where
-      pub marks-mark : (m : ℕ) → tag ≡ 1 → m ≡ wordAt work w 3 → (new : List ℕ) (r : ℕ) → MarksAfter (marked m) mid new s k r → MarksAfter (wrapAt work w) old new s n r
+      pub marks-mark : (m : ℕ) → tag ≡ 1 → m ≡ wordAt work w STEP → (new : List ℕ) (r : ℕ) → MarksAfter (marked m) mid new s k r → MarksAfter (wrapAt work w) old new s n r
       marks-mark m t e new r p = after-is _ _ old new s n r (wrap-mark m t e) (after-both (wrapAt work inner) (marked m) old mid new s n k r before p)
 
-      pub marks-join : (outer : ℕ) → tag ≡ 2 → outer ≡ referenceAt work w 3 → (new : List ℕ) (r : ℕ) → MarksAfter (wrapAt work outer) mid new s k r → MarksAfter (wrapAt work w) old new s n r
+      pub marks-join : (outer : ℕ) → tag ≡ 2 → outer ≡ referenceAt work w OUTER → (new : List ℕ) (r : ℕ) → MarksAfter (wrapAt work outer) mid new s k r → MarksAfter (wrapAt work w) old new s n r
       marks-join outer t e new r p = after-is _ _ old new s n r (wrap-join outer t e) (after-both (wrapAt work inner) (wrapAt work outer) old mid new s n k r before p)
 
       pub marks-binder : tag ≡ 3 → MarksAfter (wrapAt work w) old mid s n k

@@ -1,6 +1,6 @@
 -- Laws of names in the arena, in the code's shape.
 use mathlib.Core.Path.{_≡_, refl, sym, ap, ap₂, subst, _∙_}
-use mathlib.Core.Bool.{Bool, true, false, _&&_}
+use mathlib.Core.Bool.{Bool, true, false, _&&_, and-true, and-false}
 use mathlib.Core.List.{List}
 use mathlib.Core.Option.{Option, none, some}
 use Prim.Native.Nat.{ℕ, _+_, _-_, _/_, _%_, _≤_, _<_}
@@ -13,6 +13,7 @@ use Rattle.words.specs.Parts.{rest}
 use Rattle.words.specs.ListLaws.{rest-is}
 use Rattle.recipe.specs.Name.{Binding, variable, macro, Name, plainName, bindingKey, isBound, same}
 use Rattle.expansion.specs.Lookup.{orUnbound, agree}
+use Rattle.arena.specs.Offsets.{OWN}
 use Rattle.arena.specs.Arena.{referenceAt, newest, bindingOf, wrapAt, originName, nodeName, nameAt, numberOf}
 use Rattle.arena.specs.ArenaLaws.{bindingOf-key, wrapAt-marks}
 use Rattle.arena.specs.NodeLaws.{nameAt-number}
@@ -20,6 +21,7 @@ use Rattle.resolution.specs.Marks.{marksIn, Holds, NameAfter}
 use Rattle.resolution.specs.MarkLaws.{marksIn-length, marksIn-below}
 use Rattle.resolution.specs.HandLaws.{count-most}
 use Rattle.resolution.specs.BinderLaws.{equal-lengths}
+use Rattle.arena.specs.declared.cells.Binder.{Binder}
 use Rattle.arena.specs.Cells.{Described, Bound, Binds}
 use Rattle.resolution.specs.Names.{Resolved, Summed, meansOf, foundOf, operationAt, unboundIn, lookupIn, Agrees}
 use Rattle.resolution.specs.declared.names.Meaning.the-variants.{Variable, Macro, Form, Operation}
@@ -29,7 +31,7 @@ use Rattle.resolution.specs.declared.names.Looked.the-variants.{Finds, N
 -- ---- resolving
 
 -- the own wrap, then the pending one
-pub resolved : (work : List ℕ) (node w own number : ℕ) → own ≡ referenceAt work node 1 → number ≡ numberOf work node → (old mid new : List ℕ) (s k c r d : ℕ) → NameAfter (wrapAt work own) old mid s number 0 0 k c → NameAfter (wrapAt work w) mid new s number k c r d → Resolved work node w old new s r d
+pub resolved : (work : List ℕ) (node w own number : ℕ) → own ≡ referenceAt work node OWN → number ≡ numberOf work node → (old mid new : List ℕ) (s k c r d : ℕ) → NameAfter (wrapAt work own) old mid s number 0 0 k c → NameAfter (wrapAt work w) mid new s number k c r d → Resolved work node w old new s r d
 unfolding numberOf nameAt nodeName originName marksIn bindingKey
 resolved work node w own number p e old mid new s k c r d f g =
     let plain : Holds (nodeName work node) old s 0 number 0 = record { number-is = sym e; marks-are = refl; binding-is = refl } in
@@ -69,29 +71,24 @@ summed work node w old new count binding m h f =
     }
 
 -- a name's summary is that of the binder's own name
-pub described : (work : List ℕ) (node w own number : ℕ) → own ≡ referenceAt work node 1 → number ≡ numberOf work node → (binding count m : ℕ) → Summed (nameAt work node w) binding count m → Described work (nameAt work node w) number binding count m own w
+described : (work : List ℕ) (node w : ℕ) (b : Binder) → b .own ≡ referenceAt work node OWN → b .number ≡ numberOf work node → b .pending ≡ w → Summed (nameAt work node w) (b .binding) (b .count) (b .newest)
+    → Described work (nameAt work node w) b
 unfolding nameAt
-described work node w own number p e binding count m h =
+described work node w b own number pending h =
     record {
-      number-is = e ∙ sym (nameAt-number work node w);
+      number-is = number ∙ sym (nameAt-number work node w);
       binding-is = h .binding-is;
       count-is = h .count-is;
       newest-is = h .newest-is;
-      marks-are = rw p (wrapAt-marks work w _ _ (wrapAt-marks work (referenceAt work node 1) (plainName 0 0) (nodeName work node) (no-marks work node)));
+      marks-are = rw (own, pending) (wrapAt-marks work w _ _ (wrapAt-marks work (referenceAt work node OWN) (plainName 0 0) (nodeName work node) (no-marks work node)));
     }
 
-pub binds-name : (node w key parent number binding count m own : ℕ) (old new : List ℕ) (top r : ℕ) → Described old (nameAt old node w) number binding count m own w → Bound number binding count m own w key parent old new top r → Binds node w key parent old new top r
-binds-name node w key parent number binding count m own old new top r d c = record { end = c .end; kept = c .kept; means = λ b e x. c .means (nameAt old node w) b d e x }
+pub binds-name : (node w : ℕ) (b : Binder) (old new : List ℕ) (top r : ℕ) → b .own ≡ referenceAt old node OWN → b .number ≡ numberOf old node → b .pending ≡ w
+    → Summed (nameAt old node w) (b .binding) (b .count) (b .newest) → Bound b old new top r → Binds node w (b .key) (b .parent) old new top r
+binds-name node w b old new top r own number pending h c =
+    record { end = c .end; kept = c .kept; means = λ to e x. c .means (nameAt old node w) to (described old node w b own number pending h) e x }
 
 -- ---- sameness
-
-and-false : (a : Bool) → (a && false) ≡ false
-and-false true = refl
-and-false false = refl
-
-and-true : (a : Bool) → (a && true) ≡ a
-and-true true = refl
-and-true false = refl
 
 module _ (work : List ℕ) (a v b w : ℕ) where
   abbrev Same : Bool

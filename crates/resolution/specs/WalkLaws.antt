@@ -3,6 +3,7 @@ use mathlib.Core.Path.{_≡_, refl, ap, _∙_}
 use mathlib.Core.List.{List}
 use Prim.Native.Nat.{ℕ}
 use Rattle.recipe.specs.Name.{Name, bindingKey}
+use Rattle.arena.specs.Offsets.{TAG, INNER, STEP, OUTER}
 use Rattle.arena.specs.Arena.{wordAt, referenceAt, marked, rebound, wrapAt}
 use Rattle.arena.specs.ArenaLaws.{marked-number, marked-binding}
 use Rattle.resolution.specs.Marks.{Hand, MarksAfter, NameAfter}
@@ -30,17 +31,17 @@ name-marked m old new s number n b r p =
 
 -- ---- wraps
 
-module _ (work : List ℕ) (w tag : ℕ) (tag-is : tag ≡ wordAt work w 1) (inner : ℕ) (inner-is : inner ≡ referenceAt work w 2) where
+module _ (work : List ℕ) (w tag : ℕ) (tag-is : tag ≡ wordAt work w TAG) (inner : ℕ) (inner-is : inner ≡ referenceAt work w INNER) where
   module _ (old mid : List ℕ) (s number n b k c : ℕ) (before : NameAfter (wrapAt work inner) old mid s number n b k c) where
     abbrev pub Walked : List ℕ → ℕ → ℕ → Type 0
     Walked new r d = NameAfter (wrapAt work w) old new s number n b r d
 
-    pub walk-mark : (m : ℕ) → tag ≡ 1 → m ≡ wordAt work w 3 → (new : List ℕ) (r : ℕ) → MarksAfter (marked m) mid new s k r → Walked new r c
+    pub walk-mark : (m : ℕ) → tag ≡ 1 → m ≡ wordAt work w STEP → (new : List ℕ) (r : ℕ) → MarksAfter (marked m) mid new s k r → Walked new r c
     walk-mark m t e new r p =
         name-is _ _ old new s number n b r c (wrap-mark work w tag tag-is inner inner-is m t e)
         (name-both (wrapAt work inner) (marked m) old mid new s number n b k c r c before (name-marked m mid new s number k c r p))
 
-    pub walk-join : (outer : ℕ) → tag ≡ 2 → outer ≡ referenceAt work w 3 → (new : List ℕ) (r d : ℕ) → NameAfter (wrapAt work outer) mid new s number k c r d → Walked new r d
+    pub walk-join : (outer : ℕ) → tag ≡ 2 → outer ≡ referenceAt work w OUTER → (new : List ℕ) (r d : ℕ) → NameAfter (wrapAt work outer) mid new s number k c r d → Walked new r d
     walk-join outer t e new r d p =
         name-is _ _ old new s number n b r d (wrap-join work w tag tag-is inner inner-is outer t e)
         (name-both (wrapAt work inner) (wrapAt work outer) old mid new s number n b k c r d before p)

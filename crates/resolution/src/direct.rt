@@ -3,6 +3,7 @@
 
 ghost use mathlib.Core.Path.{_≡_};
 ghost use mathlib.Core.Bool.{true};
+ghost use Rattle.arena.specs.Offsets.{INNER};
 ghost use Rattle.arena.specs.Arena.{referenceAt};
 ghost use Rattle.resolution.specs.Direct.{SkipsTo, Passes, MarkCell, OneMark, LoneMark, OnlyMark, countOf, Gives, Finds};
 use crate::marks;
@@ -23,7 +24,7 @@ fn is_other_binder(work: &[u32], number: u32, at: u32) -> bool
 
 // Whether a cell leaves the binding of a name of this number as the wrap inside it does: a mark, or a binder of another number.
 fn is_passed(work: &[u32], number: u32, at: u32) -> bool
-    ensures { λ r. ⌜ (r ≡ true → Passes (now (work .entry)) number at (referenceAt (now (work .entry)) at 2)) ⌝ }
+    ensures { λ r. ⌜ (r ≡ true → Passes (now (work .entry)) number at (referenceAt (now (work .entry)) at INNER)) ⌝ }
 {
     if cells::word(work, at, cells::TAG) == cells::MARK {
         return true;

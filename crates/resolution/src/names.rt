@@ -20,22 +20,24 @@ use crate::marks::Compared;
 use crate::wraps;
 use crate::wraps::InHand;
 use arena::cells;
+use arena::cells::Binder;
 use arena::origins;
+use datum::base_names;
 
 // The numbers of the names that begin base forms, and of `...` and `_`.
-pub const QUOTE: u32 = 0;
+pub const QUOTE: u32 = base_names::QUOTE;
 
-pub const IF: u32 = 1;
+pub const IF: u32 = base_names::IF;
 
-pub const LAMBDA: u32 = 2;
+pub const LAMBDA: u32 = base_names::LAMBDA;
 
-pub const LET_SYNTAX: u32 = 3;
+pub const LET_SYNTAX: u32 = base_names::LET_SYNTAX;
 
-pub const LETREC_SYNTAX: u32 = 4;
+pub const LETREC_SYNTAX: u32 = base_names::LETREC_SYNTAX;
 
-pub const ELLIPSIS: u32 = 6;
+pub const ELLIPSIS: u32 = base_names::ELLIPSIS;
 
-pub const WILDCARD: u32 = 7;
+pub const WILDCARD: u32 = base_names::WILDCARD;
 
 const BASE_NAMES: u32 = words::BASE_NAMES as u32;
 
@@ -277,18 +279,17 @@ pub fn bind(work: &mut [u32], top: u32, node: u32, w: u32, key: u32, parent: u32
     let number = number_of(work, node);
     let s = summary_of(work, node, w);
     let own = cells::reference(work, node, cells::OWN);
-    cells::put_binder(
-        work,
-        top,
-        number,
-        s.binding,
-        s.count as u32,
-        s.newest,
-        own,
-        w,
-        key,
-        parent,
-    )
+    let binder = Binder {
+        number: number,
+        binding: s.binding,
+        count: s.count as u32,
+        newest: s.newest,
+        own: own,
+        pending: w,
+        key: key,
+        parent: parent,
+    };
+    cells::put_binder(work, top, binder)
 }
 
 // What a name without a binding means: a base form, an operation by the table of their places, or nothing.

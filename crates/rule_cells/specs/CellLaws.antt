@@ -10,8 +10,9 @@ use lib.ListN.{take}
 use borrow.Author.Tests.{ne-eqb}
 use Rattle.expansion.specs.Rules.{Pattern, variableP, literalP, wildcardP, constantP, emptyP, pairP, ellipsisP, Template, variableT, insertT, constantT, emptyT, pairT, ellipsisT, Rule}
 use Rattle.arena.specs.Arena.{wordAt, falling, referenceAt, wrapAt, wrapFrom, nodeName, nameAt}
-use Rattle.arena.specs.ArenaLaws.{wordAt-below, referenceAt-below, referenceAt-falls, take-less, wrapAt-below}
+use Rattle.arena.specs.ArenaLaws.{Reads, from-below, from-whole, wordAt-below, referenceAt-below, referenceAt-falls, take-less, wrapAt-below}
 use Rattle.arena.specs.NodeLaws.{nameAt-agree}
+use Rattle.rule_cells.specs.Offsets.{TAG, HEAD, REST, PATTERN-NUMBER, FOLLOWING, NUMBER, DEPTH, NODE, WRAP, NEXT}
 use Rattle.words.specs.Lists.{within}
 use Rattle.rule_cells.specs.Cells.{constantBefore, literalAt, patternStep, patternFrom, patternAt, templateStep, templateFrom, templateAt, ruleAt, rulesFrom, rulesAt}
 
@@ -62,71 +63,44 @@ module _ (a b : List ℕ) (at : ℕ) (some-word : 0 < at) (e : take at a ≡ tak
   unfolding ruleAt
   ruleAt-agree p t = rw (child a b at some-word e (patternAt a) (patternAt b) p 3 (omega arith), child a b at some-word e (templateAt a) (templateAt b) t 2 (omega arith))
 
--- any reading of cells in steps, given enough gas: `from` is what gas and a reference mean, `step` one step of it
-module _ {A : Type 0} (from : List ℕ → ℕ → ℕ → A) (step : List ℕ → (ℕ → A) → ℕ → A) (nothing : A) (from-step : (w : List ℕ) (g at : ℕ) → from w (suc g) at ≡ step w (from w g) at) (from-none : (w : List ℕ) (g : ℕ) → from w g 0 ≡ nothing) (step-agree : (a b : List ℕ) (at : ℕ) → 0 < at → take at a ≡ take at b → (f g : ℕ → A) → ((r : ℕ) → r < at → f r ≡ g r) → step a f at ≡ step b g at) where
-  from-empty : (a b : List ℕ) (g h at : ℕ) → at ≡ 0 → from a g at ≡ from b h at
-  from-empty a b g h at e = rw e (from-none a g ∙ sym (from-none b h))
-
-  from-more : (a b : List ℕ) (g h : ℕ) → ((at : ℕ) → at ≤ g → at ≤ h → take at a ≡ take at b → from a g at ≡ from b h at) → (at : ℕ) → at ≤ suc g → at ≤ suc h → take at a ≡ take at b → from a (suc g) at ≡ from b (suc h) at
-  from-more a b g h ih zero p q e = from-empty a b (suc g) (suc h) zero refl
-  from-more a b g h ih (suc at) p q e =
-      from-step a g (suc at)
-      ∙ step-agree a b (suc at) (omega arith) e (from a g) (from b h) (λ r l. ih r (omega arith) (omega arith) (take-less a b r (suc at) (omega arith) e))
-      ∙ sym (from-step b h (suc at))
-
-  from-agree : (a b : List ℕ) (g h at : ℕ) → at ≤ g → at ≤ h → take at a ≡ take at b → from a g at ≡ from b h at
-  from-agree a b zero h at p q e = from-empty a b zero h at (omega arith)
-  from-agree a b (suc g) zero at p q e = from-empty a b (suc g) zero at (omega arith)
-  from-agree a b (suc g) (suc h) at p q e = from-more a b g h (from-agree a b g h) at p q e
-
-  -- the reference itself is gas enough
-  from-below : (a b : List ℕ) (at : ℕ) → take at a ≡ take at b → from a at at ≡ from b at at
-  from-below a b at e = from-agree a b at at at (omega arith) (omega arith) e
-
-  from-whole : (w : List ℕ) (at : ℕ) → 0 < at → from w at at ≡ step w (λ r. from w r r) at
-  from-whole w zero h = absurd (omega arith)
-  from-whole w (suc at) h =
-      from-step w at (suc at)
-      ∙ step-agree w w (suc at) h refl (from w at) (λ r. from w r r) (λ r l. from-agree w w at r r (omega arith) (omega arith) refl)
-
-patternFrom-step : (w : List ℕ) (g at : ℕ) → patternFrom w (suc g) at ≡ patternStep w (patternFrom w g) at
-unfolding patternFrom
-patternFrom-step w g at = refl
-
 patternFrom-none : (w : List ℕ) (g : ℕ) → patternFrom w g 0 ≡ emptyP
 unfolding patternFrom patternStep wordAt within
 patternFrom-none w zero = refl
 patternFrom-none w (suc g) = refl
 
+reads-pattern : (w : List ℕ) → Reads (patternFrom w) (patternStep w) emptyP
+unfolding patternFrom
+reads-pattern w = record { steps = λ g at. refl; ends = patternFrom-none w }
+
 pub patternAt-below : (a b : List ℕ) (at : ℕ) → take at a ≡ take at b → patternAt a at ≡ patternAt b at
 unfolding patternAt
-patternAt-below = from-below patternFrom patternStep emptyP patternFrom-step patternFrom-none patternStep-agree
+patternAt-below a b at e = from-below (reads-pattern a) (reads-pattern b) a b (patternStep-agree a b) at e
 
 patternAt-whole : (w : List ℕ) (at : ℕ) → 0 < at → patternAt w at ≡ patternStep w (patternAt w) at
 unfolding patternAt
-patternAt-whole = from-whole patternFrom patternStep emptyP patternFrom-step patternFrom-none patternStep-agree
+patternAt-whole w at h = from-whole (reads-pattern w) (λ n p. patternStep-agree w w n p refl) at h
 
 patternAt-step : (w : List ℕ) (at : ℕ) → patternAt w at ≡ patternStep w (patternAt w) at
 unfolding patternAt patternFrom patternStep wordAt within
 patternAt-step w zero = refl
 patternAt-step w (suc at) = patternAt-whole w (suc at) (omega arith)
 
-templateFrom-step : (w : List ℕ) (g at : ℕ) → templateFrom w (suc g) at ≡ templateStep w (templateFrom w g) at
-unfolding templateFrom
-templateFrom-step w g at = refl
-
 templateFrom-none : (w : List ℕ) (g : ℕ) → templateFrom w g 0 ≡ emptyT
 unfolding templateFrom templateStep wordAt within
 templateFrom-none w zero = refl
 templateFrom-none w (suc g) = refl
 
+reads-template : (w : List ℕ) → Reads (templateFrom w) (templateStep w) emptyT
+unfolding templateFrom
+reads-template w = record { steps = λ g at. refl; ends = templateFrom-none w }
+
 pub templateAt-below : (a b : List ℕ) (at : ℕ) → take at a ≡ take at b → templateAt a at ≡ templateAt b at
 unfolding templateAt
-templateAt-below = from-below templateFrom templateStep emptyT templateFrom-step templateFrom-none templateStep-agree
+templateAt-below a b at e = from-below (reads-template a) (reads-template b) a b (templateStep-agree a b) at e
 
 templateAt-whole : (w : List ℕ) (at : ℕ) → 0 < at → templateAt w at ≡ templateStep w (templateAt w) at
 unfolding templateAt
-templateAt-whole = from-whole templateFrom templateStep emptyT templateFrom-step templateFrom-none templateStep-agree
+templateAt-whole w at h = from-whole (reads-template w) (λ n p. templateStep-agree w w n p refl) at h
 
 templateAt-step : (w : List ℕ) (at : ℕ) → templateAt w at ≡ templateStep w (templateAt w) at
 unfolding templateAt templateFrom templateStep wordAt within
@@ -135,7 +109,7 @@ templateAt-step w (suc at) = templateAt-whole w (suc at) (omega arith)
 
 -- one rule, then those after it
 rulesStep : List ℕ → (ℕ → List Rule) → ℕ → List Rule
-rulesStep w later at = cond (eqb at 0) [] (ruleAt w at ∷ later (referenceAt w at 1))
+rulesStep w later at = cond (eqb at 0) [] (ruleAt w at ∷ later (referenceAt w at NEXT))
 
 rulesStep-agree : (a b : List ℕ) (at : ℕ) → 0 < at → take at a ≡ take at b → (f g : ℕ → List Rule) → ((r : ℕ) → r < at → f r ≡ g r) → rulesStep a f at ≡ rulesStep b g at
 unfolding rulesStep
@@ -143,79 +117,79 @@ rulesStep-agree a b at some-word e f g agree =
     let under : (r : ℕ) → r < at → take r a ≡ take r b = λ r l. take-less a b r at (omega arith) e in
     rw (ruleAt-agree a b at some-word e (λ r l. patternAt-below a b r (under r l)) (λ r l. templateAt-below a b r (under r l)), child a b at some-word e f g agree 1 (omega arith))
 
-rulesFrom-step : (w : List ℕ) (g at : ℕ) → rulesFrom w (suc g) at ≡ rulesStep w (rulesFrom w g) at
-unfolding rulesFrom rulesStep
-rulesFrom-step w g at = refl
-
 rulesFrom-none : (w : List ℕ) (g : ℕ) → rulesFrom w g 0 ≡ []
 unfolding rulesFrom
 rulesFrom-none w zero = refl
 rulesFrom-none w (suc g) = refl
 
+reads-rules : (w : List ℕ) → Reads (rulesFrom w) (rulesStep w) []
+unfolding rulesFrom rulesStep
+reads-rules w = record { steps = λ g at. refl; ends = rulesFrom-none w }
+
 pub rulesAt-below : (a b : List ℕ) (at : ℕ) → take at a ≡ take at b → rulesAt a at ≡ rulesAt b at
 unfolding rulesAt
-rulesAt-below = from-below rulesFrom rulesStep [] rulesFrom-step rulesFrom-none rulesStep-agree
+rulesAt-below a b at e = from-below (reads-rules a) (reads-rules b) a b (rulesStep-agree a b) at e
 
 rulesAt-whole : (w : List ℕ) (at : ℕ) → 0 < at → rulesAt w at ≡ rulesStep w (rulesAt w) at
 unfolding rulesAt
-rulesAt-whole = from-whole rulesFrom rulesStep [] rulesFrom-step rulesFrom-none rulesStep-agree
+rulesAt-whole w at h = from-whole (reads-rules w) (λ n p. rulesStep-agree w w n p refl) at h
 
 -- ---- what each cell of a pattern means
 
 module _ (work : List ℕ) (at : ℕ) where
-  pub patternAt-variable : wordAt work at 1 ≡ 1 → patternAt work at ≡ variableP (wordAt work at 2)
+  pub patternAt-variable : wordAt work at TAG ≡ 1 → patternAt work at ≡ variableP (wordAt work at PATTERN-NUMBER)
   unfolding patternStep
   patternAt-variable e = patternAt-step work at ∙ rw e refl
 
-  pub patternAt-literal : wordAt work at 1 ≡ 2 → patternAt work at ≡ literalP (literalAt work at)
+  pub patternAt-literal : wordAt work at TAG ≡ 2 → patternAt work at ≡ literalP (literalAt work at)
   unfolding patternStep
   patternAt-literal e = patternAt-step work at ∙ rw e refl
 
-  pub patternAt-wildcard : wordAt work at 1 ≡ 3 → patternAt work at ≡ wildcardP
+  pub patternAt-wildcard : wordAt work at TAG ≡ 3 → patternAt work at ≡ wildcardP
   unfolding patternStep
   patternAt-wildcard e = patternAt-step work at ∙ rw e refl
 
-  pub patternAt-constant : wordAt work at 1 ≡ 4 → patternAt work at ≡ constantP (constantBefore work at)
+  pub patternAt-constant : wordAt work at TAG ≡ 4 → patternAt work at ≡ constantP (constantBefore work at)
   unfolding patternStep
   patternAt-constant e = patternAt-step work at ∙ rw e refl
 
-  pub patternAt-pair : wordAt work at 1 ≡ 6 → patternAt work at ≡ pairP (patternAt work (referenceAt work at 3)) (patternAt work (referenceAt work at 2))
+  pub patternAt-pair : wordAt work at TAG ≡ 6 → patternAt work at ≡ pairP (patternAt work (referenceAt work at HEAD)) (patternAt work (referenceAt work at REST))
   unfolding patternStep
   patternAt-pair e = patternAt-step work at ∙ rw e refl
 
-  pub patternAt-ellipsis : wordAt work at 1 ≡ 7 → patternAt work at ≡ ellipsisP (patternAt work (referenceAt work at 3)) (wordAt work at 4) (patternAt work (referenceAt work at 2))
+  pub patternAt-ellipsis : wordAt work at TAG ≡ 7 → patternAt work at ≡ ellipsisP (patternAt work (referenceAt work at HEAD)) (wordAt work at FOLLOWING) (patternAt work (referenceAt work at REST))
   unfolding patternStep
   patternAt-ellipsis e = patternAt-step work at ∙ rw e refl
 
   -- any other tag
-  pub patternAt-empty : (wordAt work at 1 ≡ 1 → ⊥) → (wordAt work at 1 ≡ 2 → ⊥) → (wordAt work at 1 ≡ 3 → ⊥) → (wordAt work at 1 ≡ 4 → ⊥) → (wordAt work at 1 ≡ 6 → ⊥) → (wordAt work at 1 ≡ 7 → ⊥) → patternAt work at ≡ emptyP
+  pub patternAt-empty : (wordAt work at TAG ≡ 1 → ⊥) → (wordAt work at TAG ≡ 2 → ⊥) → (wordAt work at TAG ≡ 3 → ⊥) → (wordAt work at TAG ≡ 4 → ⊥) → (wordAt work at TAG ≡ 6 → ⊥) → (wordAt work at TAG ≡ 7 → ⊥) → patternAt work at ≡ emptyP
   unfolding patternStep
   patternAt-empty n1 n2 n3 n4 n6 n7 = patternAt-step work at ∙ rw (ne-eqb _ _ n1, ne-eqb _ _ n2, ne-eqb _ _ n3, ne-eqb _ _ n4, ne-eqb _ _ n6, ne-eqb _ _ n7)
 
   -- ---- what each cell of a template means
 
-  pub templateAt-variable : wordAt work at 1 ≡ 1 → templateAt work at ≡ variableT (wordAt work at 3) (wordAt work at 2)
+  pub templateAt-variable : wordAt work at TAG ≡ 1 → templateAt work at ≡ variableT (wordAt work at NUMBER) (wordAt work at DEPTH)
   unfolding templateStep
   templateAt-variable e = templateAt-step work at ∙ rw e refl
 
-  pub templateAt-insert : wordAt work at 1 ≡ 2 → templateAt work at ≡ insertT (nameAt work (referenceAt work at 3) (referenceAt work at 2))
+  pub templateAt-insert : wordAt work at TAG ≡ 2 → templateAt work at ≡ insertT (nameAt work (referenceAt work at NODE) (referenceAt work at WRAP))
   unfolding templateStep
   templateAt-insert e = templateAt-step work at ∙ rw e refl
 
-  pub templateAt-constant : wordAt work at 1 ≡ 4 → templateAt work at ≡ constantT (constantBefore work at)
+  pub templateAt-constant : wordAt work at TAG ≡ 4 → templateAt work at ≡ constantT (constantBefore work at)
   unfolding templateStep
   templateAt-constant e = templateAt-step work at ∙ rw e refl
 
-  pub templateAt-pair : wordAt work at 1 ≡ 6 → templateAt work at ≡ pairT (templateAt work (referenceAt work at 3)) (templateAt work (referenceAt work at 2))
+  pub templateAt-pair : wordAt work at TAG ≡ 6 → templateAt work at ≡ pairT (templateAt work (referenceAt work at HEAD)) (templateAt work (referenceAt work at REST))
   unfolding templateStep
   templateAt-pair e = templateAt-step work at ∙ rw e refl
 
-  pub templateAt-ellipsis : wordAt work at 1 ≡ 7 → templateAt work at ≡ ellipsisT (templateAt work (referenceAt work at 3)) (templateAt work (referenceAt work at 2))
+  pub templateAt-ellipsis : wordAt work at TAG ≡ 7 → templateAt work at ≡ ellipsisT (templateAt work (referenceAt work at HEAD)) (templateAt work (referenceAt work at REST))
   unfolding templateStep
   templateAt-ellipsis e = templateAt-step work at ∙ rw e refl
 
   -- any other tag
-  pub templateAt-empty : (wordAt work at 1 ≡ 1 → ⊥) → (wordAt work at 1 ≡ 2 → ⊥) → (wordAt work at 1 ≡ 4 → ⊥) → (wordAt work at 1 ≡ 6 → ⊥) → (wordAt work at 1 ≡ 7 → ⊥) → templateAt work at ≡ emptyT
+  pub templateAt-empty : (wordAt work at TAG ≡ 1 → ⊥) → (wordAt work at TAG ≡ 2 → ⊥) → (wordAt work at TAG ≡ 4 → ⊥) → (wordAt work at TAG ≡ 6 → ⊥) → (wordAt work at TAG ≡ 7 → ⊥) → templateAt work at ≡ emptyT
   unfolding templateStep
   templateAt-empty n1 n2 n4 n6 n7 = templateAt-step work at ∙ rw (ne-eqb _ _ n1, ne-eqb _ _ n2, ne-eqb _ _ n4, ne-eqb _ _ n6, ne-eqb _ _ n7)
 
@@ -225,6 +199,6 @@ module _ (work : List ℕ) (at : ℕ) where
   unfolding rulesAt
   rulesAt-none e = rw e (rulesFrom-none work 0)
 
-  pub rulesAt-more : 0 < at → rulesAt work at ≡ ruleAt work at ∷ rulesAt work (referenceAt work at 1)
+  pub rulesAt-more : 0 < at → rulesAt work at ≡ ruleAt work at ∷ rulesAt work (referenceAt work at NEXT)
   unfolding rulesStep
   rulesAt-more h = rulesAt-whole work at h ∙ rw (ne-eqb at 0 (λ z. omega arith))

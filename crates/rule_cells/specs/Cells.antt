@@ -8,30 +8,31 @@ use Rattle.datum.specs.Constant.{Constant}
 use Rattle.recipe.specs.Name.{Name}
 use Rattle.expansion.specs.Rules.{Pattern, variableP, literalP, wildcardP, constantP, emptyP, pairP, ellipsisP, Template, variableT, insertT, constantT, emptyT, pairT, ellipsisT, Rule}
 use Rattle.arena.specs.Arena.{wordAt, referenceAt, bindingOf, nameAt}
+use Rattle.rule_cells.specs.Offsets.{TAG, HEAD, REST, KIND, FIRST, SECOND, PATTERN-NUMBER, FOLLOWING, LITERAL-NODE, LITERAL-WRAP, LITERAL-NUMBER, LITERAL-KEY, NUMBER, DEPTH, NODE, WRAP, PATTERN, TEMPLATE, NEXT}
 
 -- the constant whose three words stand before the tag
 unfoldable pub constantBefore : List ℕ → ℕ → Constant
-constantBefore work at = record { kind = wordAt work at 4; first = wordAt work at 3; second = wordAt work at 2 }
+constantBefore work at = record { kind = wordAt work at KIND; first = wordAt work at FIRST; second = wordAt work at SECOND }
 
 -- ---- patterns
 
 -- a literal's cell keeps what its lookup has found, number and binding, beside its name's node and pending wrap
 unfoldable pub literalAt : List ℕ → ℕ → Name
 literalAt work at =
-    let x = nameAt work (referenceAt work at 5) (referenceAt work at 4) in
-    record { number = wordAt work at 3; item = x .item; produced = x .produced; marks = x .marks; binding = bindingOf (wordAt work at 2) }
+    let x = nameAt work (referenceAt work at LITERAL-NODE) (referenceAt work at LITERAL-WRAP) in
+    record { number = wordAt work at LITERAL-NUMBER; item = x .item; produced = x .produced; marks = x .marks; binding = bindingOf (wordAt work at LITERAL-KEY) }
 
 -- tags: 1 variable (k), 2 literal (node, wrap, number, binding), 3 wildcard, 4 constant (three words), 6 pair (head, tail),
 -- 7 ellipsis (how many elements follow, element, rest); any other the empty list
 unfoldable pub patternStep : List ℕ → (ℕ → Pattern) → ℕ → Pattern
 patternStep work below at =
-    let tag = wordAt work at 1 in
-    cond (eqb tag 1) (variableP (wordAt work at 2))
+    let tag = wordAt work at TAG in
+    cond (eqb tag 1) (variableP (wordAt work at PATTERN-NUMBER))
     (cond (eqb tag 2) (literalP (literalAt work at))
     (cond (eqb tag 3) wildcardP
     (cond (eqb tag 4) (constantP (constantBefore work at))
-    (cond (eqb tag 6) (pairP (below (referenceAt work at 3)) (below (referenceAt work at 2)))
-    (cond (eqb tag 7) (ellipsisP (below (referenceAt work at 3)) (wordAt work at 4) (below (referenceAt work at 2)))
+    (cond (eqb tag 6) (pairP (below (referenceAt work at HEAD)) (below (referenceAt work at REST)))
+    (cond (eqb tag 7) (ellipsisP (below (referenceAt work at HEAD)) (wordAt work at FOLLOWING) (below (referenceAt work at REST)))
     emptyP)))))
 
 -- references fall, so that the reference itself is gas enough
@@ -48,12 +49,12 @@ patternAt work at = patternFrom work at at
 -- any other the empty list
 unfoldable pub templateStep : List ℕ → (ℕ → Template) → ℕ → Template
 templateStep work below at =
-    let tag = wordAt work at 1 in
-    cond (eqb tag 1) (variableT (wordAt work at 3) (wordAt work at 2))
-    (cond (eqb tag 2) (insertT (nameAt work (referenceAt work at 3) (referenceAt work at 2)))
+    let tag = wordAt work at TAG in
+    cond (eqb tag 1) (variableT (wordAt work at NUMBER) (wordAt work at DEPTH))
+    (cond (eqb tag 2) (insertT (nameAt work (referenceAt work at NODE) (referenceAt work at WRAP)))
     (cond (eqb tag 4) (constantT (constantBefore work at))
-    (cond (eqb tag 6) (pairT (below (referenceAt work at 3)) (below (referenceAt work at 2)))
-    (cond (eqb tag 7) (ellipsisT (below (referenceAt work at 3)) (below (referenceAt work at 2)))
+    (cond (eqb tag 6) (pairT (below (referenceAt work at HEAD)) (below (referenceAt work at REST)))
+    (cond (eqb tag 7) (ellipsisT (below (referenceAt work at HEAD)) (below (referenceAt work at REST)))
     emptyT))))
 
 unfoldable pub templateFrom : List ℕ → ℕ → ℕ → Template
@@ -66,11 +67,11 @@ templateAt work at = templateFrom work at at
 -- ---- lists of rules: a rule's pattern, template and the rules after it; 0 is no rule
 
 unfoldable pub ruleAt : List ℕ → ℕ → Rule
-ruleAt work at = record { pattern = patternAt work (referenceAt work at 3); template = templateAt work (referenceAt work at 2) }
+ruleAt work at = record { pattern = patternAt work (referenceAt work at PATTERN); template = templateAt work (referenceAt work at TEMPLATE) }
 
 unfoldable pub rulesFrom : List ℕ → ℕ → ℕ → List Rule
 rulesFrom work zero at = []
-rulesFrom work (suc gas) at = let later = rulesFrom work gas (referenceAt work at 1) in cond (eqb at 0) [] (ruleAt work at ∷ later)
+rulesFrom work (suc gas) at = let later = rulesFrom work gas (referenceAt work at NEXT) in cond (eqb at 0) [] (ruleAt work at ∷ later)
 
 unfoldable pub rulesAt : List ℕ → ℕ → List Rule
 rulesAt work at = rulesFrom work at at

@@ -11,6 +11,7 @@ use Rattle.words.specs.ListLaws.{either}
 use Rattle.recipe.specs.Name.{Name, same, isEllipsis}
 use Rattle.recipe.specs.Tree.{Tree, onPair, onName, elements, tail}
 use Rattle.expansion.specs.Rules.{noEllipsis, dotsNext}
+use Rattle.arena.specs.Offsets.{KIND, HEAD, TAIL}
 use Rattle.arena.specs.Arena.{wordAt, referenceAt, nameAt, treeAt, numberOf}
 use Rattle.arena.specs.NodeLaws.{treeAt-name, treeAt-pair, nameAt-number}
 use Rattle.arena.specs.Lists.{Means}
@@ -47,32 +48,32 @@ module _ (work : List ℕ) (dots w : ℕ) where
   dots-by-number node n e f = sym (dots-default (nameAt work node w) e ∙ rw (nameAt-number work node w, ← f) refl)
 
   module _ (node : ℕ) where
-    pub dots-name : (b : Bool) → wordAt work node 3 ≡ 3 → b ≡ dotsAt work dots w (nameAt work node w) → b ≡ isDots work dots w (treeAt work node w)
+    pub dots-name : (b : Bool) → wordAt work node KIND ≡ 3 → b ≡ dotsAt work dots w (nameAt work node w) → b ≡ isDots work dots w (treeAt work node w)
     unfolding onName
     dots-name b e f = rw (treeAt-name work node w e) f
 
-    pub dots-other : (wordAt work node 3 ≡ 3 → ⊥) → false ≡ isDots work dots w (treeAt work node w)
+    pub dots-other : (wordAt work node KIND ≡ 3 → ⊥) → false ≡ isDots work dots w (treeAt work node w)
     dots-other n = sym (no-name work node w (dotsAt work dots w) false n)
 
-    pub next-pair : (r : ℕ) (b : Bool) → wordAt work node 3 ≡ 4 → r ≡ referenceAt work node 2 → b ≡ isDots work dots w (treeAt work r w) → b ≡ dotsNext (dotsAt work dots w) (treeAt work node w)
+    pub next-pair : (r : ℕ) (b : Bool) → wordAt work node KIND ≡ 4 → r ≡ referenceAt work node HEAD → b ≡ isDots work dots w (treeAt work r w) → b ≡ dotsNext (dotsAt work dots w) (treeAt work node w)
     unfolding dotsNext onPair
     next-pair r b e f d = rw (treeAt-pair work node w e, ← f) d
 
-    pub next-other : (wordAt work node 3 ≡ 4 → ⊥) → false ≡ dotsNext (dotsAt work dots w) (treeAt work node w)
+    pub next-other : (wordAt work node KIND ≡ 4 → ⊥) → false ≡ dotsNext (dotsAt work dots w) (treeAt work node w)
     unfolding dotsNext onPair
     next-other n = no-pair work node _ refl (λ t. false ≡ dotsNext (dotsAt work dots w) t) refl (λ x. refl) (λ a. refl) n w
 
     -- among the elements of a list
-    pub among-end : (wordAt work node 3 ≡ 4 → ⊥) → false ≡ dotsAmong work dots w (treeAt work node w)
+    pub among-end : (wordAt work node KIND ≡ 4 → ⊥) → false ≡ dotsAmong work dots w (treeAt work node w)
     unfolding anyOf
     among-end n = rw (no-elements work node w n) refl
 
-    module _ (first : ℕ) (e : wordAt work node 3 ≡ 4) (f : first ≡ referenceAt work node 2) where
+    module _ (first : ℕ) (e : wordAt work node KIND ≡ 4) (f : first ≡ referenceAt work node HEAD) where
       pub among-here : true ≡ isDots work dots w (treeAt work first w) → true ≡ dotsAmong work dots w (treeAt work node w)
       unfolding anyOf elements
       among-here h = rw (treeAt-pair work node w e, ← f, ← h) refl
 
-      pub among-more : (rest : ℕ) (b : Bool) → rest ≡ referenceAt work node 1 → false ≡ isDots work dots w (treeAt work first w) → b ≡ dotsAmong work dots w (treeAt work rest w) → b ≡ dotsAmong work dots w (treeAt work node w)
+      pub among-more : (rest : ℕ) (b : Bool) → rest ≡ referenceAt work node TAIL → false ≡ isDots work dots w (treeAt work first w) → b ≡ dotsAmong work dots w (treeAt work rest w) → b ≡ dotsAmong work dots w (treeAt work node w)
       unfolding anyOf elements
       among-more rest b g h k = rw (treeAt-pair work node w e, ← f, ← g, ← h) k
 

@@ -11,9 +11,9 @@ use Rattle.expansion.specs.Rules.{Template, variableT, emptyT, pairT, ellipsisT
 use Rattle.arena.specs.Arena.{wordAt, referenceAt}
 use Rattle.words.specs.ListLaws.{either}
 use Rattle.arena.specs.ArenaLaws.{wordAt-some, referenceAt-falls}
+use Rattle.rule_cells.specs.Offsets.{TAG, HEAD, REST, NUMBER, DEPTH}
 use Rattle.rule_cells.specs.Cells.{templateAt}
 use Rattle.rule_cells.specs.CellLaws.{templateAt-variable, templateAt-insert, templateAt-constant, templateAt-pair, templateAt-ellipsis, templateAt-empty}
-use Rattle.rule_cells.specs.Made.{Made}
 
 -- an occurrence in the template drives copies from j ellipses inside
 unfoldable pub drives : ℕ → Template → Bool
@@ -44,27 +44,27 @@ unfolding drives drivers
 drives-ellipsis j e r = some-of (drivers (suc j) e) (drivers j r)
 
 module _ (work : List ℕ) (at j : ℕ) where
-  pub driven-variable : (d : ℕ) → wordAt work at 1 ≡ 1 → d ≡ wordAt work at 2 → Drives work at j (ltb j d)
-  driven-variable d e f = rw f (drives-variable j (wordAt work at 3) (wordAt work at 2)) ∙ sym (ap (drives j) (templateAt-variable work at e))
+  pub driven-variable : (d : ℕ) → wordAt work at TAG ≡ 1 → d ≡ wordAt work at DEPTH → Drives work at j (ltb j d)
+  driven-variable d e f = rw f (drives-variable j (wordAt work at NUMBER) (wordAt work at DEPTH)) ∙ sym (ap (drives j) (templateAt-variable work at e))
 
   driven-leaf : (t : Template) → templateAt work at ≡ t → false ≡ drives j t → false ≡ drives j (templateAt work at)
   driven-leaf t e d = d ∙ sym (ap (drives j) e)
 
-  pub driven-other : (tag : ℕ) → tag ≡ wordAt work at 1 → (tag ≡ 1 → ⊥) → (tag ≡ 6 → ⊥) → (tag ≡ 7 → ⊥) → Drives work at j false
+  pub driven-other : (tag : ℕ) → tag ≡ wordAt work at TAG → (tag ≡ 1 → ⊥) → (tag ≡ 6 → ⊥) → (tag ≡ 7 → ⊥) → Drives work at j false
   unfolding drives drivers
   driven-other tag g n1 n6 n7 =
-      let m1 : wordAt work at 1 ≡ 1 → ⊥ = λ z. n1 (g ∙ z) in
-      let m6 : wordAt work at 1 ≡ 6 → ⊥ = λ z. n6 (g ∙ z) in
-      let m7 : wordAt work at 1 ≡ 7 → ⊥ = λ z. n7 (g ∙ z) in
-      either (eqb (wordAt work at 1) 2)
-      (λ t. driven-leaf _ (templateAt-insert work at (eqb-true (wordAt work at 1) 2 t)) refl)
+      let m1 : wordAt work at TAG ≡ 1 → ⊥ = λ z. n1 (g ∙ z) in
+      let m6 : wordAt work at TAG ≡ 6 → ⊥ = λ z. n6 (g ∙ z) in
+      let m7 : wordAt work at TAG ≡ 7 → ⊥ = λ z. n7 (g ∙ z) in
+      either (eqb (wordAt work at TAG) 2)
+      (λ t. driven-leaf _ (templateAt-insert work at (eqb-true (wordAt work at TAG) 2 t)) refl)
       (λ t.
-      either (eqb (wordAt work at 1) 4)
-      (λ u. driven-leaf _ (templateAt-constant work at (eqb-true (wordAt work at 1) 4 u)) refl)
-      (λ u. driven-leaf emptyT (templateAt-empty work at m1 (eqb-false (wordAt work at 1) 2 t) (eqb-false (wordAt work at 1) 4 u) m6 m7) refl))
+      either (eqb (wordAt work at TAG) 4)
+      (λ u. driven-leaf _ (templateAt-constant work at (eqb-true (wordAt work at TAG) 4 u)) refl)
+      (λ u. driven-leaf emptyT (templateAt-empty work at m1 (eqb-false (wordAt work at TAG) 2 t) (eqb-false (wordAt work at TAG) 4 u) m6 m7) refl))
 
   -- a pair or an ellipsis: its tag says how much deeper its first part lies
-  module _ (tag first rest : ℕ) (g : tag ≡ wordAt work at 1) (low : 6 ≤ tag) (high : tag ≤ 7) (f : first ≡ referenceAt work at 3) (h : rest ≡ referenceAt work at 2) where
+  module _ (tag first rest : ℕ) (g : tag ≡ wordAt work at TAG) (low : 6 ≤ tag) (high : tag ≤ 7) (f : first ≡ referenceAt work at HEAD) (h : rest ≡ referenceAt work at REST) where
     pub driven-falls : (first < at) × (rest < at)
     driven-falls =
         let p : 0 < at = wordAt-some work at 1 (omega arith) (λ z. omega arith) in
@@ -76,12 +76,12 @@ module _ (work : List ℕ) (at j : ℕ) where
         (λ t.
         let e : tag ≡ 6 = eqb-true tag 6 t in
         let z : j + (tag - 6) ≡ j = omega arith in
-        rw (templateAt-pair work at (sym g ∙ e), z, f, h) (drives-pair j (templateAt work (referenceAt work at 3)) (templateAt work (referenceAt work at 2))))
+        rw (templateAt-pair work at (sym g ∙ e), z, f, h) (drives-pair j (templateAt work (referenceAt work at HEAD)) (templateAt work (referenceAt work at REST))))
         (λ t.
         let n : tag ≡ 6 → ⊥ = eqb-false tag 6 t in
         let e : tag ≡ 7 = omega arith in
         let z : j + (tag - 6) ≡ suc j = omega arith in
-        rw (templateAt-ellipsis work at (sym g ∙ e), z, f, h) (drives-ellipsis j (templateAt work (referenceAt work at 3)) (templateAt work (referenceAt work at 2))))
+        rw (templateAt-ellipsis work at (sym g ∙ e), z, f, h) (drives-ellipsis j (templateAt work (referenceAt work at HEAD)) (templateAt work (referenceAt work at REST))))
 
     pub driven-first : Drives work first (j + (tag - 6)) true → Drives work at j true
     driven-first d = sym (driven-parts ∙ ap (λ (b : Bool). b || drives j (templateAt work rest)) (sym d))
@@ -98,12 +98,3 @@ accepted-plain work at dots e = rw e refl
 pub depth-fits : (d here : ℕ) → leb d here ≡ depthFits d here
 unfolding depthFits
 depth-fits d here = refl
-
--- ---- an ellipsis or a pair
-
-module _ (e r : Template) (old new : List ℕ) (top at : ℕ) (dots : Bool) where
-  pub made-dots : dots ≡ true → Made templateAt (ellipsisT e r) old new top at → Made templateAt (cond dots (ellipsisT e r) (pairT e r)) old new top at
-  made-dots d m = record { end = m .end; kept = m .kept; means = m .means ∙ rw d refl }
-
-  pub made-plain : dots ≡ false → Made templateAt (pairT e r) old new top at → Made templateAt (cond dots (ellipsisT e r) (pairT e r)) old new top at
-  made-plain d m = record { end = m .end; kept = m .kept; means = m .means ∙ rw d refl }

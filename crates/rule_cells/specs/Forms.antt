@@ -1,6 +1,6 @@
 -- The shape of a rules form, in the parts that the code tests, and its laws.
 use mathlib.Core.Path.{_≡_, refl, sym, ap, _∙_}
-use mathlib.Core.Bool.{Bool, true, false, not, _&&_}
+use mathlib.Core.Bool.{Bool, true, false, not, _&&_, and-true, and-false}
 use mathlib.Core.List.{List}
 use Prim.Native.Nat.{ℕ, _≤_}
 use native.Mathlib.Omega.{arith}
@@ -14,6 +14,7 @@ use Rattle.recipe.specs.Tree.{Tree, onName, isName, isOrdinaryName, isList, ele
 use Rattle.recipe.specs.TreeLaws.{element-tail}
 use Rattle.expansion.specs.Lookup.{isSyntaxRules}
 use Rattle.expansion.specs.Rules.{afterChosen, literalList, ruleList, ellipsisOf, isLiteral, isRulesForm}
+use Rattle.arena.specs.Offsets.{KIND, HEAD, TAIL}
 use Rattle.arena.specs.Arena.{wordAt, referenceAt, nameAt, treeAt, numberOf}
 use Rattle.arena.specs.NodeLaws.{treeAt-name, treeAt-pair, nameAt-number}
 use Rattle.arena.specs.Lists.{Means, Counts, Tests}
@@ -47,11 +48,11 @@ module _ (work : List ℕ) (dots w node : ℕ) where
   abbrev ds : Name → Bool
   ds = dotsAt work dots w
 
-  pub listed-no : (wordAt work node 3 ≡ 3 → ⊥) → false ≡ isLiteral ds (treeAt work node w)
+  pub listed-no : (wordAt work node KIND ≡ 3 → ⊥) → false ≡ isLiteral ds (treeAt work node w)
   unfolding isLiteral
   listed-no n = sym (no-name work node w (λ x. not (ds x) && not (isWildcard x)) false n)
 
-  module _ (e : wordAt work node 3 ≡ 3) where
+  module _ (e : wordAt work node KIND ≡ 3) where
     pub listed-dots : true ≡ ds (nameAt work node w) → false ≡ isLiteral ds (treeAt work node w)
     unfolding isLiteral onName
     listed-dots d = rw (treeAt-name work node w e, ← d) refl
@@ -60,16 +61,16 @@ module _ (work : List ℕ) (dots w node : ℕ) where
     unfolding isLiteral onName isWildcard
     listed-by n d f = rw (treeAt-name work node w e, ← d, nameAt-number work node w, ← f) refl
 
-  pub all-end : (wordAt work node 3 ≡ 4 → ⊥) → true ≡ literalsAll ds (treeAt work node w)
+  pub all-end : (wordAt work node KIND ≡ 4 → ⊥) → true ≡ literalsAll ds (treeAt work node w)
   unfolding literalsAll allOf
   all-end n = rw (no-elements work node w n) refl
 
-  module _ (first : ℕ) (e : wordAt work node 3 ≡ 4) (f : first ≡ referenceAt work node 2) where
+  module _ (first : ℕ) (e : wordAt work node KIND ≡ 4) (f : first ≡ referenceAt work node HEAD) where
     pub all-no : false ≡ isLiteral ds (treeAt work first w) → false ≡ literalsAll ds (treeAt work node w)
     unfolding literalsAll allOf elements
     all-no h = rw (treeAt-pair work node w e, ← f, ← h) refl
 
-    pub all-more : (rest : ℕ) (r : Bool) → rest ≡ referenceAt work node 1 → true ≡ isLiteral ds (treeAt work first w) → r ≡ literalsAll ds (treeAt work rest w) → r ≡ literalsAll ds (treeAt work node w)
+    pub all-more : (rest : ℕ) (r : Bool) → rest ≡ referenceAt work node TAIL → true ≡ isLiteral ds (treeAt work first w) → r ≡ literalsAll ds (treeAt work rest w) → r ≡ literalsAll ds (treeAt work node w)
     unfolding literalsAll allOf elements
     all-more rest r g h k = rw (treeAt-pair work node w e, ← f, ← g, ← h) k
 
@@ -89,30 +90,30 @@ module _ (work : List ℕ) (dots w node : ℕ) where
 -- ---- the ellipsis of the author's choice
 
 module _ (work : List ℕ) (node : ℕ) where
-  pub chosen-other : (wordAt work node 3 ≡ 3 → ⊥) → Tests chosenGood work node true
+  pub chosen-other : (wordAt work node KIND ≡ 3 → ⊥) → Tests chosenGood work node true
   unfolding chosenGood
   chosen-other n w = sym (no-name work node w isOrdinary true n)
 
-  pub chosen-name : (b : Bool) → wordAt work node 3 ≡ 3 → Tests isOrdinaryName work node b → Tests chosenGood work node b
+  pub chosen-name : (b : Bool) → wordAt work node KIND ≡ 3 → Tests isOrdinaryName work node b → Tests chosenGood work node b
   unfolding chosenGood isOrdinaryName onName
   chosen-name b e h w = h w ∙ rw (treeAt-name work node w e) refl
 
 -- the reference of a name is past 1
-name-far : (work : List ℕ) (node : ℕ) → wordAt work node 3 ≡ 3 → (node ≡ 0 → ⊥) × (node ≡ 1 → ⊥)
+name-far : (work : List ℕ) (node : ℕ) → wordAt work node KIND ≡ 3 → (node ≡ 0 → ⊥) × (node ≡ 1 → ⊥)
 unfolding wordAt within
 name-far work node e = (
-  λ z. let q : wordAt work 0 3 ≡ 3 = ap (λ (n : ℕ). wordAt work n 3) (sym z) ∙ e in omega (arith, q),
-  λ z. let q : wordAt work 1 3 ≡ 3 = ap (λ (n : ℕ). wordAt work n 3) (sym z) ∙ e in omega (arith, q),
+  λ z. let q : wordAt work 0 KIND ≡ 3 = ap (λ (n : ℕ). wordAt work n KIND) (sym z) ∙ e in omega (arith, q),
+  λ z. let q : wordAt work 1 KIND ≡ 3 = ap (λ (n : ℕ). wordAt work n KIND) (sym z) ∙ e in omega (arith, q),
 )
 
 module _ (work : List ℕ) (node second : ℕ) (s : Means work node second (element 1)) where
-  pub ellipsis-chosen : wordAt work second 3 ≡ 3 → Chosen work node second
+  pub ellipsis-chosen : wordAt work second KIND ≡ 3 → Chosen work node second
   unfolding ellipsisOf onName dotsAt
   ellipsis-chosen e =
       let far = name-far work second e in
       record { is = λ w. rw (← s .is w, treeAt-name work second w e, ne-eqb second 0 (far .0), ne-eqb second 1 (far .1)) refl; low = s .low }
 
-  pub ellipsis-default : (wordAt work second 3 ≡ 3 → ⊥) → Chosen work node 0
+  pub ellipsis-default : (wordAt work second KIND ≡ 3 → ⊥) → Chosen work node 0
   unfolding ellipsisOf dotsAt
   ellipsis-default n = record { is = λ w. rw (← s .is w, no-name work second w same isEllipsis n) refl; low = omega arith }
 
@@ -120,32 +121,24 @@ module _ (work : List ℕ) (node rest second : ℕ) (a : Means work node rest ta
   second-is : (w : ℕ) → element 1 (treeAt work node w) ≡ treeAt work second w
   second-is w = sym (s .is w ∙ ap (element 0) (a .is w) ∙ element-tail 0 (treeAt work node w))
 
-  pub after-chosen : (after : ℕ) → wordAt work second 3 ≡ 3 → Means work rest after tail → Means work node after afterChosen
+  pub after-chosen : (after : ℕ) → wordAt work second KIND ≡ 3 → Means work rest after tail → Means work node after afterChosen
   unfolding afterChosen isName onName
   after-chosen after e m = record { is = λ w. m .is w ∙ ap tail (a .is w) ∙ sym (rw (second-is w, treeAt-name work second w e) refl); low = omega (arith, a .low, m .low) }
 
-  pub after-plain : (wordAt work second 3 ≡ 3 → ⊥) → Means work node rest afterChosen
+  pub after-plain : (wordAt work second KIND ≡ 3 → ⊥) → Means work node rest afterChosen
   unfolding afterChosen isName
   after-plain n = record { is = λ w. a .is w ∙ sym (rw (second-is w, no-name work second w (λ x. true) false n) refl); low = a .low }
 
 -- ---- the head
 
 module _ (work : List ℕ) (node w : ℕ) where
-  pub head-no : (wordAt work node 3 ≡ 3 → ⊥) → false ≡ onName isSyntaxRules false (treeAt work node w)
+  pub head-no : (wordAt work node KIND ≡ 3 → ⊥) → false ≡ onName isSyntaxRules false (treeAt work node w)
   head-no n = sym (no-name work node w isSyntaxRules false n)
 
-  module _ (n : ℕ) (e : wordAt work node 3 ≡ 3) (f : n ≡ numberOf work node) where
+  module _ (n : ℕ) (e : wordAt work node KIND ≡ 3) (f : n ≡ numberOf work node) where
     head-is : onName isSyntaxRules false (treeAt work node w) ≡ (eqb (bindingKey (nameAt work node w .binding)) 0 && eqb n 5)
     unfolding onName isSyntaxRules
     head-is = rw (treeAt-name work node w e, nameAt-number work node w, ← f) refl
-
-    and-false : (b : Bool) → (b && false) ≡ false
-    and-false true = refl
-    and-false false = refl
-
-    and-true : (b : Bool) → (b && true) ≡ b
-    and-true true = refl
-    and-true false = refl
 
     pub head-other : (n ≡ 5 → ⊥) → false ≡ onName isSyntaxRules false (treeAt work node w)
     head-other d = sym (head-is ∙ rw (ne-eqb n 5 d) (and-false (eqb (bindingKey (nameAt work node w .binding)) 0)))

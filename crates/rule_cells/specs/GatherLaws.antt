@@ -9,6 +9,7 @@ use Rattle.words.specs.Lists.{anyOf}
 use Rattle.recipe.specs.Name.{Name, same, isWildcard}
 use Rattle.recipe.specs.Tree.{Tree, name}
 use Rattle.expansion.specs.Rules.{areVariables, dotsNext, depthBefore, isVariable, variables}
+use Rattle.arena.specs.Offsets.{KIND, HEAD, TAIL}
 use Rattle.arena.specs.Arena.{wordAt, referenceAt, nameAt, treeAt}
 use Rattle.words.specs.ListLaws.{either}
 use Rattle.arena.specs.NodeLaws.{treeAt-name, treeAt-pair}
@@ -86,21 +87,21 @@ module _ (work : List ℕ) (w node n : ℕ) (old : List ℕ) where
     pub gathered-one : (x : Name) (new : List ℕ) (r : Kept) → isVariable dots literals x ≡ true → Gathered ((x, d) ∷ []) work w node n old new r → Gathered (variables dots literals d (name x)) work w node n old new r
     gathered-one x new r e g = gathered-is _ _ new r (sym (variables-one dots literals x d e)) g
 
-    pub gathered-name : (new : List ℕ) (r : Kept) → wordAt work node 3 ≡ 3 → Gathered (variables dots literals d (name (nameAt work node w))) work w node n old new r → Gathered (variables dots literals d (treeAt work node w)) work w node n old new r
+    pub gathered-name : (new : List ℕ) (r : Kept) → wordAt work node KIND ≡ 3 → Gathered (variables dots literals d (name (nameAt work node w))) work w node n old new r → Gathered (variables dots literals d (treeAt work node w)) work w node n old new r
     gathered-name new r e g = gathered-is _ _ new r (ap (variables dots literals d) (sym (treeAt-name work node w e))) g
 
-    variables-other : (wordAt work node 3 ≡ 3 → ⊥) → (wordAt work node 3 ≡ 4 → ⊥) → variables dots literals d (treeAt work node w) ≡ []
+    variables-other : (wordAt work node KIND ≡ 3 → ⊥) → (wordAt work node KIND ≡ 4 → ⊥) → variables dots literals d (treeAt work node w) ≡ []
     unfolding variables
     variables-other m k = tree-cases work node w (λ t. variables dots literals d t ≡ []) (λ e. refl) (λ e. absurd (m e)) (λ e. absurd (k e)) (λ p q s. refl)
 
-    pub gathered-other : (wordAt work node 3 ≡ 3 → ⊥) → (wordAt work node 3 ≡ 4 → ⊥) → Held work w old n → Gathered (variables dots literals d (treeAt work node w)) work w node n old old (Count n)
+    pub gathered-other : (wordAt work node KIND ≡ 3 → ⊥) → (wordAt work node KIND ≡ 4 → ⊥) → Held work w old n → Gathered (variables dots literals d (treeAt work node w)) work w node n old old (Count n)
     gathered-other m k h = gathered-is [] _ old (Count n) (sym (variables-other m k)) (gathered-none h)
 
     pub gathering-begins : Held work w old n → Gathering dots literals d work w node n old node n old
     gathering-begins h = record { low = omega arith; held = h; all = λ last r k. k }
 
     -- a pair: the variables of its head, then those of its tail
-    module _ (head rest inner : ℕ) (e : wordAt work node 3 ≡ 4) (f : head ≡ referenceAt work node 2) (g : rest ≡ referenceAt work node 1) (deeper : Deeper dots (treeAt work rest w) d inner) where
+    module _ (head rest inner : ℕ) (e : wordAt work node KIND ≡ 4) (f : head ≡ referenceAt work node HEAD) (g : rest ≡ referenceAt work node TAIL) (deeper : Deeper dots (treeAt work rest w) d inner) where
       abbrev first : List (Name × ℕ)
       first = variables dots literals inner (treeAt work head w)
 

@@ -1,10 +1,12 @@
 -- Rules as cells of the arena: what the cells of patterns, templates and rules mean, and its laws.
+pub mod Offsets
 pub mod Cells
 pub mod CellLaws
 pub mod Made
 pub mod MadeLaws
 pub mod Dots
 pub mod Variables
+pub mod Scopes
 pub mod VariableLaws
 pub mod GatherLaws
 pub mod Parse

@@ -1,18 +1,20 @@
 -- Laws of new rule cells.
 use mathlib.Core.Path.{_≡_, refl, ap, ap₂, _∙_}
+use mathlib.Core.Bool.{Bool, true, false}
 use mathlib.Core.List.{List, _∷_}
 use Prim.Native.Nat.{ℕ, _+_, _-_, _≤_, _<_}
 use native.Mathlib.Omega.{arith}
 use lib.ListN.{length, getD, take, set, length-set}
 use lib.Seq.{getD-set-same, getD-set-other, take-set-le}
 use Rattle.recipe.specs.Name.{bindingKey}
-use Rattle.expansion.specs.Rules.{Pattern, variableP, literalP, wildcardP, constantP, pairP, ellipsisP, variableT, insertT, constantT, pairT, ellipsisT}
+use Rattle.expansion.specs.Rules.{variableP, literalP, wildcardP, pairP, ellipsisP, variableT, insertT, pairT, ellipsisT}
 use Rattle.arena.specs.Arena.{wordAt, referenceAt, nameAt}
 use Rattle.arena.specs.ArenaLaws.{wordAt-in, take-less, bindingOf-key}
 use Rattle.arena.specs.CellLaws.{reference-is}
+use Rattle.rule_cells.specs.Offsets.{HEAD, REST, LITERAL-NODE, LITERAL-WRAP, NODE, WRAP, PATTERN, TEMPLATE, NEXT}
 use Rattle.rule_cells.specs.Cells.{constantBefore, literalAt, patternAt, templateAt, ruleAt, rulesAt}
 use Rattle.rule_cells.specs.CellLaws.{nameAt-below, patternAt-below, patternAt-variable, patternAt-literal, patternAt-wildcard, patternAt-constant, patternAt-pair, patternAt-ellipsis, templateAt-below, templateAt-variable, templateAt-insert, templateAt-constant, templateAt-pair, templateAt-ellipsis, rulesAt-below, rulesAt-more}
-use Rattle.rule_cells.specs.Made.{Five, Made, MadeLiteral}
+use Rattle.rule_cells.specs.Made.{Five, Made, MadeLiteral, MadeConstant, MadePair, MadeEllipsis, MadeList}
 
 -- ---- five words at the top
 
@@ -93,33 +95,6 @@ module _ (old new : List ℕ) (top r : ℕ) where
   pub made-wildcard : Five 0 0 0 0 3 old new top r → Made patternAt wildcardP old new top r
   made-wildcard c = record { end = c .end; kept = c .kept; means = patternAt-wildcard new r (c .first) }
 
-  pub made-constant : (k a b : ℕ) → Five 0 k a b 4 old new top r → Made patternAt (constantP (record { kind = k; first = a; second = b })) old new top r
-  unfolding constantBefore
-  made-constant k a b c = record { end = c .end; kept = c .kept; means = patternAt-constant new r (c .first) ∙ rw (c .fourth, c .third, c .second) }
-
-  pub made-pair : (head tail : ℕ) → head ≤ top → tail ≤ top → Five 0 0 head tail 6 old new top r → Made patternAt (pairP (patternAt old head) (patternAt old tail)) old new top r
-  made-pair head tail h l c =
-      record {
-        end = c .end;
-        kept = c .kept;
-        means =
-            patternAt-pair new r (c .first)
-            ∙ ap₂ (λ (p q : ℕ). pairP (patternAt new p) (patternAt new q)) (refers old new top r 3 head (c .end) (c .third) h) (refers old new top r 2 tail (c .end) (c .second) l)
-            ∙ ap₂ pairP (pattern-kept old new top (c .kept) head h) (pattern-kept old new top (c .kept) tail l);
-      }
-
-  pub made-ellipsis : (element n rest : ℕ) → element ≤ top → rest ≤ top → Five 0 n element rest 7 old new top r → Made patternAt (ellipsisP (patternAt old element) n (patternAt old rest)) old new top r
-  made-ellipsis element n rest h l c =
-      record {
-        end = c .end;
-        kept = c .kept;
-        means =
-            patternAt-ellipsis new r (c .first)
-            ∙ ap₂ (λ (p q : ℕ). ellipsisP (patternAt new p) (wordAt new r 4) (patternAt new q)) (refers old new top r 3 element (c .end) (c .third) h) (refers old new top r 2 rest (c .end) (c .second) l)
-            ∙ ap (λ (m : ℕ). ellipsisP (patternAt new element) m (patternAt new rest)) (c .fourth)
-            ∙ ap₂ (λ (p q : Pattern). ellipsisP p n q) (pattern-kept old new top (c .kept) element h) (pattern-kept old new top (c .kept) rest l);
-      }
-
   -- the name that a cell refers to
   child-is : (j k node w : ℕ) → r ≡ top + 5 → take top new ≡ take top old → wordAt new r j ≡ node → wordAt new r k ≡ w → node ≤ top → w ≤ top → nameAt new (referenceAt new r j) (referenceAt new r k) ≡ nameAt old node w
   child-is j k node w e kept p q h l =
@@ -128,7 +103,7 @@ module _ (old new : List ℕ) (top r : ℕ) where
   literal-is : (node w number key : ℕ) → node ≤ top → w ≤ top → Five node w number key 2 old new top r → number ≡ nameAt old node w .number → key ≡ bindingKey (nameAt old node w .binding) → literalAt new r ≡ nameAt old node w
   unfolding literalAt
   literal-is node w number key h l c e f =
-      rw (child-is 5 4 node w (c .end) (c .kept) (c .fifth) (c .fourth) h l, c .third, c .second, e, f, bindingOf-key (nameAt old node w .binding))
+      rw (child-is LITERAL-NODE LITERAL-WRAP node w (c .end) (c .kept) (c .fifth) (c .fourth) h l, c .third, c .second, e, f, bindingOf-key (nameAt old node w .binding))
 
   pub made-literal : (node w number key : ℕ) → node ≤ top → w ≤ top → Five node w number key 2 old new top r → MadeLiteral node w number key old new top r
   made-literal node w number key h l c =
@@ -148,34 +123,49 @@ module _ (old new : List ℕ) (top r : ℕ) where
       record {
         end = c .end;
         kept = c .kept;
-        means = templateAt-insert new r (c .first) ∙ ap insertT (child-is 3 2 node w (c .end) (c .kept) (c .third) (c .second) h l);
+        means = templateAt-insert new r (c .first) ∙ ap insertT (child-is NODE WRAP node w (c .end) (c .kept) (c .third) (c .second) h l);
       }
 
-  pub made-constantT : (k a b : ℕ) → Five 0 k a b 4 old new top r → Made templateAt (constantT (record { kind = k; first = a; second = b })) old new top r
+  -- ---- cells that are read as a pattern or as a template
+
+  pub made-constant : (k a b : ℕ) → Five 0 k a b 4 old new top r → MadeConstant (record { kind = k; first = a; second = b }) old new top r
   unfolding constantBefore
-  made-constantT k a b c = record { end = c .end; kept = c .kept; means = templateAt-constant new r (c .first) ∙ rw (c .fourth, c .third, c .second) }
+  made-constant k a b c = (
+    record { end = c .end; kept = c .kept; means = patternAt-constant new r (c .first) ∙ rw (c .fourth, c .third, c .second) },
+    record { end = c .end; kept = c .kept; means = templateAt-constant new r (c .first) ∙ rw (c .fourth, c .third, c .second) },
+  )
 
-  pub made-pairT : (head tail : ℕ) → head ≤ top → tail ≤ top → Five 0 0 head tail 6 old new top r → Made templateAt (pairT (templateAt old head) (templateAt old tail)) old new top r
-  made-pairT head tail h l c =
+  -- a cell of two parts, however it is read
+  made-two : {A : Type 0} (at : List ℕ → ℕ → A) (f : A → A → A) → ((p : ℕ) → p ≤ top → at new p ≡ at old p) → (n tag a b : ℕ) → a ≤ top → b ≤ top → Five 0 n a b tag old new top r
+      → at new r ≡ f (at new (referenceAt new r HEAD)) (at new (referenceAt new r REST)) → Made at (f (at old a) (at old b)) old new top r
+  made-two at f same n tag a b h l c e =
       record {
         end = c .end;
         kept = c .kept;
         means =
-            templateAt-pair new r (c .first)
-            ∙ ap₂ (λ (p q : ℕ). pairT (templateAt new p) (templateAt new q)) (refers old new top r 3 head (c .end) (c .third) h) (refers old new top r 2 tail (c .end) (c .second) l)
-            ∙ ap₂ pairT (template-kept old new top (c .kept) head h) (template-kept old new top (c .kept) tail l);
+            e
+            ∙ ap₂ (λ (p q : ℕ). f (at new p) (at new q)) (refers old new top r HEAD a (c .end) (c .third) h) (refers old new top r REST b (c .end) (c .second) l)
+            ∙ ap₂ f (same a h) (same b l);
       }
 
-  pub made-ellipsisT : (element rest : ℕ) → element ≤ top → rest ≤ top → Five 0 0 element rest 7 old new top r → Made templateAt (ellipsisT (templateAt old element) (templateAt old rest)) old new top r
-  made-ellipsisT element rest h l c =
-      record {
-        end = c .end;
-        kept = c .kept;
-        means =
-            templateAt-ellipsis new r (c .first)
-            ∙ ap₂ (λ (p q : ℕ). ellipsisT (templateAt new p) (templateAt new q)) (refers old new top r 3 element (c .end) (c .third) h) (refers old new top r 2 rest (c .end) (c .second) l)
-            ∙ ap₂ ellipsisT (template-kept old new top (c .kept) element h) (template-kept old new top (c .kept) rest l);
-      }
+  pub made-pair : (head tail : ℕ) → head ≤ top → tail ≤ top → Five 0 0 head tail 6 old new top r → MadePair head tail old new top r
+  made-pair head tail h l c = (
+    made-two patternAt pairP (pattern-kept old new top (c .kept)) 0 6 head tail h l c (patternAt-pair new r (c .first)),
+    made-two templateAt pairT (template-kept old new top (c .kept)) 0 6 head tail h l c (templateAt-pair new r (c .first)),
+  )
+
+  pub made-ellipsis : (element n rest : ℕ) → element ≤ top → rest ≤ top → Five 0 n element rest 7 old new top r → MadeEllipsis element n rest old new top r
+  made-ellipsis element n rest h l c = (
+    made-two patternAt (λ p q. ellipsisP p n q) (pattern-kept old new top (c .kept)) n 7 element rest h l c
+        (patternAt-ellipsis new r (c .first) ∙ ap (λ (m : ℕ). ellipsisP (patternAt new (referenceAt new r HEAD)) m (patternAt new (referenceAt new r REST))) (c .fourth)),
+    made-two templateAt ellipsisT (template-kept old new top (c .kept)) n 7 element rest h l c (templateAt-ellipsis new r (c .first)),
+  )
+
+  pub list-ellipsis : (followed : Bool) (element n rest : ℕ) → followed ≡ true → MadeEllipsis element n rest old new top r → MadeList followed element n rest old new top r
+  list-ellipsis followed element n rest e m = rw e m
+
+  pub list-pair : (followed : Bool) (element n rest : ℕ) → followed ≡ false → MadePair element rest old new top r → MadeList followed element n rest old new top r
+  list-pair followed element n rest e m = rw e m
 
   -- ---- rules
 
@@ -187,5 +177,5 @@ module _ (old new : List ℕ) (top r : ℕ) where
         kept = c .kept;
         means =
             rulesAt-more new r (omega (arith, c .end))
-            ∙ rw (refers old new top r 3 pattern (c .end) (c .third) h, refers old new top r 2 template (c .end) (c .second) l, refers old new top r 1 next (c .end) (c .first) m, pattern-kept old new top (c .kept) pattern h, template-kept old new top (c .kept) template l, rules-kept old new top (c .kept) next m);
+            ∙ rw (refers old new top r PATTERN pattern (c .end) (c .third) h, refers old new top r TEMPLATE template (c .end) (c .second) l, refers old new top r NEXT next (c .end) (c .first) m, pattern-kept old new top (c .kept) pattern h, template-kept old new top (c .kept) template l, rules-kept old new top (c .kept) next m);
       }

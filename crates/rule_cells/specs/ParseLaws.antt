@@ -6,6 +6,7 @@ use native.Mathlib.Omega.{arith}
 use lib.ListN.{length, take}
 use Rattle.recipe.specs.Tree.{Tree, pair, size}
 use Rattle.recipe.specs.TreeLaws.{size-positive}
+use Rattle.arena.specs.Offsets.{KIND, HEAD, TAIL}
 use Rattle.arena.specs.Arena.{wordAt, referenceAt, treeAt}
 use Rattle.arena.specs.ArenaLaws.{take-less}
 use Rattle.arena.specs.NodeLaws.{treeAt-pair}
@@ -54,7 +55,7 @@ module _ (work : List ℕ) (node w top : ℕ) (asks : Asks work node w top) wher
   pub room-leaf : Room work top 5
   room-leaf = let l = size-positive (treeAt work node w) in record { fits = omega (arith, asks .room .fits); small = omega (arith, asks .room .small) }
 
-  module _ (head rest : ℕ) (e : wordAt work node 3 ≡ 4) (f : head ≡ referenceAt work node 2) (g : rest ≡ referenceAt work node 1) where
+  module _ (head rest : ℕ) (e : wordAt work node KIND ≡ 4) (f : head ≡ referenceAt work node HEAD) (g : rest ≡ referenceAt work node TAIL) where
     pub tree-is : treeAt work node w ≡ pair (treeAt work head w) (treeAt work rest w)
     tree-is = rw (treeAt-pair work node w e, f, g) refl
 
@@ -63,10 +64,10 @@ module _ (work : List ℕ) (node w top : ℕ) (asks : Asks work node w top) wher
     size-is = ap size tree-is
 
     pub head-below : head < node
-    head-below = omega (arith, pair-falls work node 2 e)
+    head-below = omega (arith, pair-falls work node HEAD e)
 
     pub rest-below : rest < node
-    rest-below = omega (arith, pair-falls work node 1 e)
+    rest-below = omega (arith, pair-falls work node TAIL e)
 
     pub asks-head : Asks work head w top
     asks-head =

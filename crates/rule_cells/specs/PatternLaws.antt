@@ -14,6 +14,7 @@ use Rattle.datum.specs.Constant.{Constant}
 use Rattle.recipe.specs.Name.{Name, isWildcard, bindingKey}
 use Rattle.recipe.specs.Tree.{Tree, empty, constant, name, pair, size, names, onName, onPair, elements, tail}
 use Rattle.expansion.specs.Rules.{Pattern, variableP, literalP, wildcardP, constantP, emptyP, pairP, ellipsisP, dotsNext, depthBefore, isVariable, variables, patternOf}
+use Rattle.arena.specs.Offsets.{KIND, HEAD, TAIL, FIRST, SECOND}
 use Rattle.arena.specs.Arena.{wordAt, referenceAt, nameAt, constantAt, treeAt}
 use Rattle.words.specs.ListLaws.{either}
 use Rattle.arena.specs.NodeLaws.{treeAt-empty, treeAt-name, treeAt-constant}
@@ -26,6 +27,7 @@ use Rattle.rule_cells.specs.MadeLaws.{pattern-kept}
 use Rattle.rule_cells.specs.Dots.{dotsAt, dotsAmong, dots-kept}
 use Rattle.rule_cells.specs.Parse.{Asks, Behind, PatternMade, PatternLeft}
 use Rattle.rule_cells.specs.ParseLaws.{grows-nothing, grows-leaf, kept-both, tree-is, size-is, rest-kept, grows-pair}
+use Rattle.rule_cells.specs.declared.rules_form.Form.{Form}
 use Rattle.rule_cells.specs.declared.patterns.Parsed.{Parsed}
 use Rattle.rule_cells.specs.declared.patterns.Parsed.the-variants.{Good, Bad}
 
@@ -85,21 +87,21 @@ module _ (dots : Name → Bool) (literals : List Name) (k : ℕ) (x : Name) wher
 -- ---- leaves
 
 module _ (dots : Name → Bool) (literals : List Name) (k : ℕ) (old : List ℕ) (node w top : ℕ) where
-  pub left-name : (new : List ℕ) (r : Parsed) → wordAt old node 3 ≡ 3 → PatternLeft dots literals k false (name (nameAt old node w)) old new top r → PatternLeft dots literals k false (treeAt old node w) old new top r
+  pub left-name : (new : List ℕ) (r : Parsed) → wordAt old node KIND ≡ 3 → PatternLeft dots literals k false (name (nameAt old node w)) old new top r → PatternLeft dots literals k false (treeAt old node w) old new top r
   left-name new r e g = subst (λ (t : Tree). PatternLeft dots literals k false t old new top r) (sym (treeAt-name old node w e)) g
 
   empty-left : PatternLeft dots literals k false empty old old top (Good 0 top k)
   unfolding patternOf variables
   empty-left = record { means = ap some (sym (patternAt-none old)); counts = omega arith; grows = grows-nothing empty old top }
 
-  pub left-empty : wordAt old node 3 ≡ 0 → PatternLeft dots literals k false (treeAt old node w) old old top (Good 0 top k)
+  pub left-empty : wordAt old node KIND ≡ 0 → PatternLeft dots literals k false (treeAt old node w) old old top (Good 0 top k)
   left-empty e = subst (λ (t : Tree). PatternLeft dots literals k false t old old top (Good 0 top k)) (sym (treeAt-empty old node w e)) empty-left
 
   constant-left : (a : Constant) (new : List ℕ) (r : ℕ) → Made patternAt (constantP a) old new top r → PatternLeft dots literals k false (constant a) old new top (Good r r k)
   unfolding patternOf variables
   constant-left a new r c = record { means = ap some (sym (c .means)); counts = omega arith; grows = grows-leaf (constant a) old new top r (c .end) (c .kept) }
 
-  pub left-constant : (kind first second : ℕ) (new : List ℕ) (r : ℕ) → kind ≡ wordAt old node 3 → first ≡ wordAt old node 2 → second ≡ wordAt old node 1 → (wordAt old node 3 ≡ 0 → ⊥) → (wordAt old node 3 ≡ 3 → ⊥) → (wordAt old node 3 ≡ 4 → ⊥) → Made patternAt (constantP (record { kind = kind; first = first; second = second })) old new top r → PatternLeft dots literals k false (treeAt old node w) old new top (Good r r k)
+  pub left-constant : (kind first second : ℕ) (new : List ℕ) (r : ℕ) → kind ≡ wordAt old node KIND → first ≡ wordAt old node FIRST → second ≡ wordAt old node SECOND → (wordAt old node KIND ≡ 0 → ⊥) → (wordAt old node KIND ≡ 3 → ⊥) → (wordAt old node KIND ≡ 4 → ⊥) → Made patternAt (constantP (record { kind = kind; first = first; second = second })) old new top r → PatternLeft dots literals k false (treeAt old node w) old new top (Good r r k)
   unfolding constantAt
   left-constant kind first second new r e f g n0 n3 n4 c =
       let is : constant (record { kind = kind; first = first; second = second }) ≡ treeAt old node w = rw (e, f, g) (sym (treeAt-constant old node w n0 n3 n4)) in
@@ -209,12 +211,12 @@ module _ (dots : Name → Bool) (literals : List Name) (k : ℕ) (taken : Bool) 
   left-as Bad m = (sym same ∙ m .0, m .1)
 
 -- a leaf may begin after the ellipsis or not
-leaf-taken : (dots : Name → Bool) (literals : List Name) (k : ℕ) (taken : Bool) (old : List ℕ) (node w : ℕ) → (wordAt old node 3 ≡ 4 → ⊥) → patternOf dots literals k false (treeAt old node w) ≡ patternOf dots literals k taken (treeAt old node w)
+leaf-taken : (dots : Name → Bool) (literals : List Name) (k : ℕ) (taken : Bool) (old : List ℕ) (node w : ℕ) → (wordAt old node KIND ≡ 4 → ⊥) → patternOf dots literals k false (treeAt old node w) ≡ patternOf dots literals k taken (treeAt old node w)
 unfolding patternOf
 leaf-taken dots literals k taken old node w n =
     tree-cases old node w (λ t. patternOf dots literals k false t ≡ patternOf dots literals k taken t) (λ e. refl) (λ e. refl) (λ e. absurd (n e)) (λ p q r. refl)
 
-pub left-leaf : (dots : Name → Bool) (literals : List Name) (k : ℕ) (taken : Bool) (old : List ℕ) (node w top : ℕ) (new : List ℕ) (r : Parsed) → (wordAt old node 3 ≡ 4 → ⊥)
+pub left-leaf : (dots : Name → Bool) (literals : List Name) (k : ℕ) (taken : Bool) (old : List ℕ) (node w top : ℕ) (new : List ℕ) (r : Parsed) → (wordAt old node KIND ≡ 4 → ⊥)
     → PatternLeft dots literals k false (treeAt old node w) old new top r → PatternLeft dots literals k taken (treeAt old node w) old new top r
 left-leaf dots literals k taken old node w top new r n m = left-as dots literals k taken _ _ old new top (leaf-taken dots literals k taken old node w n) refl (omega arith) r m
 
@@ -225,53 +227,61 @@ behind-count work rest after n followed m c w e = c .is w ∙ ap (λ (t : Tree).
 pub behind-none : (work : List ℕ) (rest : ℕ) (followed : Bool) → followed ≡ false → Behind work rest followed 0
 behind-none work rest followed e w f = absurd (false≢true (sym e ∙ f))
 
-pub list-ellipsis : (work new : List ℕ) (followed : Bool) (a n b top r : ℕ) → followed ≡ true → Made patternAt (ellipsisP (patternAt work a) n (patternAt work b)) work new top r → Made patternAt (cond followed (ellipsisP (patternAt work a) n (patternAt work b)) (pairP (patternAt work a) (patternAt work b))) work new top r
-list-ellipsis work new followed a n b top r e m = rw e m
+-- a pair of a list of patterns or rules at hand, opened
+pub record PairHere (old : List ℕ) (form : Form) (node top head rest : ℕ) : Type 0 where
+  pub asks : Asks old node (form .wrap) top
+  pub dots-below : form .dots ≤ top
+  pub literals-below : form .literals ≤ top
+  pub is-pair : wordAt old node KIND ≡ 4
+  pub head-is : head ≡ referenceAt old node HEAD
+  pub rest-is : rest ≡ referenceAt old node TAIL
 
-pub list-pair : (work new : List ℕ) (followed : Bool) (a n b top r : ℕ) → followed ≡ false → Made patternAt (pairP (patternAt work a) (patternAt work b)) work new top r → Made patternAt (cond followed (ellipsisP (patternAt work a) n (patternAt work b)) (pairP (patternAt work a) (patternAt work b))) work new top r
-list-pair work new followed a n b top r e m = rw e m
+pub pair-here : (old : List ℕ) (form : Form) (node top : ℕ) {head rest : ℕ} → Asks old node (form .wrap) top → form .dots ≤ top → form .literals ≤ top
+    → wordAt old node KIND ≡ 4 → head ≡ referenceAt old node HEAD → rest ≡ referenceAt old node TAIL → PairHere old form node top head rest
+pair-here old form node top asks dots literals e f g =
+    record { asks = asks; dots-below = dots; literals-below = literals; is-pair = e; head-is = f; rest-is = g }
 
 -- what is left after each way through a pair
-module _ (old : List ℕ) (dots literals node w k top : ℕ) (asks : Asks old node w top) (dots-below : dots ≤ top) (literals-below : literals ≤ top) (head rest : ℕ) (e : wordAt old node 3 ≡ 4) (f : head ≡ referenceAt old node 2) (g : rest ≡ referenceAt old node 1) where
+module _ {old : List ℕ} {form : Form} {node top head rest : ℕ} (here : PairHere old form node top head rest) (k : ℕ) where
   abbrev ds : Name → Bool
-  ds = dotsAt old dots w
+  ds = dotsAt old (form .dots) (form .wrap)
 
   abbrev listed : List Name
-  listed = names (treeAt old literals w)
+  listed = names (treeAt old (form .literals) (form .wrap))
 
   abbrev h : Tree
-  h = treeAt old head w
+  h = treeAt old head (form .wrap)
 
   abbrev s : Tree
-  s = treeAt old rest w
+  s = treeAt old rest (form .wrap)
 
-  whole-is : treeAt old node w ≡ pair h s
-  whole-is = tree-is old node w top asks head rest e f g
+  whole-is : treeAt old node (form .wrap) ≡ pair h s
+  whole-is = tree-is old node (form .wrap) top (here .asks) head rest (here .is-pair) (here .head-is) (here .rest-is)
 
-  whole-size : size (treeAt old node w) ≡ suc (size h + size s)
-  whole-size = size-is old node w top asks head rest e f g
+  whole-size : size (treeAt old node (form .wrap)) ≡ suc (size h + size s)
+  whole-size = size-is old node (form .wrap) top (here .asks) head rest (here .is-pair) (here .head-is) (here .rest-is)
 
-  pub small-head : k + size (treeAt old node w) < 2 ^ 32 → k + size h < 2 ^ 32
+  pub small-head : k + size (treeAt old node (form .wrap)) < 2 ^ 32 → k + size h < 2 ^ 32
   small-head l = omega (arith, whole-size)
 
-  pub small-tail : k + size (treeAt old node w) < 2 ^ 32 → k + size s < 2 ^ 32
+  pub small-tail : k + size (treeAt old node (form .wrap)) < 2 ^ 32 → k + size s < 2 ^ 32
   small-tail l = omega (arith, whole-size)
 
-  pub left-taken : (taken : Bool) (new : List ℕ) (r : Parsed) → taken ≡ true → (taken ≡ true → dotsNext ds (treeAt old node w) ≡ true) → PatternLeft ds listed k false s old new top r → PatternLeft ds listed k taken (treeAt old node w) old new top r
+  pub left-taken : (taken : Bool) (new : List ℕ) (r : Parsed) → taken ≡ true → (taken ≡ true → dotsNext ds (treeAt old node (form .wrap)) ≡ true) → PatternLeft ds listed k false s old new top r → PatternLeft ds listed k taken (treeAt old node (form .wrap)) old new top r
   unfolding dotsNext onPair
   left-taken taken new r q d m =
       let begins : onName ds false h ≡ true = rw whole-is at (d q) in
-      left-as ds listed k taken (treeAt old node w) s old new top (rw (q, whole-is) (sym (pair-taken ds listed k h s begins)))
+      left-as ds listed k taken (treeAt old node (form .wrap)) s old new top (rw (q, whole-is) (sym (pair-taken ds listed k h s begins)))
       (rw whole-is (omega (arith, count-pair ds listed h s, dots-count ds listed h begins))) (omega (arith, whole-size)) r m
 
-  module _ (taken followed : Bool) (untaken : taken ≡ false) (next : followed ≡ dotsNext ds s) where
-    whole : patternOf ds listed k taken (treeAt old node w) ≡ patternOf ds listed k false (pair h s)
+  module _ {taken followed : Bool} (untaken : taken ≡ false) (next : followed ≡ dotsNext ds s) where
+    whole : patternOf ds listed k taken (treeAt old node (form .wrap)) ≡ patternOf ds listed k false (pair h s)
     whole = rw (untaken, whole-is) refl
 
-    pub left-crowded : true ≡ (followed && dotsAmong old dots w (tail s)) → PatternLeft ds listed k taken (treeAt old node w) old old top Bad
-    left-crowded c = (whole ∙ pair-crowded ds listed k h s (c ∙ ap (λ (b : Bool). b && dotsAmong old dots w (tail s)) next), refl)
+    pub left-crowded : true ≡ (followed && dotsAmong old (form .dots) (form .wrap) (tail s)) → PatternLeft ds listed k taken (treeAt old node (form .wrap)) old old top Bad
+    left-crowded c = (whole ∙ pair-crowded ds listed k h s (c ∙ ap (λ (b : Bool). b && dotsAmong old (form .dots) (form .wrap) (tail s)) next), refl)
 
-    pub left-bad : (mid : List ℕ) (r : Parsed) → r ≡ Bad → PatternLeft ds listed k false h old mid top r → PatternLeft ds listed k taken (treeAt old node w) old mid top Bad
+    pub left-bad : (mid : List ℕ) (r : Parsed) → r ≡ Bad → PatternLeft ds listed k false h old mid top r → PatternLeft ds listed k taken (treeAt old node (form .wrap)) old mid top Bad
     left-bad mid r b p =
         let q : PatternLeft ds listed k false h old mid top Bad = subst (λ (z : Parsed). PatternLeft ds listed k false h old mid top z) b p in
         (whole ∙ pair-bad ds listed k h s (q .0), q .1)
@@ -279,33 +289,33 @@ module _ (old : List ℕ) (dots literals node w k top : ℕ) (asks : Asks old no
     pub made-head : (mid : List ℕ) (r : Parsed) (a t n : ℕ) → r ≡ Good a t n → PatternLeft ds listed k false h old mid top r → PatternMade ds listed k false h old mid top a t n
     made-head mid r a t n b p = subst (λ (z : Parsed). PatternLeft ds listed k false h old mid top z) b p
 
-    module _ (mid : List ℕ) (a t n : ℕ) (same-length : length mid ≡ length old) (made : PatternMade ds listed k false h old mid top a t n) where
+    module _ {mid : List ℕ} {a t n : ℕ} (same-length : length mid ≡ length old) (made : PatternMade ds listed k false h old mid top a t n) where
       abbrev again : Tree
-      again = treeAt mid rest w
+      again = treeAt mid rest (form .wrap)
 
       abbrev ds-again : Name → Bool
-      ds-again = dotsAt mid dots w
+      ds-again = dotsAt mid (form .dots) (form .wrap)
 
       abbrev listed-again : List Name
-      listed-again = names (treeAt mid literals w)
+      listed-again = names (treeAt mid (form .literals) (form .wrap))
 
       same-listed : listed-again ≡ listed
-      same-listed = ap names (tree-kept old mid top literals w literals-below (asks .wrap-below) (made .grows .kept))
+      same-listed = ap names (tree-kept old mid top (form .literals) (form .wrap) (here .literals-below) (here .asks .wrap-below) (made .grows .kept))
 
       same-dots : ds-again ≡ ds
-      same-dots = dots-kept old mid top (made .grows .kept) dots w dots-below (asks .wrap-below)
+      same-dots = dots-kept old mid top (made .grows .kept) (form .dots) (form .wrap) (here .dots-below) (here .asks .wrap-below)
 
       s-is : again ≡ s
-      s-is = rest-kept old node w top asks head rest e f g mid a t same-length (made .grows)
+      s-is = rest-kept old node (form .wrap) top (here .asks) head rest (here .is-pair) (here .head-is) (here .rest-is) mid a t same-length (made .grows)
 
-      pub small-rest : k + size (treeAt old node w) < 2 ^ 32 → n + size again < 2 ^ 32
+      pub small-rest : k + size (treeAt old node (form .wrap)) < 2 ^ 32 → n + size again < 2 ^ 32
       small-rest l = rw s-is (omega (arith, whole-size, made .counts, variables-size ds listed 0 h))
 
-      pub literals-still : literals ≤ t
-      literals-still = omega (arith, made .grows .up)
+      pub literals-still : form .literals ≤ t
+      literals-still = omega (arith, here .literals-below, made .grows .up)
 
-      pub dots-still : dots ≤ t
-      dots-still = omega (arith, made .grows .up)
+      pub dots-still : form .dots ≤ t
+      dots-still = omega (arith, here .dots-below, made .grows .up)
 
       pub begins-still : followed ≡ true → dotsNext ds-again again ≡ true
       begins-still q = rw (same-dots, s-is) (sym next ∙ q)
@@ -313,7 +323,7 @@ module _ (old : List ℕ) (dots literals node w k top : ℕ) (asks : Asks old no
       rest-means : patternOf ds-again listed-again n followed again ≡ laterOf ds listed k h s
       rest-means = rw (same-dots, same-listed, s-is, made .counts, next) refl
 
-      pub left-bad-rest : (new : List ℕ) (r : Parsed) → r ≡ Bad → PatternLeft ds-again listed-again n followed again mid new t r → PatternLeft ds listed k taken (treeAt old node w) old new top Bad
+      pub left-bad-rest : (new : List ℕ) (r : Parsed) → r ≡ Bad → PatternLeft ds-again listed-again n followed again mid new t r → PatternLeft ds listed k taken (treeAt old node (form .wrap)) old new top Bad
       left-bad-rest new r b p =
           let q : PatternLeft ds-again listed-again n followed again mid new t Bad = subst (λ (z : Parsed). PatternLeft ds-again listed-again n followed again mid new t z) b p in
           (whole ∙ pair-bad-rest ds listed k h s (patternAt mid a) (made .means) (sym rest-means ∙ q .0), kept-both h old mid new top a t (made .grows) (q .1))
@@ -321,15 +331,15 @@ module _ (old : List ℕ) (dots literals node w k top : ℕ) (asks : Asks old no
       pub made-rest : (last : List ℕ) (r : Parsed) (b u m : ℕ) → r ≡ Good b u m → PatternLeft ds-again listed-again n followed again mid last t r → PatternMade ds-again listed-again n followed again mid last t b u m
       made-rest last r b u m q p = subst (λ (z : Parsed). PatternLeft ds-again listed-again n followed again mid last t z) q p
 
-      pub left-list : (last new : List ℕ) (b u m r c : ℕ) → false ≡ (followed && dotsAmong old dots w (tail s)) → (followed ≡ true → c ≡ length (elements (tail s))) → PatternMade ds-again listed-again n followed again mid last t b u m
-          → Made patternAt (cond followed (ellipsisP (patternAt last a) c (patternAt last b)) (pairP (patternAt last a) (patternAt last b))) last new u r → PatternLeft ds listed k taken (treeAt old node w) old new top (Good r r m)
+      pub left-list : (last new : List ℕ) (b u m r c : ℕ) → false ≡ (followed && dotsAmong old (form .dots) (form .wrap) (tail s)) → (followed ≡ true → c ≡ length (elements (tail s))) → PatternMade ds-again listed-again n followed again mid last t b u m
+          → Made patternAt (cond followed (ellipsisP (patternAt last a) c (patternAt last b)) (pairP (patternAt last a) (patternAt last b))) last new u r → PatternLeft ds listed k taken (treeAt old node (form .wrap)) old new top (Good r r m)
       left-list last new b u m r c lone counted second made-it =
           record {
             means =
                 whole
-                ∙ pair-both ds listed k h s (patternAt mid a) (made .means) (patternAt last b) (lone ∙ ap (λ (z : Bool). z && dotsAmong old dots w (tail s)) next) (sym rest-means ∙ second .means)
+                ∙ pair-both ds listed k h s (patternAt mid a) (made .means) (patternAt last b) (lone ∙ ap (λ (z : Bool). z && dotsAmong old (form .dots) (form .wrap) (tail s)) next) (sym rest-means ∙ second .means)
                 ∙ ap some (ap₂ (λ (z : Bool) (x : Pattern). cond z (ellipsisP x (length (elements (tail s))) (patternAt last b)) (pairP x (patternAt last b))) (sym next) (sym (pattern-kept mid last t (second .grows .kept) a (made .grows .at-most)))
                 ∙ either followed (λ z. rw (z, counted z) refl) (λ z. rw z refl) ∙ sym (made-it .means));
             counts = rw whole-is (let q : m ≡ n + length (variables ds listed 0 s) = (rw (same-dots, same-listed, s-is) at (second .counts)) in omega (arith, made .counts, count-pair ds listed h s));
-            grows = grows-pair old node w top asks head rest e f g mid a t same-length (made .grows) last new b u r (second .grows) (made-it .end) (made-it .kept);
+            grows = grows-pair old node (form .wrap) top (here .asks) head rest (here .is-pair) (here .head-is) (here .rest-is) mid a t same-length (made .grows) last new b u r (second .grows) (made-it .end) (made-it .kept);
           }

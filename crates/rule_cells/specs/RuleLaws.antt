@@ -22,6 +22,7 @@ use Rattle.rule_cells.specs.MadeLaws.{pattern-kept, rules-kept}
 use Rattle.rule_cells.specs.Dots.{dotsAt, dots-kept}
 use Rattle.rule_cells.specs.Variables as kept-is
 use Rattle.rule_cells.specs.Variables.{variablesFrom, Kept, Held, Under, Stored, Gathered}
+use Rattle.rule_cells.specs.declared.rules_form.Form.{Form}
 use Rattle.words.specs.declared.packed.Built.{Built}
 use Rattle.words.specs.declared.packed.Built.the-variants.{At, None}
 use Rattle.rule_cells.specs.Parse.{Asks, PatternMade, PatternLeft, TemplateMade, TemplateLeft}
@@ -57,18 +58,18 @@ pub held-none : (work : List ℕ) (w : ℕ) (vars : List ℕ) → Held work w va
 unfolding variablesFrom areVariables distinct allOf
 held-none work w vars = record { most = omega arith; good = refl }
 
-module _ (old : List ℕ) (dots literals p q w next top : ℕ) (ask : PartsAsk old dots literals p q w next top) where
+module _ {old : List ℕ} {form : Form} {p q next top : ℕ} (ask : PartsAsk old form p q next top) where
   abbrev ds : Name → Bool
-  ds = dotsAt old dots w
+  ds = dotsAt old (form .dots) (form .wrap)
 
   abbrev listed : List Name
-  listed = names (treeAt old literals w)
+  listed = names (treeAt old (form .literals) (form .wrap))
 
   abbrev pt : Tree
-  pt = treeAt old p w
+  pt = treeAt old p (form .wrap)
 
   abbrev qt : Tree
-  qt = treeAt old q w
+  qt = treeAt old q (form .wrap)
 
   abbrev s : ℕ
   s = size pt + size qt + 1
@@ -82,7 +83,7 @@ module _ (old : List ℕ) (dots literals p q w next top : ℕ) (ask : PartsAsk o
   pub small-p : 0 + p < 2 ^ 32
   small-p = omega (arith, ask .p-below, ask .room .small)
 
-  pub asks-p : Asks old p w top
+  pub asks-p : Asks old p (form .wrap) top
   asks-p =
       record {
         node-below = ask .p-below;
@@ -93,10 +94,10 @@ module _ (old : List ℕ) (dots literals p q w next top : ℕ) (ask : PartsAsk o
   pub small-size : 0 + size pt < 2 ^ 32
   small-size = omega (arith, ask .room .small)
 
-  pub left-variables : (vars new : List ℕ) (r : Kept) → r ≡ kept-is.Bad → Gathered (variables ds listed 0 pt) old w p 0 vars new r → RuleLeft o s old old next top None
+  pub left-variables : (vars new : List ℕ) (r : Kept) → r ≡ kept-is.Bad → Gathered (variables ds listed 0 pt) old (form .wrap) p 0 vars new r → RuleLeft o s old old next top None
   unfolding variablesFrom
   left-variables vars new r b g =
-      let h : Gathered (variables ds listed 0 pt) old w p 0 vars new kept-is.Bad = subst (λ (z : Kept). Gathered (variables ds listed 0 pt) old w p 0 vars new z) b g in
+      let h : Gathered (variables ds listed 0 pt) old (form .wrap) p 0 vars new kept-is.Bad = subst (λ (z : Kept). Gathered (variables ds listed 0 pt) old (form .wrap) p 0 vars new z) b g in
       (parts-variables ds listed pt qt (ap areVariables (sym (append-nil (variables ds listed 0 pt))) ∙ h []), refl)
 
   pub left-pattern : (mid : List ℕ) (r : Parsed) → r ≡ parsed.Bad → PatternLeft ds listed 0 false pt old mid top r → RuleLeft o s old mid next top None
@@ -108,8 +109,8 @@ module _ (old : List ℕ) (dots literals p q w next top : ℕ) (ask : PartsAsk o
   made-pattern mid r a t m b g = subst (λ (z : Parsed). PatternLeft ds listed 0 false pt old mid top z) b g
 
   -- after the variables and the pattern
-  module _ (none-yet vars : List ℕ) (n : ℕ) (stored : Stored (variables ds listed 0 pt) old w p 0 none-yet vars n) (mid : List ℕ) (a t m : ℕ) (same-length : length mid ≡ length old) (made : PatternMade ds listed 0 false pt old mid top a t m) where
-    pub dots-still : dots ≤ t
+  module _ {none-yet vars : List ℕ} {n : ℕ} (stored : Stored (variables ds listed 0 pt) old (form .wrap) p 0 none-yet vars n) {mid : List ℕ} {a t m : ℕ} (same-length : length mid ≡ length old) (made : PatternMade ds listed 0 false pt old mid top a t m) where
+    pub dots-still : form .dots ≤ t
     dots-still = omega (arith, ask .dots-below, made .grows .up)
 
     pub under-top : Under vars n t
@@ -118,18 +119,18 @@ module _ (old : List ℕ) (dots literals p q w next top : ℕ) (ask : PartsAsk o
     under-old : Under vars n top
     under-old = stored .under top (ask .p-below) (λ i l. absurd (omega arith))
 
-    variables-are : variablesFrom mid w vars 0 n ≡ variables ds listed 0 pt
+    variables-are : variablesFrom mid (form .wrap) vars 0 n ≡ variables ds listed 0 pt
     unfolding variablesFrom
-    variables-are = variables-kept old mid w top (ask .wrap-below) (made .grows .kept) vars n under-old ∙ stored .list
+    variables-are = variables-kept old mid (form .wrap) top (ask .wrap-below) (made .grows .kept) vars n under-old ∙ stored .list
 
-    q-is : treeAt mid q w ≡ qt
-    q-is = tree-kept old mid top q w (ask .q-below) (ask .wrap-below) (made .grows .kept)
+    q-is : treeAt mid q (form .wrap) ≡ qt
+    q-is = tree-kept old mid top q (form .wrap) (ask .q-below) (ask .wrap-below) (made .grows .kept)
 
     limits : areVariables (variables ds listed 0 pt) ≡ true
     unfolding variablesFrom
     limits = ap areVariables (sym (stored .list)) ∙ stored .held .good
 
-    pub asks-q : Asks mid q w t
+    pub asks-q : Asks mid q (form .wrap) t
     asks-q =
         record {
           node-below = omega (arith, ask .q-below, made .grows .up);
@@ -143,18 +144,18 @@ module _ (old : List ℕ) (dots literals p q w next top : ℕ) (ask : PartsAsk o
     pub small-q : 0 + q < 2 ^ 32
     small-q = omega (arith, ask .q-below, ask .room .small)
 
-    template-is : templateOf (dotsAt mid dots w) (variablesFrom mid w vars 0 n) 0 asElement (treeAt mid q w) ≡ templateOf ds (variables ds listed 0 pt) 0 asElement qt
-    template-is = rw (dots-kept old mid top (made .grows .kept) dots w (ask .dots-below) (ask .wrap-below), variables-are, q-is) refl
+    template-is : templateOf (dotsAt mid (form .dots) (form .wrap)) (variablesFrom mid (form .wrap) vars 0 n) 0 asElement (treeAt mid q (form .wrap)) ≡ templateOf ds (variables ds listed 0 pt) 0 asElement qt
+    template-is = rw (dots-kept old mid top (made .grows .kept) (form .dots) (form .wrap) (ask .dots-below) (ask .wrap-below), variables-are, q-is) refl
 
-    pub left-template : (new : List ℕ) (r : Built) → r ≡ None → TemplateLeft (dotsAt mid dots w) (variablesFrom mid w vars 0 n) 0 asElement (treeAt mid q w) mid new t r → RuleLeft o s old new next top None
+    pub left-template : (new : List ℕ) (r : Built) → r ≡ None → TemplateLeft (dotsAt mid (form .dots) (form .wrap)) (variablesFrom mid (form .wrap) vars 0 n) 0 asElement (treeAt mid q (form .wrap)) mid new t r → RuleLeft o s old new next top None
     left-template new r b g =
-        let h : TemplateLeft (dotsAt mid dots w) (variablesFrom mid w vars 0 n) 0 asElement (treeAt mid q w) mid new t None = subst (λ (z : Built). TemplateLeft (dotsAt mid dots w) (variablesFrom mid w vars 0 n) 0 asElement (treeAt mid q w) mid new t z) b g in
+        let h : TemplateLeft (dotsAt mid (form .dots) (form .wrap)) (variablesFrom mid (form .wrap) vars 0 n) 0 asElement (treeAt mid q (form .wrap)) mid new t None = subst (λ (z : Built). TemplateLeft (dotsAt mid (form .dots) (form .wrap)) (variablesFrom mid (form .wrap) vars 0 n) 0 asElement (treeAt mid q (form .wrap)) mid new t z) b g in
         (parts-template ds listed pt qt (patternAt mid a) (made .means) (sym template-is ∙ h .0), take-less new mid top t (made .grows .up) (h .1) ∙ made .grows .kept)
 
-    pub made-template : (last : List ℕ) (r : Built) (b u : ℕ) → r ≡ At b u → TemplateLeft (dotsAt mid dots w) (variablesFrom mid w vars 0 n) 0 asElement (treeAt mid q w) mid last t r → TemplateMade (dotsAt mid dots w) (variablesFrom mid w vars 0 n) 0 asElement (treeAt mid q w) mid last t b u
-    made-template last r b u e g = subst (λ (z : Built). TemplateLeft (dotsAt mid dots w) (variablesFrom mid w vars 0 n) 0 asElement (treeAt mid q w) mid last t z) e g
+    pub made-template : (last : List ℕ) (r : Built) (b u : ℕ) → r ≡ At b u → TemplateLeft (dotsAt mid (form .dots) (form .wrap)) (variablesFrom mid (form .wrap) vars 0 n) 0 asElement (treeAt mid q (form .wrap)) mid last t r → TemplateMade (dotsAt mid (form .dots) (form .wrap)) (variablesFrom mid (form .wrap) vars 0 n) 0 asElement (treeAt mid q (form .wrap)) mid last t b u
+    made-template last r b u e g = subst (λ (z : Built). TemplateLeft (dotsAt mid (form .dots) (form .wrap)) (variablesFrom mid (form .wrap) vars 0 n) 0 asElement (treeAt mid q (form .wrap)) mid last t z) e g
 
-    module _ (last : List ℕ) (b u : ℕ) (same-last : length last ≡ length mid) (second : TemplateMade (dotsAt mid dots w) (variablesFrom mid w vars 0 n) 0 asElement (treeAt mid q w) mid last t b u) where
+    module _ {last : List ℕ} {b u : ℕ} (same-last : length last ≡ length mid) (second : TemplateMade (dotsAt mid (form .dots) (form .wrap)) (variablesFrom mid (form .wrap) vars 0 n) 0 asElement (treeAt mid q (form .wrap)) mid last t b u) where
       words-two : u ≤ t + 5 * size qt
       words-two = rw q-is at (second .grows .words)
 

@@ -14,6 +14,7 @@ use Rattle.recipe.specs.Name.{Name}
 use Rattle.recipe.specs.Tree.{Tree, empty, constant, name, pair, size, names, onName, onPair, isName, isList, isListOf, elements, element, tail}
 use Rattle.recipe.specs.TreeLaws.{element-tail}
 use Rattle.expansion.specs.Rules.{afterChosen, literalList, ellipsisOf, rulePattern, matchedPart, ruleTemplate, ruleList, Rule, ruleOf, isRulesForm, rulesOf}
+use Rattle.arena.specs.Offsets.{KIND, HEAD, TAIL}
 use Rattle.arena.specs.Arena.{wordAt, referenceAt, nameAt, treeAt}
 use Rattle.words.specs.ListLaws.{either}
 use Rattle.arena.specs.ArenaLaws.{take-less}
@@ -22,12 +23,15 @@ use Rattle.arena.specs.CellLaws.{tree-kept}
 use Rattle.arena.specs.Lists.{Means}
 use Rattle.arena.specs.ListLaws.{no-name, no-elements}
 use Rattle.rule_cells.specs.CellLaws.{rulesAt-none}
+use Rattle.rule_cells.specs.Scopes.{dotsOf, literalsOf}
 use Rattle.rule_cells.specs.Dots.{dotsAt, dots-kept}
 use Rattle.rule_cells.specs.Forms.{Chosen}
+use Rattle.rule_cells.specs.declared.rules_form.Form.{Form}
 use Rattle.words.specs.declared.packed.Built.{Built}
 use Rattle.words.specs.declared.packed.Built.the-variants.{At, None}
 use Rattle.rule_cells.specs.Parse.{Asks}
 use Rattle.rule_cells.specs.ParseLaws.{tree-is, size-is, head-below}
+use Rattle.rule_cells.specs.PatternLaws.{PairHere}
 use Rattle.rule_cells.specs.RuleParse.{ruleShape, partsOf, PartsAsk, RuleLeft, RulesMade, RulesLeft}
 
 -- ---- a rule's shape
@@ -41,11 +45,11 @@ module _ (work : List ℕ) (dots node w : ℕ) where
     first-is : element 0 (rulePattern (treeAt work node w)) ≡ treeAt work first w
     first-is = sym (q .is w ∙ ap (element 0) (p .is w))
 
-    pub shape-other : (wordAt work first 3 ≡ 3 → ⊥) → false ≡ ruleShape (dotsAt work dots w) (treeAt work node w)
+    pub shape-other : (wordAt work first KIND ≡ 3 → ⊥) → false ≡ ruleShape (dotsAt work dots w) (treeAt work node w)
     unfolding ruleShape
     shape-other n = rw (← l, first-is, no-name work first w (λ x. not (dotsAt work dots w x)) false n) refl
 
-    pub shape-by : (b : Bool) → wordAt work first 3 ≡ 3 → b ≡ dotsAt work dots w (nameAt work first w) → not b ≡ ruleShape (dotsAt work dots w) (treeAt work node w)
+    pub shape-by : (b : Bool) → wordAt work first KIND ≡ 3 → b ≡ dotsAt work dots w (nameAt work first w) → not b ≡ ruleShape (dotsAt work dots w) (treeAt work node w)
     unfolding ruleShape onName
     shape-by b e f = rw (← l, first-is, treeAt-name work first w e, ← f) refl
 
@@ -98,30 +102,30 @@ rule-as o o′ s s′ old new next top (At at upper) e l m =
     record { rule = m .rule; is = sym e ∙ m .is; means = m .means; at-most = m .at-most; up = m .up; words = omega (arith, m .words); kept = m .kept }
 rule-as o o′ s s′ old new next top None e l m = (sym e ∙ m .0, m .1)
 
-module _ (old : List ℕ) (dots literals node w next top : ℕ) (asks : Asks old node w top) (dots-below : dots ≤ top) (literals-below : literals ≤ top) (next-below : next ≤ top) where
+module _ (old : List ℕ) (form : Form) (node next top : ℕ) (asks : Asks old node (form .wrap) top) (dots-below : form .dots ≤ top) (literals-below : form .literals ≤ top) (next-below : next ≤ top) where
   abbrev ds : Name → Bool
-  ds = dotsAt old dots w
+  ds = dotsAt old (form .dots) (form .wrap)
 
   abbrev listed : List Name
-  listed = names (treeAt old literals w)
+  listed = names (treeAt old (form .literals) (form .wrap))
 
   abbrev t : Tree
-  t = treeAt old node w
+  t = treeAt old node (form .wrap)
 
   pub left-shape : false ≡ ruleShape ds t → RuleLeft (ruleOf ds listed t) (size t) old old next top None
   left-shape e = (rule-none ds listed t e, refl)
 
   module _ (pattern p after q : ℕ) (shape : true ≡ ruleShape ds t) (a : Means old node pattern (element 0)) (b : Means old pattern p tail) (c : Means old node after tail) (d : Means old after q (element 0)) where
-    p-is : treeAt old p w ≡ matchedPart t
-    p-is = b .is w ∙ ap tail (a .is w)
+    p-is : treeAt old p (form .wrap) ≡ matchedPart t
+    p-is = b .is (form .wrap) ∙ ap tail (a .is (form .wrap))
 
-    q-is : treeAt old q w ≡ ruleTemplate t
-    q-is = d .is w ∙ ap (element 0) (c .is w) ∙ element-tail 0 t
+    q-is : treeAt old q (form .wrap) ≡ ruleTemplate t
+    q-is = d .is (form .wrap) ∙ ap (element 0) (c .is (form .wrap)) ∙ element-tail 0 t
 
-    fits : size (treeAt old p w) + size (treeAt old q w) + 1 ≤ size t
+    fits : size (treeAt old p (form .wrap)) + size (treeAt old q (form .wrap)) + 1 ≤ size t
     fits = rw (p-is, q-is) (shape-size ds t shape)
 
-    pub parts-ask : PartsAsk old dots literals p q w next top
+    pub parts-ask : PartsAsk old form p q next top
     parts-ask =
         record {
           dots-below = dots-below;
@@ -133,7 +137,7 @@ module _ (old : List ℕ) (dots literals node w next top : ℕ) (asks : Asks old
           room = record { fits = omega (arith, asks .room .fits, fits); small = omega (arith, asks .room .small, fits) };
         }
 
-    pub left-parts : (new : List ℕ) (r : Built) → RuleLeft (partsOf ds listed (treeAt old p w) (treeAt old q w)) (size (treeAt old p w) + size (treeAt old q w) + 1) old new next top r → RuleLeft (ruleOf ds listed t) (size t) old new next top r
+    pub left-parts : (new : List ℕ) (r : Built) → RuleLeft (partsOf ds listed (treeAt old p (form .wrap)) (treeAt old q (form .wrap))) (size (treeAt old p (form .wrap)) + size (treeAt old q (form .wrap)) + 1) old new next top r → RuleLeft (ruleOf ds listed t) (size t) old new next top r
     left-parts new r m = rule-as _ _ _ _ old new next top r (rw (p-is, q-is) (rule-is ds listed t shape)) fits m
 
 -- ---- lists of rules
@@ -143,96 +147,89 @@ unfolding mapBoth mapSome
 traverse-bad f none ys e = refl
 traverse-bad f (some x) ys e = rw e refl
 
-module _ (old : List ℕ) (dots literals node w top : ℕ) (asks : Asks old node w top) (dots-below : dots ≤ top) (literals-below : literals ≤ top) where
-  abbrev told : Name → Bool
-  told = dotsAt old dots w
+abbrev answer : List ℕ → Form → Tree → Option (List Rule)
+answer old form t = traverse (ruleOf (dotsOf old form) (literalsOf old form)) (elements t)
 
-  abbrev names-listed : List Name
-  names-listed = names (treeAt old literals w)
+pub left-end : (old : List ℕ) (form : Form) (node top : ℕ) → (wordAt old node KIND ≡ 4 → ⊥) → RulesLeft (answer old form (treeAt old node (form .wrap))) (size (treeAt old node (form .wrap))) old old top (At 0 top)
+unfolding traverse
+left-end old form node top n =
+    record {
+      means = ap (traverse (ruleOf (dotsOf old form) (literalsOf old form))) (no-elements old node (form .wrap) n) ∙ ap some (sym (rulesAt-none old 0 refl));
+      at-most = omega arith;
+      up = omega arith;
+      words = omega arith;
+      kept = refl;
+    }
 
-  abbrev answer : Tree → Option (List Rule)
-  answer t = traverse (ruleOf told names-listed) (elements t)
+module _ {old : List ℕ} {form : Form} {node top head rest : ℕ} (here : PairHere old form node top head rest) where
+  abbrev h : Tree
+  h = treeAt old head (form .wrap)
 
-  pub left-end : (wordAt old node 3 ≡ 4 → ⊥) → RulesLeft (answer (treeAt old node w)) (size (treeAt old node w)) old old top (At 0 top)
-  unfolding traverse
-  left-end n =
-      record {
-        means = ap (traverse (ruleOf told names-listed)) (no-elements old node w n) ∙ ap some (sym (rulesAt-none old 0 refl));
-        at-most = omega arith;
-        up = omega arith;
-        words = omega arith;
-        kept = refl;
-      }
+  abbrev s : Tree
+  s = treeAt old rest (form .wrap)
 
-  module _ (head rest : ℕ) (e : wordAt old node 3 ≡ 4) (f : head ≡ referenceAt old node 2) (g : rest ≡ referenceAt old node 1) where
-    abbrev h : Tree
-    h = treeAt old head w
+  answer-is : answer old form (treeAt old node (form .wrap)) ≡ mapBoth _∷_ (ruleOf (dotsOf old form) (literalsOf old form) h) (answer old form s)
+  unfolding traverse elements
+  answer-is = ap (answer old form) (tree-is old node (form .wrap) top (here .asks) head rest (here .is-pair) (here .head-is) (here .rest-is))
 
-    abbrev s : Tree
-    s = treeAt old rest w
+  pub left-later : (mid : List ℕ) (r : Built) → r ≡ None → RulesLeft (answer old form s) (size s) old mid top r → RulesLeft (answer old form (treeAt old node (form .wrap))) (size (treeAt old node (form .wrap))) old mid top None
+  left-later mid r b p =
+      let q : RulesLeft (answer old form s) (size s) old mid top None = subst (λ (z : Built). RulesLeft (answer old form s) (size s) old mid top z) b p in
+      (answer-is ∙ traverse-bad (ruleOf (dotsOf old form) (literalsOf old form)) (ruleOf (dotsOf old form) (literalsOf old form) h) (answer old form s) (q .0), q .1)
 
-    answer-is : answer (treeAt old node w) ≡ mapBoth _∷_ (ruleOf told names-listed h) (answer s)
-    unfolding traverse elements
-    answer-is = ap answer (tree-is old node w top asks head rest e f g)
+  pub made-later : (mid : List ℕ) (r : Built) (next upper : ℕ) → r ≡ At next upper → RulesLeft (answer old form s) (size s) old mid top r → RulesMade (answer old form s) (size s) old mid top next upper
+  made-later mid r next upper b p = subst (λ (z : Built). RulesLeft (answer old form s) (size s) old mid top z) b p
 
-    pub left-later : (mid : List ℕ) (r : Built) → r ≡ None → RulesLeft (answer s) (size s) old mid top r → RulesLeft (answer (treeAt old node w)) (size (treeAt old node w)) old mid top None
-    left-later mid r b p =
-        let q : RulesLeft (answer s) (size s) old mid top None = subst (λ (z : Built). RulesLeft (answer s) (size s) old mid top z) b p in
-        (answer-is ∙ traverse-bad (ruleOf told names-listed) (ruleOf told names-listed h) (answer s) (q .0), q .1)
+  -- after the later rules
+  module _ {mid : List ℕ} {next upper : ℕ} (same-length : length mid ≡ length old) (made : RulesMade (answer old form s) (size s) old mid top next upper) where
+    head-is : treeAt mid head (form .wrap) ≡ h
+    head-is = tree-kept old mid top head (form .wrap) (omega (arith, head-below old node (form .wrap) top (here .asks) head rest (here .is-pair) (here .head-is) (here .rest-is), here .asks .node-below)) (here .asks .wrap-below) (made .kept)
 
-    pub made-later : (mid : List ℕ) (r : Built) (next upper : ℕ) → r ≡ At next upper → RulesLeft (answer s) (size s) old mid top r → RulesMade (answer s) (size s) old mid top next upper
-    made-later mid r next upper b p = subst (λ (z : Built). RulesLeft (answer s) (size s) old mid top z) b p
+    listed-is : names (treeAt mid (form .literals) (form .wrap)) ≡ literalsOf old form
+    listed-is = ap names (tree-kept old mid top (form .literals) (form .wrap) (here .literals-below) (here .asks .wrap-below) (made .kept))
 
-    -- after the later rules
-    module _ (mid : List ℕ) (next upper : ℕ) (same-length : length mid ≡ length old) (made : RulesMade (answer s) (size s) old mid top next upper) where
-      head-is : treeAt mid head w ≡ h
-      head-is = tree-kept old mid top head w (omega (arith, head-below old node w top asks head rest e f g, asks .node-below)) (asks .wrap-below) (made .kept)
+    whole-size : size (treeAt old node (form .wrap)) ≡ suc (size h + size s)
+    whole-size = size-is old node (form .wrap) top (here .asks) head rest (here .is-pair) (here .head-is) (here .rest-is)
 
-      listed-is : names (treeAt mid literals w) ≡ names-listed
-      listed-is = ap names (tree-kept old mid top literals w literals-below (asks .wrap-below) (made .kept))
+    pub asks-first : Asks mid head (form .wrap) upper
+    asks-first =
+        record {
+          node-below = omega (arith, head-below old node (form .wrap) top (here .asks) head rest (here .is-pair) (here .head-is) (here .rest-is), here .asks .node-below, made .up);
+          wrap-below = omega (arith, here .asks .wrap-below, made .up);
+          room = record {
+            fits = rw head-is (omega (arith, here .asks .room .fits, whole-size, made .words));
+            small = rw head-is (omega (arith, here .asks .room .small, whole-size, made .words));
+          };
+        }
 
-      whole-size : size (treeAt old node w) ≡ suc (size h + size s)
-      whole-size = size-is old node w top asks head rest e f g
+    told-is : dotsAt mid (form .dots) (form .wrap) ≡ dotsOf old form
+    told-is = dots-kept old mid top (made .kept) (form .dots) (form .wrap) (here .dots-below) (here .asks .wrap-below)
 
-      pub asks-first : Asks mid head w upper
-      asks-first =
-          record {
-            node-below = omega (arith, head-below old node w top asks head rest e f g, asks .node-below, made .up);
-            wrap-below = omega (arith, asks .wrap-below, made .up);
-            room = record {
-              fits = rw head-is (omega (arith, asks .room .fits, whole-size, made .words));
-              small = rw head-is (omega (arith, asks .room .small, whole-size, made .words));
-            };
-          }
+    pub dots-still : form .dots ≤ upper
+    dots-still = omega (arith, here .dots-below, made .up)
 
-      told-is : dotsAt mid dots w ≡ told
-      told-is = dots-kept old mid top (made .kept) dots w dots-below (asks .wrap-below)
+    pub literals-still : form .literals ≤ upper
+    literals-still = omega (arith, here .literals-below, made .up)
 
-      pub dots-still : dots ≤ upper
-      dots-still = omega (arith, made .up)
+    abbrev one : Option Rule
+    one = ruleOf (dotsAt mid (form .dots) (form .wrap)) (names (treeAt mid (form .literals) (form .wrap))) (treeAt mid head (form .wrap))
 
-      pub literals-still : literals ≤ upper
-      literals-still = omega (arith, made .up)
+    one-is : one ≡ ruleOf (dotsOf old form) (literalsOf old form) h
+    one-is = rw (told-is, listed-is, head-is) refl
 
-      abbrev one : Option Rule
-      one = ruleOf (dotsAt mid dots w) (names (treeAt mid literals w)) (treeAt mid head w)
-
-      one-is : one ≡ ruleOf told names-listed h
-      one-is = rw (told-is, listed-is, head-is) refl
-
-      pub left-both : (new : List ℕ) (r : Built) → RuleLeft one (size (treeAt mid head w)) mid new next upper r → RulesLeft (answer (treeAt old node w)) (size (treeAt old node w)) old new top r
-      unfolding mapBoth mapSome
-      left-both new (At at higher) m =
-          let words : higher ≤ upper + 5 * size h = rw head-is at (m .words) in
-          record {
-            means = answer-is ∙ ap₂ (mapBoth _∷_) (sym one-is ∙ m .is) (made .means) ∙ ap some (sym (m .means));
-            at-most = m .at-most;
-            up = omega (arith, m .up, made .up);
-            words = omega (arith, made .words, whole-size);
-            kept = take-less new mid top upper (made .up) (m .kept) ∙ made .kept;
-          }
-      left-both new None m =
-          (answer-is ∙ ap₂ (mapBoth _∷_) (sym one-is ∙ m .0) (made .means), take-less new mid top upper (made .up) (m .1) ∙ made .kept)
+    pub left-both : (new : List ℕ) (r : Built) → RuleLeft one (size (treeAt mid head (form .wrap))) mid new next upper r → RulesLeft (answer old form (treeAt old node (form .wrap))) (size (treeAt old node (form .wrap))) old new top r
+    unfolding mapBoth mapSome
+    left-both new (At at higher) m =
+        let words : higher ≤ upper + 5 * size h = rw head-is at (m .words) in
+        record {
+          means = answer-is ∙ ap₂ (mapBoth _∷_) (sym one-is ∙ m .is) (made .means) ∙ ap some (sym (m .means));
+          at-most = m .at-most;
+          up = omega (arith, m .up, made .up);
+          words = omega (arith, made .words, whole-size);
+          kept = take-less new mid top upper (made .up) (m .kept) ∙ made .kept;
+        }
+    left-both new None m =
+        (answer-is ∙ ap₂ (mapBoth _∷_) (sym one-is ∙ m .0) (made .means), take-less new mid top upper (made .up) (m .1) ∙ made .kept)
 
 -- ---- the rules of a form
 
@@ -252,7 +249,7 @@ module _ (old : List ℕ) (node w top : ℕ) (asks : Asks old node w top) where
   pub left-no-form : false ≡ isRulesForm (treeAt old node w) → RulesLeft (rulesOf (treeAt old node w)) (size (treeAt old node w)) old old top None
   left-no-form e = (rules-none (treeAt old node w) e, refl)
 
-  module _ (dots after literals list : ℕ) (c : Chosen old node dots) (a : Means old node after afterChosen) (b : Means old after literals (element 0)) (d : Means old after list tail) where
+  module _ {dots after literals list : ℕ} (c : Chosen old node dots) (a : Means old node after afterChosen) (b : Means old after literals (element 0)) (d : Means old after list tail) where
     literals-are : treeAt old literals w ≡ literalList (treeAt old node w)
     literals-are = b .is w ∙ ap (element 0) (a .is w)
 

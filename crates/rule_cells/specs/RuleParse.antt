@@ -12,6 +12,7 @@ use Rattle.expansion.specs.Rules.{rulePattern, Rule, asElement, areVariables, v
 use Rattle.arena.specs.Arena.{treeAt}
 use Rattle.arena.specs.Cells.{Room}
 use Rattle.rule_cells.specs.Cells.{rulesAt}
+use Rattle.rule_cells.specs.declared.rules_form.Form.{Form}
 use Rattle.words.specs.declared.packed.Built.{Built}
 use Rattle.words.specs.declared.packed.Built.the-variants.{At, None}
 
@@ -25,14 +26,14 @@ partsOf dots literals p q =
     let vs = variables dots literals 0 p in
     onlyIf (areVariables vs) (mapBoth (λ x y. record { pattern = x; template = y }) (patternOf dots literals 0 false p) (templateOf dots vs 0 asElement q))
 
-pub record PartsAsk (work : List ℕ) (dots literals p q w next top : ℕ) : Type 0 where
-  pub dots-below : dots ≤ top
-  pub literals-below : literals ≤ top
+pub record PartsAsk (work : List ℕ) (form : Form) (p q next top : ℕ) : Type 0 where
+  pub dots-below : form .dots ≤ top
+  pub literals-below : form .literals ≤ top
   pub p-below : p ≤ top
   pub q-below : q ≤ top
-  pub wrap-below : w ≤ top
+  pub wrap-below : form .wrap ≤ top
   pub next-below : next ≤ top
-  pub room : Room work top (5 * (size (treeAt work p w) + size (treeAt work q w) + 1) + 1)
+  pub room : Room work top (5 * (size (treeAt work p (form .wrap)) + size (treeAt work q (form .wrap)) + 1) + 1)
 
 -- a rule's cell before those at `next`, for a tree of `items` s
 pub record RuleMade (o : Option Rule) (s : ℕ) (old new : List ℕ) (next top at upper : ℕ) : Type 0 where

@@ -12,6 +12,7 @@ use Rattle.datum.specs.Constant.{Constant}
 use Rattle.recipe.specs.Name.{Name}
 use Rattle.recipe.specs.Tree.{Tree, empty, constant, name, pair, size, onEmpty, onName, onPair, isList, isListOf, elements, element}
 use Rattle.expansion.specs.Rules.{Template, variableT, insertT, constantT, emptyT, pairT, ellipsisT, drivers, isDriven, depthFits, variableFrom, nameTemplate, listTemplate, Place, asElement, asRest, asTaken, asEscaped, noEllipsis, dotsNext, depthBefore, placeAfter, templateOf}
+use Rattle.arena.specs.Offsets.{KIND, HEAD, TAIL, FIRST, SECOND}
 use Rattle.arena.specs.Arena.{wordAt, referenceAt, nameAt, constantAt, treeAt}
 use Rattle.words.specs.ListLaws.{either}
 use Rattle.arena.specs.NodeLaws.{treeAt-empty, treeAt-name, treeAt-constant}
@@ -20,6 +21,7 @@ use Rattle.rule_cells.specs.Made.{Made}
 use Rattle.rule_cells.specs.MadeLaws.{template-kept, name-kept}
 use Rattle.arena.specs.ListLaws.{tree-cases}
 use Rattle.arena.specs.Lists.{Means}
+use Rattle.rule_cells.specs.declared.templates.Scope.{Scope}
 use Rattle.rule_cells.specs.Dots.{dotsAt, dots-kept}
 use Rattle.rule_cells.specs.Variables.{variableAt, variablesFrom, Under, Deeper}
 use Rattle.rule_cells.specs.Drive.{drives}
@@ -78,21 +80,21 @@ module _ (dots : Name → Bool) (vs : List (Name × ℕ)) (d : ℕ) (x : Name) w
 -- ---- leaves
 
 module _ (dots : Name → Bool) (vs : List (Name × ℕ)) (d : ℕ) (old : List ℕ) (node w top : ℕ) where
-  pub left-name : (new : List ℕ) (r : Built) → wordAt old node 3 ≡ 3 → TemplateLeft dots vs d asElement (name (nameAt old node w)) old new top r → TemplateLeft dots vs d asElement (treeAt old node w) old new top r
+  pub left-name : (new : List ℕ) (r : Built) → wordAt old node KIND ≡ 3 → TemplateLeft dots vs d asElement (name (nameAt old node w)) old new top r → TemplateLeft dots vs d asElement (treeAt old node w) old new top r
   left-name new r e g = subst (λ (t : Tree). TemplateLeft dots vs d asElement t old new top r) (sym (treeAt-name old node w e)) g
 
   empty-left : TemplateLeft dots vs d asElement empty old old top (At 0 top)
   unfolding templateOf
   empty-left = record { means = ap some (sym (templateAt-none old)); grows = grows-nothing empty old top }
 
-  pub left-empty : wordAt old node 3 ≡ 0 → TemplateLeft dots vs d asElement (treeAt old node w) old old top (At 0 top)
+  pub left-empty : wordAt old node KIND ≡ 0 → TemplateLeft dots vs d asElement (treeAt old node w) old old top (At 0 top)
   left-empty e = subst (λ (t : Tree). TemplateLeft dots vs d asElement t old old top (At 0 top)) (sym (treeAt-empty old node w e)) empty-left
 
   constant-left : (a : Constant) (new : List ℕ) (r : ℕ) → Made templateAt (constantT a) old new top r → TemplateLeft dots vs d asElement (constant a) old new top (At r r)
   unfolding templateOf
   constant-left a new r c = record { means = ap some (sym (c .means)); grows = grows-leaf (constant a) old new top r (c .end) (c .kept) }
 
-  pub left-constant : (kind first second : ℕ) (new : List ℕ) (r : ℕ) → kind ≡ wordAt old node 3 → first ≡ wordAt old node 2 → second ≡ wordAt old node 1 → (wordAt old node 3 ≡ 0 → ⊥) → (wordAt old node 3 ≡ 3 → ⊥) → (wordAt old node 3 ≡ 4 → ⊥) → Made templateAt (constantT (record { kind = kind; first = first; second = second })) old new top r → TemplateLeft dots vs d asElement (treeAt old node w) old new top (At r r)
+  pub left-constant : (kind first second : ℕ) (new : List ℕ) (r : ℕ) → kind ≡ wordAt old node KIND → first ≡ wordAt old node FIRST → second ≡ wordAt old node SECOND → (wordAt old node KIND ≡ 0 → ⊥) → (wordAt old node KIND ≡ 3 → ⊥) → (wordAt old node KIND ≡ 4 → ⊥) → Made templateAt (constantT (record { kind = kind; first = first; second = second })) old new top r → TemplateLeft dots vs d asElement (treeAt old node w) old new top (At r r)
   unfolding constantAt
   left-constant kind first second new r e f g n0 n3 n4 c =
       let is : constant (record { kind = kind; first = first; second = second }) ≡ treeAt old node w = rw (e, f, g) (sym (treeAt-constant old node w n0 n3 n4)) in
@@ -189,7 +191,7 @@ module _ (old new : List ℕ) (w top : ℕ) (wrap-below : w ≤ top) (kept : tak
   variables-kept n u = variables-from 0 n (λ j l. u j (omega arith))
 
 -- a leaf means the same wherever it stands
-leaf-placed : (dots : Name → Bool) (vs : List (Name × ℕ)) (d : ℕ) (place : Place) (old : List ℕ) (node w : ℕ) → (wordAt old node 3 ≡ 4 → ⊥) → templateOf dots vs d asElement (treeAt old node w) ≡ templateOf dots vs d place (treeAt old node w)
+leaf-placed : (dots : Name → Bool) (vs : List (Name × ℕ)) (d : ℕ) (place : Place) (old : List ℕ) (node w : ℕ) → (wordAt old node KIND ≡ 4 → ⊥) → templateOf dots vs d asElement (treeAt old node w) ≡ templateOf dots vs d place (treeAt old node w)
 unfolding templateOf
 leaf-placed dots vs d place old node w n =
     tree-cases old node w (λ t. templateOf dots vs d asElement t ≡ templateOf dots vs d place t) (λ e. refl) (λ e. refl) (λ e. absurd (n e)) (λ p q r. refl)
@@ -204,124 +206,138 @@ module _ (vs : List (Name × ℕ)) (old new : List ℕ) (top d : ℕ) (dots dots
       }
   left-as None m = (sym same ∙ m .0, m .1)
 
-pub left-leaf : (dots : Name → Bool) (vs : List (Name × ℕ)) (d : ℕ) (place : Place) (old : List ℕ) (node w top : ℕ) (new : List ℕ) (r : Built) → (wordAt old node 3 ≡ 4 → ⊥) → TemplateLeft dots vs d asElement (treeAt old node w) old new top r → TemplateLeft dots vs d place (treeAt old node w) old new top r
+pub left-leaf : (dots : Name → Bool) (vs : List (Name × ℕ)) (d : ℕ) (place : Place) (old : List ℕ) (node w top : ℕ) (new : List ℕ) (r : Built) → (wordAt old node KIND ≡ 4 → ⊥) → TemplateLeft dots vs d asElement (treeAt old node w) old new top r → TemplateLeft dots vs d place (treeAt old node w) old new top r
 left-leaf dots vs d place old node w top new r n m = left-as vs old new top d dots dots place asElement _ _ (leaf-placed dots vs d place old node w n) (omega arith) r m
 
+-- a pair of a template at hand, opened
+pub record TemplateHere (old vars : List ℕ) (scope : Scope) (node top head rest : ℕ) : Type 0 where
+  pub asks : Asks old node (scope .wrap) top
+  pub under : Under vars (scope .count) top
+  pub dots-below : scope .dots ≤ top
+  pub is-pair : wordAt old node KIND ≡ 4
+  pub head-is : head ≡ referenceAt old node HEAD
+  pub rest-is : rest ≡ referenceAt old node TAIL
+
+pub template-here : (old vars : List ℕ) (scope : Scope) (node top : ℕ) {head rest : ℕ} → Asks old node (scope .wrap) top → Under vars (scope .count) top → scope .dots ≤ top
+    → wordAt old node KIND ≡ 4 → head ≡ referenceAt old node HEAD → rest ≡ referenceAt old node TAIL → TemplateHere old vars scope node top head rest
+template-here old vars scope node top asks under dots e f g =
+    record { asks = asks; under = under; dots-below = dots; is-pair = e; head-is = f; rest-is = g }
+
 -- what is left after each way through a pair
-module _ (old : List ℕ) (vars : List ℕ) (count dots node w d top : ℕ) (asks : Asks old node w top) (under : Under vars count top) (dots-below : dots ≤ top) (head rest : ℕ) (e : wordAt old node 3 ≡ 4) (f : head ≡ referenceAt old node 2) (g : rest ≡ referenceAt old node 1) where
+module _ {old vars : List ℕ} {scope : Scope} {node top head rest : ℕ} (here : TemplateHere old vars scope node top head rest) where
   abbrev ds : Name → Bool
-  ds = dotsAt old dots w
+  ds = dotsAt old (scope .dots) (scope .wrap)
 
   abbrev vs : List (Name × ℕ)
-  vs = variablesFrom old w vars 0 count
+  vs = variablesFrom old (scope .wrap) vars 0 (scope .count)
 
   abbrev h : Tree
-  h = treeAt old head w
+  h = treeAt old head (scope .wrap)
 
   abbrev s : Tree
-  s = treeAt old rest w
+  s = treeAt old rest (scope .wrap)
 
-  whole-is : treeAt old node w ≡ pair h s
-  whole-is = tree-is old node w top asks head rest e f g
+  whole-is : treeAt old node (scope .wrap) ≡ pair h s
+  whole-is = tree-is old node (scope .wrap) top (here .asks) head rest (here .is-pair) (here .head-is) (here .rest-is)
 
-  whole-size : size (treeAt old node w) ≡ suc (size h + size s)
-  whole-size = size-is old node w top asks head rest e f g
+  whole-size : size (treeAt old node (scope .wrap)) ≡ suc (size h + size s)
+  whole-size = size-is old node (scope .wrap) top (here .asks) head rest (here .is-pair) (here .head-is) (here .rest-is)
 
-  begins : (b : Bool) → b ≡ dotsNext ds (treeAt old node w) → onName ds false h ≡ b
+  begins : (b : Bool) → b ≡ dotsNext ds (treeAt old node (scope .wrap)) → onName ds false h ≡ b
   unfolding dotsNext onPair
   begins b q = let z : b ≡ dotsNext ds (pair h s) = q ∙ ap (dotsNext ds) whole-is in sym z
 
   -- a whole list that begins with the ellipsis, or not
-  pub left-plain : (new : List ℕ) (r : Built) → false ≡ dotsNext ds (treeAt old node w) → TemplateLeft ds vs d asRest (treeAt old node w) old new top r → TemplateLeft ds vs d asElement (treeAt old node w) old new top r
-  left-plain new r q m = left-as vs old new top d ds ds asElement asRest _ _ (rw whole-is (sym (element-plain ds vs d h s (begins false q)))) (omega arith) r m
+  pub left-plain : (new : List ℕ) (r : Built) → false ≡ dotsNext ds (treeAt old node (scope .wrap)) → TemplateLeft ds vs (scope .d) asRest (treeAt old node (scope .wrap)) old new top r → TemplateLeft ds vs (scope .d) asElement (treeAt old node (scope .wrap)) old new top r
+  left-plain new r q m = left-as vs old new top (scope .d) ds ds asElement asRest _ _ (rw whole-is (sym (element-plain ds vs (scope .d) h s (begins false q)))) (omega arith) r m
 
-  pub left-unescaped : true ≡ dotsNext ds (treeAt old node w) → false ≡ isListOf 1 s → TemplateLeft ds vs d asElement (treeAt old node w) old old top None
-  left-unescaped q l = (ap (templateOf ds vs d asElement) whole-is ∙ element-none ds vs d h s (begins true q) l, refl)
+  pub left-unescaped : true ≡ dotsNext ds (treeAt old node (scope .wrap)) → false ≡ isListOf 1 s → TemplateLeft ds vs (scope .d) asElement (treeAt old node (scope .wrap)) old old top None
+  left-unescaped q l = (ap (templateOf ds vs (scope .d) asElement) whole-is ∙ element-none ds vs (scope .d) h s (begins true q) l, refl)
 
-  module _ (inside : ℕ) (first-is : Means old rest inside (element 0)) where
+  module _ {inside : ℕ} (first-is : Means old rest inside (element 0)) where
     pub inside-below : inside < node
-    inside-below = omega (arith, first-is .low, rest-below old node w top asks head rest e f g)
+    inside-below = omega (arith, first-is .low, rest-below old node (scope .wrap) top (here .asks) head rest (here .is-pair) (here .head-is) (here .rest-is))
 
-    pub asks-inside : Asks old inside w top
+    pub asks-inside : Asks old inside (scope .wrap) top
     asks-inside =
-        let l : size (treeAt old inside w) ≤ size s = rw (first-is .is w) (first-size s) in
+        let l : size (treeAt old inside (scope .wrap)) ≤ size s = rw (first-is .is (scope .wrap)) (first-size s) in
         record {
-          node-below = omega (arith, inside-below, asks .node-below);
-          wrap-below = asks .wrap-below;
-          room = record { fits = omega (arith, asks .room .fits, whole-size); small = omega (arith, asks .room .small, whole-size) };
+          node-below = omega (arith, inside-below, here .asks .node-below);
+          wrap-below = here .asks .wrap-below;
+          room = record { fits = omega (arith, here .asks .room .fits, whole-size); small = omega (arith, here .asks .room .small, whole-size) };
         }
 
     pub some-top : 1 ≤ top
-    some-top = omega (arith, inside-below, asks .node-below)
+    some-top = omega (arith, inside-below, here .asks .node-below)
 
-    pub left-escape : (new : List ℕ) (r : Built) → true ≡ dotsNext ds (treeAt old node w) → true ≡ isListOf 1 s → TemplateLeft (dotsAt old 1 w) vs d asElement (treeAt old inside w) old new top r → TemplateLeft ds vs d asElement (treeAt old node w) old new top r
+    pub left-escape : (new : List ℕ) (r : Built) → true ≡ dotsNext ds (treeAt old node (scope .wrap)) → true ≡ isListOf 1 s → TemplateLeft (dotsAt old 1 (scope .wrap)) vs (scope .d) asElement (treeAt old inside (scope .wrap)) old new top r → TemplateLeft ds vs (scope .d) asElement (treeAt old node (scope .wrap)) old new top r
     unfolding dotsAt
     left-escape new r q l m =
-        left-as vs old new top d ds noEllipsis asElement asElement (treeAt old node w) (treeAt old inside w)
-        (rw (first-is .is w, whole-is) (element-escape ds vs d h s (begins true q) l)) (let z : size (treeAt old inside w) ≤ size s = rw (first-is .is w) (first-size s) in omega (arith, whole-size)) r m
+        left-as vs old new top (scope .d) ds noEllipsis asElement asElement (treeAt old node (scope .wrap)) (treeAt old inside (scope .wrap))
+        (rw (first-is .is (scope .wrap), whole-is) (element-escape ds vs (scope .d) h s (begins true q) l)) (let z : size (treeAt old inside (scope .wrap)) ≤ size s = rw (first-is .is (scope .wrap)) (first-size s) in omega (arith, whole-size)) r m
 
-  pub left-taken : (taken : Bool) (new : List ℕ) (r : Built) → taken ≡ true → TemplateLeft ds vs d (restPlace false) s old new top r → TemplateLeft ds vs d (restPlace taken) (treeAt old node w) old new top r
+  pub left-taken : (taken : Bool) (new : List ℕ) (r : Built) → taken ≡ true → TemplateLeft ds vs (scope .d) (restPlace false) s old new top r → TemplateLeft ds vs (scope .d) (restPlace taken) (treeAt old node (scope .wrap)) old new top r
   unfolding restPlace
-  left-taken taken new r q m = left-as vs old new top d ds ds (restPlace taken) asRest (treeAt old node w) s (rw (q, whole-is) (sym (pair-taken ds vs d h s))) (omega (arith, whole-size)) r m
+  left-taken taken new r q m = left-as vs old new top (scope .d) ds ds (restPlace taken) asRest (treeAt old node (scope .wrap)) s (rw (q, whole-is) (sym (pair-taken ds vs (scope .d) h s))) (omega (arith, whole-size)) r m
 
-  module _ (taken followed : Bool) (inner : ℕ) (untaken : taken ≡ false) (next : followed ≡ dotsNext ds s) (deeper : Deeper ds s d inner) where
-    first-means : templateOf ds vs inner asElement h ≡ firstOf ds vs d h s
+  module _ {taken followed : Bool} {inner : ℕ} (untaken : taken ≡ false) (next : followed ≡ dotsNext ds s) (deeper : Deeper ds s (scope .d) inner) where
+    first-means : templateOf ds vs inner asElement h ≡ firstOf ds vs (scope .d) h s
     first-means = rw deeper refl
 
-    whole : templateOf ds vs d (restPlace taken) (treeAt old node w) ≡ templateOf ds vs d asRest (pair h s)
+    whole : templateOf ds vs (scope .d) (restPlace taken) (treeAt old node (scope .wrap)) ≡ templateOf ds vs (scope .d) asRest (pair h s)
     unfolding restPlace
     whole = rw (untaken, whole-is) refl
 
-    pub left-bad : (mid : List ℕ) (r : Built) → r ≡ None → TemplateLeft ds vs inner asElement h old mid top r → TemplateLeft ds vs d (restPlace taken) (treeAt old node w) old mid top None
+    pub left-bad : (mid : List ℕ) (r : Built) → r ≡ None → TemplateLeft ds vs inner asElement h old mid top r → TemplateLeft ds vs (scope .d) (restPlace taken) (treeAt old node (scope .wrap)) old mid top None
     left-bad mid r b p =
         let q : TemplateLeft ds vs inner asElement h old mid top None = subst (λ (z : Built). TemplateLeft ds vs inner asElement h old mid top z) b p in
-        (whole ∙ pair-bad ds vs d h s (sym first-means ∙ q .0), q .1)
+        (whole ∙ pair-bad ds vs (scope .d) h s (sym first-means ∙ q .0), q .1)
 
     pub made-head : (mid : List ℕ) (r : Built) (a t : ℕ) → r ≡ At a t → TemplateLeft ds vs inner asElement h old mid top r → TemplateMade ds vs inner asElement h old mid top a t
     made-head mid r a t b p = subst (λ (z : Built). TemplateLeft ds vs inner asElement h old mid top z) b p
 
-    module _ (mid : List ℕ) (a t : ℕ) (same-length : length mid ≡ length old) (made : TemplateMade ds vs inner asElement h old mid top a t) where
-      head-means : firstOf ds vs d h s ≡ some (templateAt mid a)
+    module _ {mid : List ℕ} {a t : ℕ} (same-length : length mid ≡ length old) (made : TemplateMade ds vs inner asElement h old mid top a t) where
+      head-means : firstOf ds vs (scope .d) h s ≡ some (templateAt mid a)
       head-means = sym first-means ∙ made .means
 
-      pub left-undriven : false ≡ (not followed || drives 0 (templateAt mid a)) → TemplateLeft ds vs d (restPlace taken) (treeAt old node w) old mid top None
-      left-undriven u = (whole ∙ pair-undriven ds vs d h s (templateAt mid a) head-means (u ∙ ap (λ (b : Bool). not b || drives 0 (templateAt mid a)) next), made .grows .kept)
+      pub left-undriven : false ≡ (not followed || drives 0 (templateAt mid a)) → TemplateLeft ds vs (scope .d) (restPlace taken) (treeAt old node (scope .wrap)) old mid top None
+      left-undriven u = (whole ∙ pair-undriven ds vs (scope .d) h s (templateAt mid a) head-means (u ∙ ap (λ (b : Bool). not b || drives 0 (templateAt mid a)) next), made .grows .kept)
 
-      pub under-still : Under vars count t
-      under-still i l = omega (arith, under i l, made .grows .up)
+      pub under-still : Under vars (scope .count) t
+      under-still i l = omega (arith, here .under i l, made .grows .up)
 
-      pub dots-still : dots ≤ t
-      dots-still = omega (arith, made .grows .up)
+      pub dots-still : scope .dots ≤ t
+      dots-still = omega (arith, here .dots-below, made .grows .up)
 
       abbrev again : Tree
-      again = treeAt mid rest w
+      again = treeAt mid rest (scope .wrap)
 
       abbrev ds-again : Name → Bool
-      ds-again = dotsAt mid dots w
+      ds-again = dotsAt mid (scope .dots) (scope .wrap)
 
       abbrev vs-again : List (Name × ℕ)
-      vs-again = variablesFrom mid w vars 0 count
+      vs-again = variablesFrom mid (scope .wrap) vars 0 (scope .count)
 
-      rest-means : templateOf ds-again vs-again d (restPlace followed) again ≡ laterOf ds vs d h s
+      rest-means : templateOf ds-again vs-again (scope .d) (restPlace followed) again ≡ laterOf ds vs (scope .d) h s
       unfolding restPlace placeAfter
       rest-means =
-          rw (dots-kept old mid top (made .grows .kept) dots w dots-below (asks .wrap-below), variables-kept old mid w top (asks .wrap-below) (made .grows .kept) vars count under, rest-kept old node w top asks head rest e f g mid a t same-length (made .grows), next) refl
+          rw (dots-kept old mid top (made .grows .kept) (scope .dots) (scope .wrap) (here .dots-below) (here .asks .wrap-below), variables-kept old mid (scope .wrap) top (here .asks .wrap-below) (made .grows .kept) vars (scope .count) (here .under), rest-kept old node (scope .wrap) top (here .asks) head rest (here .is-pair) (here .head-is) (here .rest-is) mid a t same-length (made .grows), next) refl
 
-      pub left-bad-rest : (new : List ℕ) (r : Built) → r ≡ None → TemplateLeft ds-again vs-again d (restPlace followed) again mid new t r → TemplateLeft ds vs d (restPlace taken) (treeAt old node w) old new top None
+      pub left-bad-rest : (new : List ℕ) (r : Built) → r ≡ None → TemplateLeft ds-again vs-again (scope .d) (restPlace followed) again mid new t r → TemplateLeft ds vs (scope .d) (restPlace taken) (treeAt old node (scope .wrap)) old new top None
       left-bad-rest new r b p =
-          let q : TemplateLeft ds-again vs-again d (restPlace followed) again mid new t None = subst (λ (z : Built). TemplateLeft ds-again vs-again d (restPlace followed) again mid new t z) b p in
-          (whole ∙ pair-bad-rest ds vs d h s (templateAt mid a) head-means (sym rest-means ∙ q .0), kept-both h old mid new top a t (made .grows) (q .1))
+          let q : TemplateLeft ds-again vs-again (scope .d) (restPlace followed) again mid new t None = subst (λ (z : Built). TemplateLeft ds-again vs-again (scope .d) (restPlace followed) again mid new t z) b p in
+          (whole ∙ pair-bad-rest ds vs (scope .d) h s (templateAt mid a) head-means (sym rest-means ∙ q .0), kept-both h old mid new top a t (made .grows) (q .1))
 
-      pub made-rest : (last : List ℕ) (r : Built) (b u : ℕ) → r ≡ At b u → TemplateLeft ds-again vs-again d (restPlace followed) again mid last t r → TemplateMade ds-again vs-again d (restPlace followed) again mid last t b u
-      made-rest last r b u q p = subst (λ (z : Built). TemplateLeft ds-again vs-again d (restPlace followed) again mid last t z) q p
+      pub made-rest : (last : List ℕ) (r : Built) (b u : ℕ) → r ≡ At b u → TemplateLeft ds-again vs-again (scope .d) (restPlace followed) again mid last t r → TemplateMade ds-again vs-again (scope .d) (restPlace followed) again mid last t b u
+      made-rest last r b u q p = subst (λ (z : Built). TemplateLeft ds-again vs-again (scope .d) (restPlace followed) again mid last t z) q p
 
-      pub left-list : (last new : List ℕ) (b u r : ℕ) → true ≡ (not followed || drives 0 (templateAt mid a)) → TemplateMade ds-again vs-again d (restPlace followed) again mid last t b u → Made templateAt (cond followed (ellipsisT (templateAt last a) (templateAt last b)) (pairT (templateAt last a) (templateAt last b))) last new u r → TemplateLeft ds vs d (restPlace taken) (treeAt old node w) old new top (At r r)
+      pub left-list : (last new : List ℕ) (b u r : ℕ) → true ≡ (not followed || drives 0 (templateAt mid a)) → TemplateMade ds-again vs-again (scope .d) (restPlace followed) again mid last t b u → Made templateAt (cond followed (ellipsisT (templateAt last a) (templateAt last b)) (pairT (templateAt last a) (templateAt last b))) last new u r → TemplateLeft ds vs (scope .d) (restPlace taken) (treeAt old node (scope .wrap)) old new top (At r r)
       left-list last new b u r ok second c =
           let x-is : templateAt last a ≡ templateAt mid a = template-kept mid last t (second .grows .kept) a (made .grows .at-most) in
           record {
             means =
                 whole
-                ∙ pair-both ds vs d h s (templateAt mid a) head-means (templateAt last b) (ok ∙ ap (λ (z : Bool). not z || drives 0 (templateAt mid a)) next) (sym rest-means ∙ second .means)
+                ∙ pair-both ds vs (scope .d) h s (templateAt mid a) head-means (templateAt last b) (ok ∙ ap (λ (z : Bool). not z || drives 0 (templateAt mid a)) next) (sym rest-means ∙ second .means)
                 ∙ ap some (ap₂ (λ (z : Bool) (x : Template). cond z (ellipsisT x (templateAt last b)) (pairT x (templateAt last b))) (sym next) (sym x-is) ∙ sym (c .means));
-            grows = grows-pair old node w top asks head rest e f g mid a t same-length (made .grows) last new b u r (second .grows) (c .end) (c .kept);
+            grows = grows-pair old node (scope .wrap) top (here .asks) head rest (here .is-pair) (here .head-is) (here .rest-is) mid a t same-length (made .grows) last new b u r (second .grows) (c .end) (c .kept);
           }

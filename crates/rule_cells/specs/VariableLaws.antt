@@ -11,10 +11,11 @@ use lib.Seq.{getD-set-same, getD-set-other}
 use borrow.Author.Tests.{le-leb, lt-leb, eqb-true, eqb-false}
 use Rattle.words.specs.Limits.{depthMost}
 use Rattle.words.specs.Lists.{allOf, anyOf}
-use Rattle.words.specs.TestLaws.{and-none-left, and-none-right, and-both, and-left, and-right, or-left, or-right}
+use Rattle.words.specs.TestLaws.{and-none-left, and-none-right, and-both, and-left, and-right, or-left, or-right, any-append}
 use Rattle.recipe.specs.Name.{Name, same, distinct}
 use Rattle.recipe.specs.Tree.{Tree, names}
 use Rattle.expansion.specs.Rules.{variableFrom, areVariables, dotsNext, depthBefore}
+use Rattle.arena.specs.Offsets.{KIND, HEAD, TAIL}
 use Rattle.arena.specs.Arena.{wordAt, referenceAt, nameAt, treeAt}
 use Rattle.words.specs.ListLaws.{either}
 use Rattle.arena.specs.NodeLaws.{treeAt-name, treeAt-pair}
@@ -29,32 +30,23 @@ or-false : (b : Bool) → (b || false) ≡ b
 or-false true = refl
 or-false false = refl
 
-any-append : {A : Type 0} (f : A → Bool) (a b : List A) → anyOf f (a ++ b) ≡ (anyOf f a || anyOf f b)
-unfolding anyOf
-any-append f [] b = refl
-any-append f (x ∷ a) b = rw (any-append f a b) (or-assoc (f x) (anyOf f a) (anyOf f b))
-  where
-    or-assoc : (p q r : Bool) → (p || (q || r)) ≡ ((p || q) || r)
-    or-assoc true q r = refl
-    or-assoc false q r = refl
-
 -- the names of a tree in the arena that pass a test
 module _ (work : List ℕ) (list w : ℕ) (f : Name → Bool) where
-  pub any-name : (b : Bool) → wordAt work list 3 ≡ 3 → b ≡ f (nameAt work list w) → b ≡ anyOf f (names (treeAt work list w))
+  pub any-name : (b : Bool) → wordAt work list KIND ≡ 3 → b ≡ f (nameAt work list w) → b ≡ anyOf f (names (treeAt work list w))
   unfolding anyOf names
   any-name b e h = rw (treeAt-name work list w e, or-false (f (nameAt work list w))) h
 
-  pub any-head : (r : ℕ) → wordAt work list 3 ≡ 4 → r ≡ referenceAt work list 2 → true ≡ anyOf f (names (treeAt work r w)) → true ≡ anyOf f (names (treeAt work list w))
+  pub any-head : (r : ℕ) → wordAt work list KIND ≡ 4 → r ≡ referenceAt work list HEAD → true ≡ anyOf f (names (treeAt work r w)) → true ≡ anyOf f (names (treeAt work list w))
   unfolding names
   any-head r e g h =
-      rw (treeAt-pair work list w e, ← g, any-append f (names (treeAt work r w)) (names (treeAt work (referenceAt work list 1) w)), ← h) refl
+      rw (treeAt-pair work list w e, ← g, any-append f (names (treeAt work r w)) (names (treeAt work (referenceAt work list TAIL) w)), ← h) refl
 
-  pub any-rest : (r s : ℕ) (b : Bool) → wordAt work list 3 ≡ 4 → r ≡ referenceAt work list 2 → s ≡ referenceAt work list 1 → false ≡ anyOf f (names (treeAt work r w)) → b ≡ anyOf f (names (treeAt work s w)) → b ≡ anyOf f (names (treeAt work list w))
+  pub any-rest : (r s : ℕ) (b : Bool) → wordAt work list KIND ≡ 4 → r ≡ referenceAt work list HEAD → s ≡ referenceAt work list TAIL → false ≡ anyOf f (names (treeAt work r w)) → b ≡ anyOf f (names (treeAt work s w)) → b ≡ anyOf f (names (treeAt work list w))
   unfolding names
   any-rest r s b e g k h j =
       rw (treeAt-pair work list w e, ← g, ← k, any-append f (names (treeAt work r w)) (names (treeAt work s w)), ← h) j
 
-  pub any-other : (wordAt work list 3 ≡ 3 → ⊥) → (wordAt work list 3 ≡ 4 → ⊥) → false ≡ anyOf f (names (treeAt work list w))
+  pub any-other : (wordAt work list KIND ≡ 3 → ⊥) → (wordAt work list KIND ≡ 4 → ⊥) → false ≡ anyOf f (names (treeAt work list w))
   unfolding names anyOf
   any-other m n = tree-cases work list w (λ t. false ≡ anyOf f (names t)) (λ e. refl) (λ e. absurd (m e)) (λ e. absurd (n e)) (λ p q r. refl)
 

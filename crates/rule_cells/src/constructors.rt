@@ -3,11 +3,11 @@
 
 ghost use Prim.Native.Nat.{_≤_};
 ghost use mathlib.Core.List.{_∷_};
-ghost use Rattle.expansion.specs.Rules.{variableP, wildcardP, constantP, pairP, ellipsisP, variableT, insertT, constantT, pairT, ellipsisT};
+ghost use Rattle.expansion.specs.Rules.{variableP, wildcardP, variableT, insertT};
 ghost use Rattle.arena.specs.Arena.{nameAt};
 ghost use Rattle.arena.specs.Cells.{Room};
 ghost use Rattle.rule_cells.specs.Cells.{patternAt, templateAt, rulesAt};
-ghost use Rattle.rule_cells.specs.Made.{Five, Made, MadeLiteral};
+ghost use Rattle.rule_cells.specs.Made.{Five, Made, MadeLiteral, MadeConstant, MadePair, MadeEllipsis, MadeList};
 use crate::cells;
 
 // Five words at the top; answers the new top, which is the cell's reference.
@@ -50,30 +50,6 @@ pub fn put_wildcard(work: &mut [u32], top: u32) -> u32
     put(work, top, 0, 0, 0, 0, cells::WILDCARD)
 }
 
-// A constant, by its item's three words.
-pub fn put_constant(work: &mut [u32], top: u32, kind: u32, first: u32, second: u32) -> u32
-    requires { ⌜ Room (now work) top 5 ⌝ }
-    ensures { λ r. ⌜ Made patternAt (constantP (record { kind = kind; first = first; second = second })) (now (work .entry)) (now (work .exit)) top r ⌝ }
-{
-    put(work, top, 0, kind, first, second, cells::CONSTANT)
-}
-
-// A pair of two patterns.
-pub fn put_pair(work: &mut [u32], top: u32, head: u32, tail: u32) -> u32
-    requires { ⌜ (Room (now work) top 5) × (head ≤ top) × (tail ≤ top) ⌝ }
-    ensures { λ r. ⌜ Made patternAt (pairP (patternAt (now (work .entry)) head) (patternAt (now (work .entry)) tail)) (now (work .entry)) (now (work .exit)) top r ⌝ }
-{
-    put(work, top, 0, 0, head, tail, cells::PAIR)
-}
-
-// An element followed by the ellipsis, then n elements more, with the pattern of that rest of its list.
-pub fn put_ellipsis(work: &mut [u32], top: u32, element: u32, n: u32, rest: u32) -> u32
-    requires { ⌜ (Room (now work) top 5) × (element ≤ top) × (rest ≤ top) ⌝ }
-    ensures { λ r. ⌜ Made patternAt (ellipsisP (patternAt (now (work .entry)) element) n (patternAt (now (work .entry)) rest)) (now (work .entry)) (now (work .exit)) top r ⌝ }
-{
-    put(work, top, 0, n, element, rest, cells::ELLIPSIS)
-}
-
 // ---- templates
 
 // Variable k, under d ellipses in the pattern.
@@ -92,28 +68,41 @@ pub fn put_insert(work: &mut [u32], top: u32, node: u32, w: u32) -> u32
     put(work, top, 0, 0, node, w, cells::NAME)
 }
 
+// ---- cells that are read as a pattern or as a template
+
 // A constant, by its item's three words.
-pub fn put_constant_template(work: &mut [u32], top: u32, kind: u32, first: u32, second: u32) -> u32
+pub fn put_constant(work: &mut [u32], top: u32, kind: u32, first: u32, second: u32) -> u32
     requires { ⌜ Room (now work) top 5 ⌝ }
-    ensures { λ r. ⌜ Made templateAt (constantT (record { kind = kind; first = first; second = second })) (now (work .entry)) (now (work .exit)) top r ⌝ }
+    ensures { λ r. ⌜ MadeConstant (record { kind = kind; first = first; second = second }) (now (work .entry)) (now (work .exit)) top r ⌝ }
 {
     put(work, top, 0, kind, first, second, cells::CONSTANT)
 }
 
-// A pair of two templates.
-pub fn put_pair_template(work: &mut [u32], top: u32, head: u32, tail: u32) -> u32
+// A pair of two.
+fn put_pair(work: &mut [u32], top: u32, head: u32, tail: u32) -> u32
     requires { ⌜ (Room (now work) top 5) × (head ≤ top) × (tail ≤ top) ⌝ }
-    ensures { λ r. ⌜ Made templateAt (pairT (templateAt (now (work .entry)) head) (templateAt (now (work .entry)) tail)) (now (work .entry)) (now (work .exit)) top r ⌝ }
+    ensures { λ r. ⌜ MadePair head tail (now (work .entry)) (now (work .exit)) top r ⌝ }
 {
     put(work, top, 0, 0, head, tail, cells::PAIR)
 }
 
-// An element followed by the ellipsis, then the rest of its list.
-pub fn put_ellipsis_template(work: &mut [u32], top: u32, element: u32, rest: u32) -> u32
+// An element followed by the ellipsis, then the rest of its list; of a pattern, which has n elements more.
+fn put_ellipsis(work: &mut [u32], top: u32, element: u32, n: u32, rest: u32) -> u32
     requires { ⌜ (Room (now work) top 5) × (element ≤ top) × (rest ≤ top) ⌝ }
-    ensures { λ r. ⌜ Made templateAt (ellipsisT (templateAt (now (work .entry)) element) (templateAt (now (work .entry)) rest)) (now (work .entry)) (now (work .exit)) top r ⌝ }
+    ensures { λ r. ⌜ MadeEllipsis element n rest (now (work .entry)) (now (work .exit)) top r ⌝ }
 {
-    put(work, top, 0, 0, element, rest, cells::ELLIPSIS)
+    put(work, top, 0, n, element, rest, cells::ELLIPSIS)
+}
+
+// An element and the rest of its list: an ellipsis where the element is followed by one, a pair otherwise.
+pub fn put_list(work: &mut [u32], top: u32, followed: bool, element: u32, n: u32, rest: u32) -> u32
+    requires { ⌜ (Room (now work) top 5) × (element ≤ top) × (rest ≤ top) ⌝ }
+    ensures { λ r. ⌜ MadeList followed element n rest (now (work .entry)) (now (work .exit)) top r ⌝ }
+{
+    if followed {
+        return put_ellipsis(work, top, element, n, rest);
+    }
+    put_pair(work, top, element, rest)
 }
 
 // ---- rules

@@ -5,7 +5,7 @@
 
 ghost use mathlib.Core.Path.{_≡_};
 ghost use Prim.Native.Nat.{_+_, _≤_};
-ghost use Rattle.recipe.specs.Tree.{names, size, elements};
+ghost use Rattle.recipe.specs.Tree.{size, elements};
 ghost use Rattle.words.specs.Packed.{builtOf};
 ghost use Rattle.words.specs.Options.{traverse};
 ghost use Rattle.expansion.specs.Rules.{ruleOf, rulesOf};
@@ -13,12 +13,15 @@ ghost use Rattle.arena.specs.Arena.{treeAt};
 ghost use Rattle.rule_cells.specs.Dots.{dotsAt};
 ghost use Rattle.rule_cells.specs.Parse.{Asks};
 ghost use Rattle.rule_cells.specs.RuleParse.{ruleShape, partsOf, PartsAsk, RuleLeft, RulesLeft};
+ghost use Rattle.rule_cells.specs.Scopes.{dotsOf, literalsOf};
 use crate::constructors;
 use crate::dots;
 use crate::patterns;
 use crate::patterns::Parsed;
 use crate::rules_form;
+use crate::rules_form::Form;
 use crate::templates;
+use crate::templates::Scope;
 use crate::variables;
 use arena::cells;
 use arena::lists;
@@ -26,28 +29,25 @@ use words::packed;
 use words::packed::Built;
 
 // A rule from the rest p of its pattern and its template q, before the rules at `next`.
-fn rule_parts(
-    work: &mut [u32],
-    dots: u32,
-    literals: u32,
-    p: u32,
-    q: u32,
-    w: u32,
-    next: u32,
-    top: u32,
-) -> u64
-    requires { ⌜ PartsAsk (now work) dots literals p q w next top ⌝ }
-    ensures { λ r. ⌜ RuleLeft (partsOf (dotsAt (now (work .entry)) dots w) (names (treeAt (now (work .entry)) literals w)) (treeAt (now (work .entry)) p w) (treeAt (now (work .entry)) q w)) (size (treeAt (now (work .entry)) p w) + size (treeAt (now (work .entry)) q w) + 1) (now (work .entry)) (now (work .exit)) next top (builtOf r) ⌝ }
+fn rule_parts(work: &mut [u32], form: Form, p: u32, q: u32, next: u32, top: u32) -> u64
+    requires { ⌜ PartsAsk (now work) form p q next top ⌝ }
+    ensures { λ r. ⌜ RuleLeft (partsOf (dotsOf (now (work .entry)) form) (literalsOf (now (work .entry)) form) (treeAt (now (work .entry)) p (form .wrap)) (treeAt (now (work .entry)) q (form .wrap))) (size (treeAt (now (work .entry)) p (form .wrap)) + size (treeAt (now (work .entry)) q (form .wrap)) + 1) (now (work .entry)) (now (work .exit)) next top (builtOf r) ⌝ }
 {
     let mut vars = [0u32; variables::WORDS];
-    let n = variables::gather(work, &mut vars, dots, literals, p, w, 0, 0);
+    let n = variables::gather(work, &mut vars, form, p, 0, 0);
     if n == variables::BAD {
         return packed::NONE;
     }
-    let Parsed::Good(a, t, m) = patterns::pattern(work, dots, literals, p, w, 0, false, top) else {
+    let Parsed::Good(a, t, m) = patterns::pattern(work, form, p, 0, false, top) else {
         return packed::NONE;
     };
-    let word = templates::template(work, &vars, n, dots, q, w, 0, t);
+    let scope = Scope {
+        count: n,
+        dots: form.dots,
+        wrap: form.wrap,
+        d: 0,
+    };
+    let word = templates::template(work, &vars, scope, q, t);
     let Built::At(b, u) = packed::parts(word) else {
         return packed::NONE;
     };
@@ -71,35 +71,35 @@ fn rule_shape(work: &[u32], dots: u32, node: u32, w: u32) -> bool
 }
 
 // A rule, (pattern template), before the rules at `next`.
-fn rule(work: &mut [u32], dots: u32, literals: u32, node: u32, w: u32, next: u32, top: u32) -> u64
-    requires { ⌜ (Asks (now work) node w top) × (dots ≤ top) × (literals ≤ top) × (next ≤ top) ⌝ }
-    ensures { λ r. ⌜ RuleLeft (ruleOf (dotsAt (now (work .entry)) dots w) (names (treeAt (now (work .entry)) literals w)) (treeAt (now (work .entry)) node w)) (size (treeAt (now (work .entry)) node w)) (now (work .entry)) (now (work .exit)) next top (builtOf r) ⌝ }
+fn rule(work: &mut [u32], form: Form, node: u32, next: u32, top: u32) -> u64
+    requires { ⌜ (Asks (now work) node (form .wrap) top) × (form .dots ≤ top) × (form .literals ≤ top) × (next ≤ top) ⌝ }
+    ensures { λ r. ⌜ RuleLeft (ruleOf (dotsOf (now (work .entry)) form) (literalsOf (now (work .entry)) form) (treeAt (now (work .entry)) node (form .wrap))) (size (treeAt (now (work .entry)) node (form .wrap))) (now (work .entry)) (now (work .exit)) next top (builtOf r) ⌝ }
 {
-    if rule_shape(work, dots, node, w) {
+    if rule_shape(work, form.dots, node, form.wrap) {
         let pattern = lists::first(work, node);
         let p = lists::rest(work, pattern);
         let after = lists::rest(work, node);
         let q = lists::first(work, after);
-        return rule_parts(work, dots, literals, p, q, w, next, top);
+        return rule_parts(work, form, p, q, next, top);
     }
     packed::NONE
 }
 
 // A list of rules, the last first.
-fn rule_list(work: &mut [u32], dots: u32, literals: u32, node: u32, w: u32, top: u32) -> u64
-    requires { ⌜ (Asks (now work) node w top) × (dots ≤ top) × (literals ≤ top) ⌝ }
-    ensures { λ r. ⌜ RulesLeft (traverse (ruleOf (dotsAt (now (work .entry)) dots w) (names (treeAt (now (work .entry)) literals w))) (elements (treeAt (now (work .entry)) node w))) (size (treeAt (now (work .entry)) node w)) (now (work .entry)) (now (work .exit)) top (builtOf r) ⌝ }
+fn rule_list(work: &mut [u32], form: Form, node: u32, top: u32) -> u64
+    requires { ⌜ (Asks (now work) node (form .wrap) top) × (form .dots ≤ top) × (form .literals ≤ top) ⌝ }
+    ensures { λ r. ⌜ RulesLeft (traverse (ruleOf (dotsOf (now (work .entry)) form) (literalsOf (now (work .entry)) form)) (elements (treeAt (now (work .entry)) node (form .wrap)))) (size (treeAt (now (work .entry)) node (form .wrap))) (now (work .entry)) (now (work .exit)) top (builtOf r) ⌝ }
 {
     if cells::word(work, node, cells::KIND) != cells::PAIR {
         return packed::pair(0, top);
     }
     let head = cells::reference(work, node, cells::HEAD);
     let rest = cells::reference(work, node, cells::TAIL);
-    let word = rule_list(work, dots, literals, rest, w, top);
+    let word = rule_list(work, form, rest, top);
     let Built::At(next, upper) = packed::parts(word) else {
         return packed::NONE;
     };
-    rule(work, dots, literals, head, w, next, upper)
+    rule(work, form, head, next, upper)
 }
 
 // The rules of a form.
@@ -110,9 +110,13 @@ pub fn rules(work: &mut [u32], node: u32, w: u32, top: u32) -> u64
     if rules_form::is_rules_form(work, node, w) {
         let dots = rules_form::ellipsis(work, node);
         let after = rules_form::after_chosen(work, node);
-        let literals = lists::first(work, after);
+        let form = Form {
+            dots: dots,
+            literals: lists::first(work, after),
+            wrap: w,
+        };
         let list = lists::rest(work, after);
-        return rule_list(work, dots, literals, list, w, top);
+        return rule_list(work, form, list, top);
     }
     packed::NONE
 }

@@ -12,10 +12,15 @@ ghost use Rattle.rule_cells.specs.Forms.{literalsAll, literalsGood, chos
 use crate::dots;
 use arena::cells;
 use arena::lists;
+use datum::base_names;
 use resolution::names;
 
-// The number of syntax-rules.
-const SYNTAX_RULES: u32 = 5;
+// What the rules of a form are read by: its ellipsis (`dots` says how), the list of its literals, and the wrap that waits on all of it.
+pub struct Form {
+    pub dots: u32,
+    pub literals: u32,
+    pub wrap: u32,
+}
 
 // Whether a tree may be a literal: a name other than the ellipsis and `_`.
 fn may_be_listed(work: &[u32], dots: u32, node: u32, w: u32) -> bool
@@ -66,7 +71,7 @@ fn is_syntax_rules(work: &[u32], node: u32, w: u32) -> bool
     if cells::word(work, node, cells::KIND) != cells::NAME {
         return false;
     }
-    if names::number_of(work, node) != SYNTAX_RULES {
+    if names::number_of(work, node) != base_names::SYNTAX_RULES {
         return false;
     }
     names::binding_of(work, node, w) == 0

@@ -13,7 +13,9 @@ ghost use Rattle.expansion.specs.Rules.{isVariable, variableFrom, variables};
 ghost use Rattle.arena.specs.Arena.{nameAt, treeAt};
 ghost use Rattle.rule_cells.specs.Dots.{dotsAt};
 ghost use Rattle.rule_cells.specs.Variables.{variablesFrom, knownOf, Deeper, keptOf, Held, Gathered};
+ghost use Rattle.rule_cells.specs.Scopes.{dotsOf, literalsOf};
 use crate::dots;
+use crate::rules_form::Form;
 use arena::cells;
 use resolution::names;
 
@@ -27,7 +29,7 @@ pub enum Known {
 }
 
 // Whether a name is the same as one of the names of a list.
-pub fn is_literal(work: &[u32], list: u32, node: u32, w: u32) -> bool
+fn is_literal(work: &[u32], list: u32, node: u32, w: u32) -> bool
     ensures { λ r. ⌜ r ≡ anyOf (same (nameAt (now (work .entry)) node w)) (names (treeAt (now (work .entry)) list w)) ⌝ }
 {
     let mut at = list;
@@ -47,16 +49,16 @@ pub fn is_literal(work: &[u32], list: u32, node: u32, w: u32) -> bool
 }
 
 // Whether a pattern's name is a variable: neither the ellipsis nor `_` nor the same as a listed literal.
-pub fn is_variable(work: &[u32], dots: u32, literals: u32, node: u32, w: u32) -> bool
-    ensures { λ r. ⌜ r ≡ isVariable (dotsAt (now (work .entry)) dots w) (names (treeAt (now (work .entry)) literals w)) (nameAt (now (work .entry)) node w) ⌝ }
+pub fn is_variable(work: &[u32], form: Form, node: u32) -> bool
+    ensures { λ r. ⌜ r ≡ isVariable (dotsOf (now (work .entry)) form) (literalsOf (now (work .entry)) form) (nameAt (now (work .entry)) node (form .wrap)) ⌝ }
 {
-    if dots::is_ellipsis(work, dots, node, w) {
+    if dots::is_ellipsis(work, form.dots, node, form.wrap) {
         return false;
     }
     if names::number_of(work, node) == names::WILDCARD {
         return false;
     }
-    if is_literal(work, literals, node, w) {
+    if is_literal(work, form.literals, node, form.wrap) {
         return false;
     }
     true
@@ -125,47 +127,29 @@ fn add(work: &[u32], vars: &mut [u32], node: u32, w: u32, d: u32, n: u32) -> u32
 }
 
 // The variable of a pattern's name, where it is one: how many the table then holds, or BAD.
-fn gather_name(
-    work: &[u32],
-    vars: &mut [u32],
-    dots: u32,
-    literals: u32,
-    node: u32,
-    w: u32,
-    d: u32,
-    n: u32,
-) -> u32
-    requires { ⌜ (32 ≤ length (now vars)) × (Held (now work) w (now vars) n) ⌝ }
-    ensures { λ r. ⌜ Gathered (variables (dotsAt (now (work .entry)) dots w) (names (treeAt (now (work .entry)) literals w)) d (name (nameAt (now (work .entry)) node w))) (now (work .entry)) w node n (now (vars .entry)) (now (vars .exit)) (keptOf r) ⌝ }
+fn gather_name(work: &[u32], vars: &mut [u32], form: Form, node: u32, d: u32, n: u32) -> u32
+    requires { ⌜ (32 ≤ length (now vars)) × (Held (now work) (form .wrap) (now vars) n) ⌝ }
+    ensures { λ r. ⌜ Gathered (variables (dotsOf (now (work .entry)) form) (literalsOf (now (work .entry)) form) d (name (nameAt (now (work .entry)) node (form .wrap)))) (now (work .entry)) (form .wrap) node n (now (vars .entry)) (now (vars .exit)) (keptOf r) ⌝ }
 {
-    if !is_variable(work, dots, literals, node, w) {
+    if !is_variable(work, form, node) {
         return n;
     }
-    add(work, vars, node, w, d, n)
+    add(work, vars, node, form.wrap, d, n)
 }
 
 // The variables of a pattern from the left, each with the number of ellipses it lies under, behind the n of the table: how many
 // the table then holds, or BAD.
-pub fn gather(
-    work: &[u32],
-    vars: &mut [u32],
-    dots: u32,
-    literals: u32,
-    node: u32,
-    w: u32,
-    d: u32,
-    n: u32,
-) -> u32
-    requires { ⌜ (32 ≤ length (now vars)) × (Held (now work) w (now vars) n) × (d + node < 2 ^ 32) ⌝ }
-    ensures { λ r. ⌜ Gathered (variables (dotsAt (now (work .entry)) dots w) (names (treeAt (now (work .entry)) literals w)) d (treeAt (now (work .entry)) node w)) (now (work .entry)) w node n (now (vars .entry)) (now (vars .exit)) (keptOf r) ⌝ }
+pub fn gather(work: &[u32], vars: &mut [u32], form: Form, node: u32, d: u32, n: u32) -> u32
+    requires { ⌜ (32 ≤ length (now vars)) × (Held (now work) (form .wrap) (now vars) n) × (d + node < 2 ^ 32) ⌝ }
+    ensures { λ r. ⌜ Gathered (variables (dotsOf (now (work .entry)) form) (literalsOf (now (work .entry)) form) d (treeAt (now (work .entry)) node (form .wrap))) (now (work .entry)) (form .wrap) node n (now (vars .entry)) (now (vars .exit)) (keptOf r) ⌝ }
 {
     let mut at = node;
     let mut m = n;
     while cells::word(work, at, cells::KIND) == cells::PAIR {
         let head = cells::reference(work, at, cells::HEAD);
         let rest = cells::reference(work, at, cells::TAIL);
-        let inner = depth_before(work, dots, rest, w, d);
-        let k = gather(work, vars, dots, literals, head, w, inner, m);
+        let inner = depth_before(work, form.dots, rest, form.wrap, d);
+        let k = gather(work, vars, form, head, inner, m);
         if k == BAD {
             return BAD;
         }
@@ -173,7 +157,7 @@ pub fn gather(
         at = rest;
     }
     if cells::word(work, at, cells::KIND) == cells::NAME {
-        return gather_name(work, vars, dots, literals, at, w, d, m);
+        return gather_name(work, vars, form, at, d, m);
     }
     m
 }

@@ -1,4 +1,4 @@
--- Laws of zeroing a table, of words or of bytes.
+-- Laws of lent tables: what fills one, and zeroing one, of words or of bytes.
 use mathlib.Core.Path.{_≡_, refl, ap, _∙_}
 use mathlib.Core.List.{List, [], _++_, append-nil}
 use Prim.Native.Nat.{ℕ, _+_, _-_, _≤_, _<_}
@@ -8,10 +8,17 @@ use lib.Seq.{drop-length}
 use borrow.Author.Fill.{fill-more}
 use Rattle.words.specs.Tables.{filled, begun, leftAt, Zeroed}
 
+-- only the length of a table matters to what fills it
+pub filled-same : (ws t u : List ℕ) → length t ≡ length u → filled ws t ≡ filled ws u
+unfolding filled
+filled-same ws t u e = rw e
+
 -- a refusal that comes once a call has begun leaves zeros
 pub zeros-left : (table : List ℕ) → replicate (length table) 0 ≡ leftAt begun [] table
 unfolding leftAt filled
 zeros-left table = let e : length table - 0 ≡ length table = omega arith in rw e
+
+-- ---- zeroing
 
 zeroed-sized : (n : ℕ) (lent : List ℕ) → n ≤ length lent → length (replicate n 0 ++ drop n lent) ≡ length lent
 zeroed-sized n lent h = simp (length-append, length-replicate, length-drop) (omega arith)

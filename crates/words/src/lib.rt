@@ -1,4 +1,6 @@
-// The limits of document 01, for code; specs/Limits.antt has the same numbers for definitions.
+// The limits of document 01, for code; specs/Limits.antt has the same numbers for definitions. And what is done with words, bytes and
+// tables, whatever they mean.
+pub mod casts;
 pub mod packed;
 pub mod signed;
 pub mod tables;

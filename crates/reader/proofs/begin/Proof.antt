@@ -9,9 +9,11 @@ clear-requires c κs =
 
 enter-base-requires : tie.Need-enter-base-requires
 enter-base-requires c κs =
-    let args = c .before .before .before .before .before .before .before .before .before .before .before .before .args in
-    let clear = c .before .before .before .before .before .before .clear in
-    let pre = c .before .before .before .before .before .before .before .before .before .before .before .before .pre in
+    let at-clear = c .before .before .before .before .before .before in
+    let at-args = at-clear .before .before .before .before .before .before in
+    let args = at-args .args in
+    let clear = at-clear .clear in
+    let pre = at-args .pre in
     zeroed-names (args .names .now) (clear .last .1 .0) (args .index .now) (pre .0) (clear .kept .1 .0) (clear .ensures .1) (pre .1)
 
 same-length : tie.Need-same-length
@@ -28,9 +30,11 @@ same-length-3 c =
 
 returns : tie.Need-returns
 returns c =
-    let args = c .before .before .before .before .before .before .before .before .before .before .before .before .before .before .before .before .before .args in
-    let clear = c .before .before .before .before .before .before .before .before .before .before .before .clear in
-    let enter-base = c .before .before .before .before .enter-base in
+    let at-enter-base = c .before .before .before .before in
+    let at-clear = at-enter-base .before .before .before .before .before .before .before in
+    let args = at-clear .before .before .before .before .before .before .args in
+    let clear = at-clear .clear in
+    let enter-base = at-enter-base .enter-base in
     (zeroed (args .items .now) (clear .last .0) (clear .kept .0) (clear .ensures .0), enter-base .ensures)
 
 pub begin-spec : {M : Type 1} → statement M

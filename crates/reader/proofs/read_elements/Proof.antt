@@ -26,19 +26,26 @@ returns-3 c =
 
 read-text-requires : tie.Need-read-text-requires
 read-text-requires c κs =
-    let begin = c .before .before .before .before .before .before .before .before .begin in
-    let if1 = c .before .before .before .before .before .before .before .before .before .before .before .before .before .before .if1 in
+    let at-begin = c .before .before .before .before .before .before .before .before in
+    let begin = at-begin .begin in
+    let if1 = at-begin .before .before .before .before .before .before .if1 in
     ((omega (arith, begin .kept .0, if1 .left), begin .ensures .0), begin .ensures .1)
 
 returns-4 : tie.Need-returns-4
 returns-4 c =
-    let args = c .before .before .before .before .before .before .before .before .before .before .before .before .before .before .before .before .before .before .before .before .before .before .before .before .before .before .before .args in
-    let if1 = c .before .before .before .before .before .before .before .before .before .before .before .before .before .before .before .before .before .before .before .before .before .before .before .if1 in
-    let if2 = c .before .before .before .before .before .before .before .before .before .before .before .before .before .before .before .before .before .before .before .before .before .before .if2 in
-    let if3 = c .before .before .before .before .before .before .before .before .before .before .before .before .before .before .before .before .before .before .before .before .before .if3 in
-    let read-text = c .before .before .before .before .before .before .before .before .read-text in
-    let i = c .before .i in
-    let begin = c .before .before .before .before .before .before .before .before .before .before .before .before .before .before .before .before .before .begin in
+    let at-i = c .before in
+    let at-read-text = at-i .before .before .before .before .before .before .before in
+    let at-begin = at-read-text .before .before .before .before .before .before .before .before .before in
+    let at-if3 = at-begin .before .before .before .before in
+    let at-if2 = at-if3 .before in
+    let at-if1 = at-if2 .before in
+    let args = at-if1 .before .before .before .before .args in
+    let if1 = at-if1 .if1 in
+    let if2 = at-if2 .if2 in
+    let if3 = at-if3 .if3 in
+    let read-text = at-read-text .read-text in
+    let i = at-i .i in
+    let begin = at-begin .begin in
     served-read (args .wanted) (args .text .now) (args .items .now) (args .names .now) (if1 .left) (if2 .left) (if3 .left)
     (read-text .last .1 .0) (read-text .last .1 .1 .0) (i .given .0 .0) (i .given .0 .1 .0)
     (subst (Ended (args .wanted) (args .text .now) (read-text .last .1 .0) (read-text .last .1 .1 .0)) (i .given .1) (read-text .ensures))
@@ -46,14 +53,21 @@ returns-4 c =
 
 returns-5 : tie.Need-returns-5
 returns-5 c =
-    let args = c .before .before .before .before .before .before .before .before .before .before .before .before .before .before .before .before .before .before .before .before .before .before .before .before .before .before .before .before .before .before .before .before .before .before .args in
-    let if1 = c .before .before .before .before .before .before .before .before .before .before .before .before .before .before .before .before .before .before .before .before .before .before .before .before .before .before .before .before .before .before .if1 in
-    let if2 = c .before .before .before .before .before .before .before .before .before .before .before .before .before .before .before .before .before .before .before .before .before .before .before .before .before .before .before .before .before .if2 in
-    let if3 = c .before .before .before .before .before .before .before .before .before .before .before .before .before .before .before .before .before .before .before .before .before .before .before .before .before .before .before .before .if3 in
-    let clear = c .before .before .before .before .clear in
-    let ground = c .before .before .before .before .before .before .before .before .ground in
-    let read-text = c .before .before .before .before .before .before .before .before .before .before .before .before .before .before .before .read-text in
-    let begin = c .before .before .before .before .before .before .before .before .before .before .before .before .before .before .before .before .before .before .before .before .before .before .before .before .begin in
+    let at-clear = c .before .before .before .before in
+    let at-ground = at-clear .before .before .before .before in
+    let at-read-text = at-ground .before .before .before .before .before .before .before in
+    let at-begin = at-read-text .before .before .before .before .before .before .before .before .before in
+    let at-if3 = at-begin .before .before .before .before in
+    let at-if2 = at-if3 .before in
+    let at-if1 = at-if2 .before in
+    let args = at-if1 .before .before .before .before .args in
+    let if1 = at-if1 .if1 in
+    let if2 = at-if2 .if2 in
+    let if3 = at-if3 .if3 in
+    let clear = at-clear .clear in
+    let ground = at-ground .ground in
+    let read-text = at-read-text .read-text in
+    let begin = at-begin .begin in
     served-refused (args .wanted) (args .text .now) (args .items .now) (args .names .now) (if1 .left) (if2 .left) (if3 .left) (clear .last .0)
     (clear .last .1 .0) (ground .given .0 .0)
     (subst (Ended (args .wanted) (args .text .now) (read-text .last .1 .0) (read-text .last .1 .1 .0)) (ground .given .1) (read-text .ensures))

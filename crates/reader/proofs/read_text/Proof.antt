@@ -39,20 +39,26 @@ advance-requires c κs =
 
 loop-less : tie.Need-loop-less Inv-loop μ-loop
 loop-less c =
-    let args = c .before .before .before .before .before .before .before .before .before .before .before .before .before .before .before .before .before .before .args in
-    let loop = c .before .before .before .before .before .before .before .before .before .before .before .before .before .loop in
-    let advance = c .before .before .before .before .before .before .before .before .before .advance in
-    let p = c .before .p in
+    let at-p = c .before in
+    let at-advance = at-p .before .before .before .before .before .before .before .before in
+    let at-loop = at-advance .before .before .before .before in
+    let args = at-loop .before .before .before .before .before .args in
+    let loop = at-loop .loop in
+    let advance = at-advance .advance in
+    let p = at-p .p in
     let l = reached-later (args .wanted) (args .text .now) (loop .items) (loop .names) (loop .index) (loop .place) (loop .cursor) (loop .inv .3)
     (advance .last .1 .1 .1 .0) (advance .last .1 .1 .1 .1 .0) (advance .last .1 .1 .1 .1 .1 .0) (advance .result) (advance .ensures) (p .given .0 .0)
     (p .given .0 .1 .0) (p .given .1) in omega (arith, l .0, l .1)
 
 loop-again : tie.Need-loop-again Inv-loop μ-loop
 loop-again c =
-    let advance = c .before .before .before .before .before .before .before .before .before .advance in
-    let loop = c .before .before .before .before .before .before .before .before .before .before .before .before .before .loop in
-    let args = c .before .before .before .before .before .before .before .before .before .before .before .before .before .before .before .before .before .before .args in
-    let p = c .before .p in (
+    let at-p = c .before in
+    let at-advance = at-p .before .before .before .before .before .before .before .before in
+    let at-loop = at-advance .before .before .before .before in
+    let advance = at-advance .advance in
+    let loop = at-loop .loop in
+    let args = at-loop .before .before .before .before .before .args in
+    let p = at-p .p in (
       advance .kept .1 .1 .1 .0 ∙ loop .inv .0,
       advance .kept .1 .1 .1 .1 .0 ∙ loop .inv .1,
       advance .kept .1 .1 .1 .1 .1 .0 ∙ loop .inv .2,
@@ -63,20 +69,26 @@ loop-again c =
 
 returns : tie.Need-returns Inv-loop μ-loop
 returns c =
-    let args = c .before .before .before .before .before .before .before .before .before .before .before .before .before .before .before .before .before .before .args in
-    let loop = c .before .before .before .before .before .before .before .before .before .before .before .before .before .loop in
-    let advance = c .before .before .before .before .before .before .before .before .before .advance in
-    let i = c .before .i in
+    let at-i = c .before in
+    let at-advance = at-i .before .before .before .before .before .before .before .before in
+    let at-loop = at-advance .before .before .before .before in
+    let args = at-loop .before .before .before .before .before .args in
+    let loop = at-loop .loop in
+    let advance = at-advance .advance in
+    let i = at-i .i in
     reached-done (args .wanted) (args .text .now) (loop .items) (loop .names) (loop .index) (loop .place) (loop .cursor) (loop .inv .3)
     (advance .last .1 .1 .1 .0) (advance .last .1 .1 .1 .1 .0) (advance .last .1 .1 .1 .1 .1 .0) (advance .result) (advance .ensures) (i .given .0 .0)
     (i .given .0 .1 .0) (i .given .1)
 
 returns-2 : tie.Need-returns-2 Inv-loop μ-loop
 returns-2 c =
-    let args = c .before .before .before .before .before .before .before .before .before .before .before .before .before .before .before .before .before .before .args in
-    let loop = c .before .before .before .before .before .before .before .before .before .before .before .before .before .loop in
-    let advance = c .before .before .before .before .before .before .before .before .before .advance in
-    let ground = c .before .ground in
+    let at-ground = c .before in
+    let at-advance = at-ground .before .before .before .before .before .before .before .before in
+    let at-loop = at-advance .before .before .before .before in
+    let args = at-loop .before .before .before .before .before .args in
+    let loop = at-loop .loop in
+    let advance = at-advance .advance in
+    let ground = at-ground .ground in
     reached-refused (args .wanted) (args .text .now) (loop .items) (loop .names) (loop .index) (loop .place) (loop .cursor) (loop .inv .3)
     (advance .last .1 .1 .1 .0) (advance .last .1 .1 .1 .1 .0) (advance .last .1 .1 .1 .1 .1 .0) (advance .result) (advance .ensures) (ground .given .0 .0)
     (ground .given .1)

@@ -1,6 +1,6 @@
 -- Laws of the index: a word's bucket, a walk along it, and a name more.
 use mathlib.Core.Path.{_≡_, refl, sym, ap, _∙_}
-use mathlib.Core.Bool.{true, false}
+use mathlib.Core.Bool.{true, false, and-true, and-false, false≢true}
 use mathlib.Core.List.{List, [], _∷_, _++_}
 use Prim.Native.Nat.{ℕ, zero, suc, _+_, _*_, _%_, _≤_, _<_}
 use native.Mathlib.Omega.{arith}
@@ -8,13 +8,14 @@ use native.Mathlib.Numerals.{add-one}
 use lib.Dec.{eqb, ltb}
 use lib.ListN.{length, getD, drop, set, replicate, length-append, length-set, List·getD-append, getD-replicate, length-replicate}
 use lib.Seq.{drop-cons, drop-length, getD-at, getD-set-same, getD-set-other}
-use borrow.Author.Tests.{eqb-true, eqb-false, ltb-true, ltb-false}
+use borrow.Author.Tests.{eqb-true, eqb-false, eq-eqb, ne-eqb, ltb-true, ltb-false}
 use Rattle.words.specs.Limits.{namesMost}
 use Rattle.words.specs.Lists.{equal}
-use Rattle.words.specs.ListLaws.{either, equal-true}
+use Rattle.words.specs.ListLaws.{either, equal-refl, equal-true}
+use Rattle.words.specs.TestLaws.{and-left, and-right}
 use Rattle.reading.specs.Numbering.{numberOf}
-use Rattle.reading.specs.AcceptedLaws.{Own, own-more}
-use Rattle.reader.specs.Code.Index.{bucketCount, indexSize, bucketFrom, bucketOf, latest, Indexed, linked, Walked}
+use Rattle.reading.specs.NumberingLaws.{number-most, number-spelled, number-first, number-kept, number-new}
+use Rattle.reader.specs.Code.Index.{bucketCount, indexSize, bucketFrom, bucketOf, isFirst, isIn, latest, Indexed, linked, Walked}
 
 -- ---- a word's bucket
 
@@ -36,33 +37,62 @@ pub bucket-end : (word : List ℕ) (i b : ℕ) → i ≡ length word → bucketF
 unfolding bucketFrom
 bucket-end word i b e = rw (e, drop-length)
 
+-- ---- the first of equal names
+
+-- a name is the first where it is its own
+first-is : (names : List (List ℕ)) (n : ℕ) → isFirst names n ≡ true → numberOf (getD names n []) names ≡ n
+unfolding isFirst
+first-is names n e = eqb-true _ _ e
+
+in-bucket : (names : List (List ℕ)) (b n : ℕ) → isIn names b n ≡ true → bucketOf (getD names n []) ≡ b
+unfolding isIn
+in-bucket names b n e = eqb-true _ _ (and-left (eqb (bucketOf (getD names n [])) b) (isFirst names n) e)
+
+in-first : (names : List (List ℕ)) (b n : ℕ) → isIn names b n ≡ true → isFirst names n ≡ true
+unfolding isIn
+in-first names b n e = and-right (eqb (bucketOf (getD names n [])) b) (isFirst names n) e
+
+-- a word's number is entered in the word's bucket
+number-in : (names : List (List ℕ)) (word : List ℕ) → numberOf word names < length names → isIn names (bucketOf word) (numberOf word names) ≡ true
+unfolding isIn isFirst
+number-in names word h = rw (number-spelled word names h, eq-eqb (bucketOf word) (bucketOf word) refl, eq-eqb (numberOf word names) (numberOf word names) refl)
+
+-- more names change nothing for those before
+first-append : (names more : List (List ℕ)) (n : ℕ) → n < length names → isFirst (names ++ more) n ≡ isFirst names n
+unfolding isFirst
+first-append names more n h =
+    rw (List·getD-append names more [] n h, number-kept (getD names n []) names more (omega (arith, number-first names n h)))
+
+in-append : (names more : List (List ℕ)) (b n : ℕ) → n < length names → isIn (names ++ more) b n ≡ isIn names b n
+unfolding isIn
+in-append names more b n h = rw (first-append names more n h, List·getD-append names more [] n h)
+
 -- ---- the latest name of a bucket
 
 module _ (names : List (List ℕ)) (b : ℕ) where
   latest-most : (n : ℕ) → latest names b n ≤ n
   unfolding latest
   latest-most zero = omega arith
-  latest-most (suc n) =
-      either (eqb (bucketOf (getD names n [])) b) (λ e. rw e (omega arith)) (λ e. rw e (omega (arith, latest-most n)))
+  latest-most (suc n) = either (isIn names b n) (λ e. rw e (omega arith)) (λ e. rw e (omega (arith, latest-most n)))
 
   -- it is in the bucket
-  latest-in : (n m : ℕ) → latest names b n ≡ suc m → bucketOf (getD names m []) ≡ b
+  latest-in : (n m : ℕ) → latest names b n ≡ suc m → isIn names b m ≡ true
   unfolding latest
   latest-in zero m h = absurd (omega arith)
   latest-in (suc n) m h =
-      either (eqb (bucketOf (getD names n [])) b)
-      (λ e. let k : n ≡ m = omega (arith, rw e at h) in rw (← k) (eqb-true _ _ e))
+      either (isIn names b n)
+      (λ e. let k : n ≡ m = omega (arith, rw e at h) in rw (← k) e)
       (λ e. latest-in n m (rw e at h))
 
   -- and none after it is
-  latest-last : (n m : ℕ) → latest names b n ≤ m → m < n → bucketOf (getD names m []) ≡ b → ⊥
+  latest-last : (n m : ℕ) → latest names b n ≤ m → m < n → isIn names b m ≡ true → ⊥
   unfolding latest
   latest-last zero m h l k = omega arith
   latest-last (suc n) m h l k =
-      either (eqb (bucketOf (getD names n [])) b)
+      either (isIn names b n)
       (λ e. omega (arith, rw e at h))
       (λ e. either (eqb m n)
-      (λ d. eqb-false _ _ e (ap (λ i. bucketOf (getD names i [])) (sym (eqb-true m n d)) ∙ k))
+      (λ d. false≢true (sym e ∙ ap (isIn names b) (sym (eqb-true m n d)) ∙ k))
       (λ d. latest-last n m (rw e at h) (omega (arith, eqb-false m n d)) k))
 
   latest-append : (more : List (List ℕ)) (n : ℕ) → n ≤ length names → latest (names ++ more) b n ≡ latest names b n
@@ -70,120 +100,138 @@ module _ (names : List (List ℕ)) (b : ℕ) where
   latest-append more zero h = refl
   latest-append more (suc n) h =
       let k : n < length names = omega arith in
-      rw (List·getD-append names more [] n k, latest-append more n (omega arith))
+      rw (in-append names more b n k, latest-append more n (omega arith))
 
 -- ---- a walk
 
--- a word that is none of the names has the next number
-number-none : (word : List ℕ) (names : List (List ℕ)) → ((n : ℕ) → n < length names → equal word (getD names n []) ≡ false)
-    → numberOf word names ≡ length names
-unfolding numberOf
-number-none word [] h = refl
-number-none word (x ∷ xs) h = rw (h 0 (omega arith)) (ap suc (number-none word xs (λ n l. h (suc n) (omega arith))))
-
 module _ (names : List (List ℕ)) (word : List ℕ) where
-  -- it comes to the latest of the first k names, where the word is not among the others
-  walked-to : (k entry : ℕ) → k ≤ length names → entry ≡ latest names (bucketOf word) k
-      → ((n : ℕ) → k ≤ n → n < length names → equal word (getD names n []) ≡ false) → Walked names word entry
+  abbrev number : ℕ
+  number = numberOf word names
+
+  -- it comes to the latest of the first k names, where the word's number is not among the others
+  walked-to : (k entry : ℕ) → k ≤ length names → entry ≡ latest names (bucketOf word) k → (k ≤ number → length names ≤ number) → Walked names word entry
   walked-to k entry h e p = record {
     high = omega (arith, latest-most names (bucketOf word) k);
-    bucket = λ n l. latest-in names (bucketOf word) k n (sym e ∙ l);
-    passed = λ n l m.
-        either (ltb n k)
-        (λ t. either (equal word (getD names n []))
-        (λ s. absurd (latest-last names (bucketOf word) k n (omega arith) (ltb-true n k t) (ap bucketOf (sym (equal-true word (getD names n []) s)))))
-        (λ s. s))
-        (λ t. p n (ltb-false n k t) m);
+    entered = λ n l. latest-in names (bucketOf word) k n (sym e ∙ l);
+    passed = λ l.
+        either (ltb number k)
+        (λ t. absurd (latest-last names (bucketOf word) k number (omega arith) (ltb-true number k t) (number-in names word (omega (arith, ltb-true number k t)))))
+        (λ t. p (ltb-false number k t));
   }
 
   module _ (index : List ℕ) (i : Indexed names index) where
     -- it begins at the entry of the bucket
     pub walked-first : Walked names word (getD index (bucketOf word) 0)
-    walked-first = walked-to (length names) _ (omega arith) (i .heads (bucketOf word) (bucket-below word)) (λ n l m. absurd (omega arith))
+    walked-first = walked-to (length names) _ (omega arith) (i .heads (bucketOf word) (bucket-below word)) (λ l. l)
 
-    -- and goes on to that of a name that is not the word
-    pub walked-on : (entry n : ℕ) → entry ≡ suc n → Walked names word entry → equal word (getD names n []) ≡ false
-        → Walked names word (getD index (bucketCount + n) 0)
-    walked-on entry n s w e =
-        let h : n < length names = omega (arith, w .high) in
-        walked-to n _ (omega arith) (i .links n h ∙ ap (λ b. latest names b n) (w .bucket n s))
-        (λ m l k. either (eqb m n) (λ t. rw (eqb-true m n t) e) (λ t. w .passed m (omega (arith, eqb-false m n t)) k))
+    module _ (entry n : ℕ) (s : entry ≡ suc n) (w : Walked names word entry) where
+      here : isIn names (bucketOf word) n ≡ true
+      here = w .entered n s
 
-    pub link-falls : (n : ℕ) → n < length names → getD index (bucketCount + n) 0 ≤ n
-    link-falls n h = omega (arith, i .links n h, latest-most names (bucketOf (getD names n [])) n)
+      -- it comes to the word
+      pub walked-found : equal word (getD names n []) ≡ true → n ≡ number
+      walked-found e = sym (ap (λ cs. numberOf cs names) (equal-true word (getD names n []) e) ∙ first-is names n (in-first names (bucketOf word) n here))
+
+      link-is : getD index (bucketCount + n) 0 ≡ latest names (bucketOf word) n
+      link-is = i .links n (omega (arith, w .high)) (in-first names (bucketOf word) n here) ∙ ap (λ b. latest names b n) (in-bucket names (bucketOf word) n here)
+
+      -- or goes on to the entry of a name that is not the word
+      pub walked-on : equal word (getD names n []) ≡ false → Walked names word (getD index (bucketCount + n) 0)
+      walked-on e =
+          walked-to n _ (omega (arith, w .high)) link-is
+          (λ l. either (eqb number n)
+          (λ t. absurd (false≢true (sym e ∙ rw (sym (eqb-true number n t)) (ap (equal word) (number-spelled word names (omega (arith, eqb-true number n t, w .high))) ∙ equal-refl word))))
+          (λ t. w .passed (omega (arith, eqb-false number n t))))
+
+      pub link-falls : getD index (bucketCount + n) 0 ≤ n
+      link-falls = omega (arith, link-is, latest-most names (bucketOf word) n)
 
   -- it ends: the word is new
-  pub walked-all : Walked names word 0 → length names ≡ numberOf word names
-  walked-all w = sym (number-none word names (λ n h. w .passed n (omega arith) h))
-
-  -- it comes to the word
-  pub walked-found : (n : ℕ) → Own names → n < length names → equal word (getD names n []) ≡ true → n ≡ numberOf word names
-  unfolding Own
-  walked-found n o h e = sym (ap (λ cs. numberOf cs names) (equal-true word (getD names n []) e) ∙ o n h)
+  pub walked-all : Walked names word 0 → length names ≡ number
+  walked-all w = omega (arith, number-most word names, w .passed (omega arith))
 
 -- ---- a name more
 
 pub indexed-none : (index : List ℕ) → index ≡ replicate indexSize 0 → Indexed [] index
-unfolding Own latest
+unfolding latest
 indexed-none index e = record {
-  own = λ n h. absurd (omega arith);
   size = rw e (length-replicate {A = ℕ} indexSize 0);
   heads = λ b h. rw e (getD-replicate {A = ℕ} indexSize b 0 0 (omega arith));
-  links = λ n h. absurd (omega arith);
+  links = λ n h f. absurd (omega arith);
 }
 
-module _ (names : List (List ℕ)) (word index : List ℕ) (i : Indexed names index) (n : ℕ) (at : n ≡ length names) (room : n < namesMost)
-    (new : length names ≤ numberOf word names) where
+-- a name more is not the first where it was among those before
+again-is : (names : List (List ℕ)) (word : List ℕ) → numberOf word names < length names → isFirst (names ++ (word ∷ [])) (length names) ≡ false
+unfolding isFirst
+again-is names word h = rw (getD-at names word [] [] (length names) refl, number-kept word names (word ∷ []) h) (ne-eqb (numberOf word names) (length names) (λ z. omega arith))
+
+-- else it is
+new-is : (names : List (List ℕ)) (word : List ℕ) → length names ≤ numberOf word names → isFirst (names ++ (word ∷ [])) (length names) ≡ true
+unfolding isFirst
+new-is names word h = rw (getD-at names word [] [] (length names) refl) (eq-eqb _ _ (number-new word names h))
+
+module _ (names : List (List ℕ)) (word index : List ℕ) (i : Indexed names index) where
   abbrev more : List (List ℕ)
   more = names ++ (word ∷ [])
 
-  length-more : length more ≡ suc n
+  length-more : length more ≡ suc (length names)
   length-more = omega (arith, length-append names (word ∷ []))
 
-  -- the name's bucket and its entry
-  abbrev bucket : ℕ
-  bucket = bucketOf word
+  name-is : getD more (length names) [] ≡ word
+  name-is = getD-at names word [] [] (length names) refl
 
-  abbrev place : ℕ
-  place = bucketCount + n
+  latest-before : (b m : ℕ) → m ≤ length names → latest more b m ≡ latest names b m
+  latest-before b m h = latest-append names b (word ∷ []) m h
 
-  below : bucket < bucketCount
-  below = bucket-below word
+  -- the link of a name before
+  link-before : (m : ℕ) → m < length names → isFirst more m ≡ true → getD index (bucketCount + m) 0 ≡ latest more (bucketOf (getD more m [])) m
+  link-before m l f = rw (List·getD-append names (word ∷ []) [] m l, latest-before (bucketOf (getD names m [])) m (omega arith)) (i .links m l (sym (first-append names (word ∷ []) m l) ∙ f))
 
-  name-is : getD more n [] ≡ word
-  name-is = getD-at names word [] [] n (sym at)
-
-  latest-before : (b m : ℕ) → m ≤ n → latest more b m ≡ latest names b m
-  latest-before b m h = latest-append names b (word ∷ []) m (omega arith)
-
-  -- an entry that is neither is as before
-  other-entry : (k : ℕ) → (k ≡ bucket → ⊥) → (k ≡ place → ⊥) → getD (linked index n bucket) k 0 ≡ getD index k 0
-  other-entry k p q =
-      getD-set-other (set index place (getD index bucket 0)) bucket k (n + 1) 0 p ∙ getD-set-other index place k (getD index bucket 0) 0 q
-
-  head-more : (b : ℕ) → b < bucketCount → getD (linked index n bucket) b 0 ≡ latest more b (length more)
-  unfolding latest
-  head-more b h =
-      rw (length-more, name-is, latest-before b n (omega arith))
-      (either (eqb bucket b)
-      (λ e. rw e (rw (← eqb-true bucket b e) (getD-set-same (set index place (getD index bucket 0)) bucket (n + 1) 0 (omega (arith, length-set index place (getD index bucket 0), i .size, below)) ∙ omega arith)))
-      (λ e. rw e (other-entry b (λ k. eqb-false bucket b e (sym k)) (λ k. omega arith) ∙ i .heads b h ∙ ap (latest names b) (sym at))))
-
-  link-more : (m : ℕ) → m < length more → getD (linked index n bucket) (bucketCount + m) 0 ≡ latest more (bucketOf (getD more m [])) m
-  link-more m h =
-      either (ltb m n)
-      (λ t. let l : m < length names = omega (arith, ltb-true m n t) in
-      let e = other-entry (bucketCount + m) (λ k. omega (arith, below)) (λ k. omega arith) in
-      rw (List·getD-append names (word ∷ []) [] m l, latest-before (bucketOf (getD names m [])) m (omega arith)) (e ∙ i .links m l))
-      (λ t. let e : m ≡ n = omega (arith, ltb-false m n t, length-more) in
-      let a = getD-set-other (set index place (getD index bucket 0)) bucket place (n + 1) 0 (λ k. omega (arith, below)) in
-      let b = getD-set-same index place (getD index bucket 0) 0 (omega (arith, i .size)) in
-      rw (e, name-is, latest-before bucket n (omega arith)) (a ∙ b ∙ i .heads bucket below ∙ ap (latest names bucket) (sym at)))
-
-  pub indexed-more : Indexed more (linked index n bucket)
-  indexed-more = record {
-    own = own-more word names (i .own) new;
-    size = length-set (set index place (getD index bucket 0)) bucket (n + 1) ∙ length-set index place (getD index bucket 0) ∙ i .size;
-    heads = head-more;
-    links = link-more;
+  -- a name that was among those before changes nothing
+  pub indexed-again : numberOf word names < length names → Indexed more index
+  unfolding latest isIn
+  indexed-again old = record {
+    size = i .size;
+    heads = λ b h. rw (length-more, again-is names word old, and-false (eqb (bucketOf (getD more (length names) [])) b), latest-before b (length names) (omega arith)) (i .heads b h);
+    links = λ m h f. link-before m (either (eqb m (length names)) (λ t. absurd (false≢true (sym (again-is names word old) ∙ rw (← eqb-true m (length names) t) f))) (λ t. omega (arith, eqb-false m (length names) t, length-more))) f;
   }
+
+  module _ (n : ℕ) (at : n ≡ length names) (room : n < namesMost) (new : length names ≤ numberOf word names) where
+    -- the name's bucket and its entry
+    abbrev bucket : ℕ
+    bucket = bucketOf word
+
+    abbrev place : ℕ
+    place = bucketCount + n
+
+    below : bucket < bucketCount
+    below = bucket-below word
+
+    -- an entry that is neither is as before
+    other-entry : (k : ℕ) → (k ≡ bucket → ⊥) → (k ≡ place → ⊥) → getD (linked index n bucket) k 0 ≡ getD index k 0
+    other-entry k p q =
+        getD-set-other (set index place (getD index bucket 0)) bucket k (n + 1) 0 p ∙ getD-set-other index place k (getD index bucket 0) 0 q
+
+    head-more : (b : ℕ) → b < bucketCount → getD (linked index n bucket) b 0 ≡ latest more b (length more)
+    unfolding latest isIn
+    head-more b h =
+        rw (length-more, new-is names word new, and-true (eqb (bucketOf (getD more (length names) [])) b), name-is, latest-before b (length names) (omega arith))
+        (either (eqb bucket b)
+        (λ e. rw e (rw (← eqb-true bucket b e) (getD-set-same (set index place (getD index bucket 0)) bucket (n + 1) 0 (omega (arith, length-set index place (getD index bucket 0), i .size, below)) ∙ omega arith)))
+        (λ e. rw e (other-entry b (λ k. eqb-false bucket b e (sym k)) (λ k. omega arith) ∙ i .heads b h)))
+
+    link-more : (m : ℕ) → m < length more → isFirst more m ≡ true → getD (linked index n bucket) (bucketCount + m) 0 ≡ latest more (bucketOf (getD more m [])) m
+    link-more m h f =
+        either (ltb m n)
+        (λ t. other-entry (bucketCount + m) (λ k. omega (arith, below)) (λ k. omega (arith, ltb-true m n t)) ∙ link-before m (omega (arith, ltb-true m n t)) f)
+        (λ t. let e : m ≡ length names = omega (arith, ltb-false m n t, length-more) in
+        let a = getD-set-other (set index place (getD index bucket 0)) bucket place (n + 1) 0 (λ k. omega (arith, below)) in
+        let b = getD-set-same index place (getD index bucket 0) 0 (omega (arith, i .size)) in
+        rw (e, name-is, latest-before bucket (length names) (omega arith), ← at) (a ∙ b ∙ i .heads bucket below ∙ ap (latest names bucket) (sym at)))
+
+    pub indexed-more : Indexed more (linked index n bucket)
+    indexed-more = record {
+      size = length-set (set index place (getD index bucket 0)) bucket (n + 1) ∙ length-set index place (getD index bucket 0) ∙ i .size;
+      heads = head-more;
+      links = link-more;
+    }

@@ -20,13 +20,13 @@ use Rattle.reading.specs.Numbering.{numberOf, withName, datumWords}
 use Rattle.reading.specs.Elements.{got, Reading, counted, named, takes}
 use Rattle.reading.specs.Laws.Elements.{begin-got}
 use Rattle.words.specs.Tables.{filled}
-use Rattle.reading.specs.AcceptedLaws.{number-most}
+use Rattle.reading.specs.NumberingLaws.{number-most}
 use Rattle.reader.specs.Code.Index.{bucketOf, Indexed, linked}
 use Rattle.reader.specs.Code.IndexLaws.{indexed-more}
 use Rattle.reader.specs.Code.Stored.{namesIn, stored}
 use Rattle.reader.specs.Code.StoredLaws.{names-in, length-names-in, short-more, stored-filled, stored-length}
 use Rattle.reader.specs.Code.Placed.{Holds, Stepped, groundAt, IndexedAfter, IsToken, withToken, TokenPut, NamesSound}
-use Rattle.reader.specs.Code.PlacedLaws.{filled-same}
+use Rattle.words.specs.TableLaws.{filled-same}
 use Rattle.reader.specs.Code.StepLaws.{token-refused}
 
 -- a name's one item

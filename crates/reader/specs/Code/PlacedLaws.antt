@@ -7,25 +7,12 @@ use lib.ListN.{length, getD, set, replicate, length-append, length-set}
 use lib.Seq.{set-at, getD-at}
 use Rattle.datum.specs.Datum.{Datum, Data, constantD, nameD, listD, noneD, moreD, datumItems, dataItems}
 use Rattle.reading.specs.Numbering.{datumWords, dataWords}
+use Rattle.reading.specs.NumberingLaws.{datum-length, data-length}
 use Rattle.reading.specs.Elements.{Reading, onto}
 use Rattle.words.specs.Tables.{filled}
 use Rattle.reader.specs.Code.Placed.{put3, itemsOf, wordsOf, itemsAround, openPair, wordsAround, nextItem, placed}
 
 -- ---- three words an item
-
-mutual
-  unfolding datumWords dataWords datumItems dataItems
-
-  pub length-datum : (i : ℕ) (d : Datum) → length (datumWords i d) ≡ 3 * datumItems d
-  length-datum i (constantD a) = refl
-  length-datum i (nameD n) = refl
-  length-datum i (listD ds) = length-data i ds
-
-  pub length-data : (i : ℕ) (ds : Data) → length (dataWords i ds) ≡ 3 * dataItems ds
-  length-data i noneD = refl
-  length-data i (moreD d ds) =
-      let k = suc i + datumItems d in
-      omega (arith, length-append (datumWords (suc i) d) (dataWords k ds), length-datum (suc i) d, length-data k ds)
 
 pub length-words : (i : ℕ) (l : List Datum) → length (wordsOf i l) ≡ 3 * itemsOf l
 unfolding wordsOf itemsOf
@@ -36,7 +23,7 @@ length-words i (d ∷ l) =
       arith,
       length-append (wordsOf i l) (4 ∷ suc k ∷ (suc k + datumItems d) ∷ datumWords (suc k) d),
       length-words i l,
-      length-datum (suc k) d,
+      datum-length (suc k) d,
     )
 
 pub length-around : (ls : List (List Datum)) → length (wordsAround ls) ≡ 3 * itemsAround ls
@@ -107,11 +94,6 @@ close-placed h l ls =
     rw (e, onto-words (suc k) h noneD) (simp append-assoc)
 
 -- ---- lent tables
-
--- only the length of a table matters to what fills it
-pub filled-same : (ws t u : List ℕ) → length t ≡ length u → filled ws t ≡ filled ws u
-unfolding filled
-filled-same ws t u e = rw e
 
 -- three words in place of three zeros
 three : (ws z : List ℕ) (a b c : ℕ) → set (set (set (ws ++ 0 ∷ 0 ∷ 0 ∷ z) (length ws) a) (suc (length ws)) b) (suc (suc (length ws))) c ≡ ws ++ a ∷ b ∷ c ∷ z

@@ -36,7 +36,7 @@ use Rattle.reader.specs.Code.IndexLaws.{indexed-none}
 use Rattle.reader.specs.Code.Stored.{NameTable}
 use Rattle.lexer.specs.Told.{meaningsFrom}
 use Rattle.reader.specs.Code.Placed.{Holds, itemsOf, itemsAround, wordsOf, wordsAround, openPair, nextItem, placed}
-use Rattle.reader.specs.Code.PlacedLaws.{filled-same}
+use Rattle.words.specs.TableLaws.{filled-same}
 use Rattle.reader.specs.Code.Moved.{outcomeFrom, Whole, Moved, Advanced}
 use Rattle.reader.specs.Served.{numbersOf, ServedElements}
 use Rattle.reader.specs.Code.Reached.{Reached}

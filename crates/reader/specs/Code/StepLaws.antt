@@ -34,6 +34,7 @@ use Rattle.reading.specs.Elements.{
 }
 use Rattle.reading.specs.Laws.Elements.{Within, within-is, begin-is}
 use Rattle.words.specs.Tables.{filled, begun}
+use Rattle.words.specs.TableLaws.{filled-same}
 use Rattle.reader.specs.Code.Placed.{
   put3,
   itemsOf,
@@ -55,7 +56,6 @@ use Rattle.reader.specs.Code.PlacedLaws.{
   onto-items,
   token-placed,
   open-placed,
-  filled-same,
   put-length,
   put-filled,
   tail-read,

@@ -101,13 +101,13 @@ module _ (word table index : List ℕ) (known : ℕ) (i : Indexed (namesIn table
           ap (equal word) (name-in table 0 known number entry-known ∙ ap (nameAt table) z) ∙ sym e ∙ f
 
     pub find-here : (r : Bool) → r ≡ equal word (nameAt table number) → r ≡ true → number ≡ numberOf word names
-    find-here r e f = walked-found names word number (i .own) among (compared r true e f)
+    find-here r e f = walked-found names word index i entry number (omega arith) w (compared r true e f)
 
     pub find-on : (r : Bool) → r ≡ equal word (nameAt table number) → r ≡ false → Walked names word (getD index (bucketCount + number) 0)
     find-on r e f = walked-on names word index i entry number (omega arith) w (compared r false e f)
 
     pub find-falls : getD index (bucketCount + number) 0 < entry
-    find-falls = omega (arith, link-falls names word index i number among)
+    find-falls = omega (arith, link-falls names word index i entry number (omega arith) w)
 
 -- the slots of names spell them
 names-in-from : (more names : List (List ℕ)) (rest : List ℕ) → allOf isShort (names ++ more) ≡ true

@@ -27,14 +27,17 @@ shared-slice-read-result c =
 
 returns : tie.Need-returns
 returns c =
-    let entry = c .before .before .before .before .before in
+    let at-if1 = c .before in
+    let at-places = at-if1 .before in
+    let at-wrapping-sub-usize = at-places .before in
+    let entry = at-wrapping-sub-usize .before .before in
     let a = entry .args in
     let p = within-parts 1 3 _ (entry .pre) in
-    let wrapped = c .before .before .before .wrapping-sub-usize in
-    let few = c .before .before .places .ensures in
-    let h : 3 ≤ a .at = omega (arith, wrapped .ensures, few, c .before .if1 .taken) in
-    let l : a .at ≤ length (a .work .now) = omega (arith, wrapped .ensures, few, c .before .if1 .taken) in
-    let e : wrapped .result + (3 - a .k) ≡ a .at - a .k = omega (arith, wrapped .ensures, few, c .before .if1 .taken, p .0, p .1) in
+    let wrapped = at-wrapping-sub-usize .wrapping-sub-usize in
+    let few = at-places .places .ensures in
+    let h : 3 ≤ a .at = omega (arith, wrapped .ensures, few, at-if1 .if1 .taken) in
+    let l : a .at ≤ length (a .work .now) = omega (arith, wrapped .ensures, few, at-if1 .if1 .taken) in
+    let e : wrapped .result + (3 - a .k) ≡ a .at - a .k = omega (arith, wrapped .ensures, few, at-if1 .if1 .taken, p .0, p .1) in
     ap (λ (j : ℕ). getD (a .work .now) j 0) e ∙ sym (wordAt-in (a .work .now) (a .at) (a .k) h (omega (arith, p .1)) l)
 
 returns-2 : tie.Need-returns-2

@@ -44,11 +44,13 @@ same-length c =
 
 returns : tie.Need-returns
 returns c =
-    let entry = c .before .before .before .before .before .before .before .before in
+    let at-put-empty = c .before .before in
+    let at-if1 = at-put-empty .before .before in
+    let entry = at-if1 .before .before .before .before in
     let a = entry .args in
     let pre = entry .pre in
-    let if1 = c .before .before .before .before .if1 in
-    let put-empty = c .before .before .put-empty in
+    let if1 = at-if1 .if1 in
+    let put-empty = at-put-empty .put-empty in
     laid-empty (a .items .now) (a .work .now) _ (a .count) (a .laid) _ _ pre refl (if1 .taken) (put-empty .ensures)
 
 shared-slice-read-number : tie.Need-shared-slice-read-number
@@ -80,12 +82,15 @@ same-length-2 c =
 
 returns-2 : tie.Need-returns-2
 returns-2 c =
-    let entry = c .before .before .before .before .before .before .before .before .before .before .before in
+    let at-put-name = c .before .before in
+    let at-of-item = at-put-name .before .before in
+    let at-if2 = at-of-item .before .before in
+    let entry = at-if2 .before .before .before .before .before in
     let a = entry .args in
     let pre = entry .pre in
-    let if2 = c .before .before .before .before .before .before .if2 in
-    let of-item = c .before .before .before .before .of-item in
-    let put-name = c .before .before .put-name in
+    let if2 = at-if2 .if2 in
+    let of-item = at-of-item .of-item in
+    let put-name = at-put-name .put-name in
     laid-name (a .items .now) (a .work .now) _ (a .count) (a .laid) _ _ pre refl _ (if2 .taken) (of-item .ensures) (put-name .ensures)
 
 shared-slice-read-first : tie.Need-shared-slice-read-first
@@ -118,12 +123,15 @@ node-of-requires-2 c κs =
 
 put-pair-requires : tie.Need-put-pair-requires
 put-pair-requires c κs =
-    let entry = c .before .before .before .before .before .before .before .before .before .before .before in
+    let at-node-of2 = c .before in
+    let at-node-of = at-node-of2 .before in
+    let at-if3 = at-node-of .before in
+    let entry = at-if3 .before .before .before .before .before .before .before .before in
     let a = entry .args in
     let pre = entry .pre in
-    let if3 = c .before .before .before .if3 in
-    let node-of = c .before .before .node-of in
-    let node-of2 = c .before .node-of2 in
+    let if3 = at-if3 .if3 in
+    let node-of = at-node-of .node-of in
+    let node-of2 = at-node-of2 .node-of2 in
     let h = head-below (a .items .now) (a .work .now) (a .work .now) (a .count) (a .laid) (a .count - 1 - a .laid) 0 pre refl (if3 .taken) in
     let t = tail-below (a .items .now) (a .work .now) (a .work .now) (a .count) (a .laid) (a .count - 1 - a .laid) 0 pre refl (if3 .taken) in
     (laying-room (a .items .now) (a .work .now) (a .count) (a .laid) (pre), omega (arith, node-of .ensures, node-of2 .ensures), omega (arith, node-of .ensures, node-of2 .ensures))
@@ -135,23 +143,30 @@ same-length-3 c =
 
 returns-3 : tie.Need-returns-3
 returns-3 c =
-    let entry = c .before .before .before .before .before .before .before .before .before .before .before .before .before .before in
+    let at-put-pair = c .before .before in
+    let at-node-of2 = at-put-pair .before .before in
+    let at-node-of = at-node-of2 .before in
+    let at-if3 = at-node-of .before in
+    let entry = at-if3 .before .before .before .before .before .before .before .before in
     let a = entry .args in
     let pre = entry .pre in
-    let if3 = c .before .before .before .before .before .before .if3 in
-    let node-of = c .before .before .before .before .before .node-of in
-    let node-of2 = c .before .before .before .before .node-of2 in
-    let put-pair = c .before .before .put-pair in
+    let if3 = at-if3 .if3 in
+    let node-of = at-node-of .node-of in
+    let node-of2 = at-node-of2 .node-of2 in
+    let put-pair = at-put-pair .put-pair in
     laid-pair (a .items .now) (a .work .now) _ (a .count) (a .laid) _ _ pre refl _ _ (if3 .taken) (node-of .ensures) (node-of2 .ensures) (put-pair .ensures)
 
 put-constant-requires : tie.Need-put-constant-requires
 put-constant-requires c κs =
-    let entry = c .before .before .before .before .before .before .before .before .before in
+    let at-if3 = c .before in
+    let at-if2 = at-if3 .before .before .before in
+    let at-if1 = at-if2 .before in
+    let entry = at-if1 .before .before .before .before in
     let a = entry .args in
     let pre = entry .pre in
-    let if1 = c .before .before .before .before .before .if1 in
-    let if2 = c .before .before .before .before .if2 in
-    let if3 = c .before .if3 in
+    let if1 = at-if1 .if1 in
+    let if2 = at-if2 .if2 in
+    let if3 = at-if3 .if3 in
     (laying-room (a .items .now) (a .work .now) (a .count) (a .laid) (pre), if1 .left, if2 .left, if3 .left)
 
 same-length-4 : tie.Need-same-length-4
@@ -161,13 +176,17 @@ same-length-4 c =
 
 returns-4 : tie.Need-returns-4
 returns-4 c =
-    let entry = c .before .before .before .before .before .before .before .before .before .before .before .before in
+    let at-put-constant = c .before .before in
+    let at-if3 = at-put-constant .before .before in
+    let at-if2 = at-if3 .before .before .before in
+    let at-if1 = at-if2 .before in
+    let entry = at-if1 .before .before .before .before in
     let a = entry .args in
     let pre = entry .pre in
-    let if1 = c .before .before .before .before .before .before .before .before .if1 in
-    let if2 = c .before .before .before .before .before .before .before .if2 in
-    let if3 = c .before .before .before .before .if3 in
-    let put-constant = c .before .before .put-constant in
+    let if1 = at-if1 .if1 in
+    let if2 = at-if2 .if2 in
+    let if3 = at-if3 .if3 in
+    let put-constant = at-put-constant .put-constant in
     laid-constant (a .items .now) (a .work .now) _ (a .count) (a .laid) _ _ pre refl (if1 .left) (if2 .left) (if3 .left) (put-constant .ensures)
 
 pub lay-item-spec : {M : Type 1} → statement M

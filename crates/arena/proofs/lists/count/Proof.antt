@@ -21,15 +21,24 @@ loop-holds c =
 
 add-k : tie.Need-add-k Inv-loop μ-loop
 add-k c =
-    let a = c .before .before .before .before .before .args in omega (arith, c .before .before .before .loop .inv .low, referenceAt-falls (a .work .now) (c .before .before .before .loop .node) 1 (kind-some (a .work .now) (c .before .before .before .loop .node) _ (c .before .before .word .ensures) (c .before .if1 .taken)))
+    let at-if1 = c .before in
+    let at-word = at-if1 .before in
+    let at-loop = at-word .before in
+    let a = at-loop .before .before .args in omega (arith, at-loop .loop .inv .low, referenceAt-falls (a .work .now) (at-loop .loop .node) 1 (kind-some (a .work .now) (at-loop .loop .node) _ (at-word .word .ensures) (at-if1 .if1 .taken)))
 
 loop-less : tie.Need-loop-less Inv-loop μ-loop
 loop-less c =
-    let a = c .before .before .before .before .before .args in omega (arith, c .reference .ensures, referenceAt-falls (a .work .now) (c .before .before .before .loop .node) 1 (kind-some (a .work .now) (c .before .before .before .loop .node) _ (c .before .before .word .ensures) (c .before .if1 .taken)))
+    let at-if1 = c .before in
+    let at-word = at-if1 .before in
+    let at-loop = at-word .before in
+    let a = at-loop .before .before .args in omega (arith, c .reference .ensures, referenceAt-falls (a .work .now) (at-loop .loop .node) 1 (kind-some (a .work .now) (at-loop .loop .node) _ (at-word .word .ensures) (at-if1 .if1 .taken)))
 
 loop-again : tie.Need-loop-again Inv-loop μ-loop
 loop-again c =
-    let a = c .before .before .before .before .before .args in count-more (a .work .now) (c .before .before .before .loop .node) _ (c .before .before .word .ensures) (a .list) (c .before .before .before .loop .k) _ (c .before .if1 .taken) (c .reference .ensures) (c .before .before .before .loop .inv)
+    let at-if1 = c .before in
+    let at-word = at-if1 .before in
+    let at-loop = at-word .before in
+    let a = at-loop .before .before .args in count-more (a .work .now) (at-loop .loop .node) _ (at-word .word .ensures) (a .list) (at-loop .loop .k) _ (at-if1 .if1 .taken) (c .reference .ensures) (at-loop .loop .inv)
 
 returns : tie.Need-returns Inv-loop μ-loop
 returns c =

@@ -43,17 +43,20 @@ returns-4 c =
 returns-5 : tie.Need-returns-5
 unfolding isRunning isDigit within anyOf bytes valued
 returns-5 c =
-    let args = c .before .before .before .before .before .before .before .before .args in
-    let match = c .before .before .before .before .before .before .match in
+    let at-match = c .before .before .before .before .before .before in
+    let args = at-match .before .before .args in
+    let match = at-match .match in
     valued-at isRunning false (33 ∷ 95 ∷ []) 58 2 refl (args .b) (omega arith) (omega arith)
     (any-neither _ 33 95 (match .rest .1))
 
 returns-6 : tie.Need-returns-6
 unfolding isRunning isDigit within anyOf bytes valued
 returns-6 c =
-    let b = c .before .before .before .before .before .before .before .before .before .args .b in
-    let match = c .before .before .before .before .before .before .before .match in
-    let if1 = c .before .before .before .before .before .before .before .before .if1 in
+    let at-match = c .before .before .before .before .before .before .before in
+    let at-if1 = at-match .before in
+    let b = at-if1 .before .args .b in
+    let match = at-match .match in
+    let if1 = at-if1 .if1 in
     let save = any-neither b 33 95 (match .rest .1) in
     ⊎-elim
     (λ above. valued-at isRunning false (33 ∷ 95 ∷ []) 123 133 refl b (omega (arith, leb-false b 122 (above .1 .left))) (omega arith) save)

@@ -15,20 +15,27 @@ returns-2 c =
 
 returns-3 : tie.Need-returns-3
 returns-3 c =
-    let args = c .before .before .before .before .before .before .args in
-    let if1 = c .before .before .before .before .if1 in
-    let if2 = c .before .before .before .if2 in
-    let digits-after = c .before .before .digits-after in
+    let at-digits-after = c .before .before in
+    let at-if2 = at-digits-after .before in
+    let at-if1 = at-if2 .before in
+    let args = at-if1 .before .before .args in
+    let if1 = at-if1 .if1 in
+    let if2 = at-if2 .if2 in
+    let digits-after = at-digits-after .digits-after in
     places-malformed (args .negative) (args .whole) (args .places .now)
     (places-other (args .places .now) (if1 .left) (if2 .left) (digits-after .result .count) (digits-after .ensures .count) (c .if3 .taken))
 
 returns-4 : tie.Need-returns-4
 returns-4 c =
-    let args = c .before .before .before .before .before .before .before .before .args in
-    let if1 = c .before .before .before .before .before .before .if1 in
-    let if2 = c .before .before .before .before .before .if2 in
-    let digits-after = c .before .before .before .before .digits-after in
-    let if3 = c .before .before .if3 in
+    let at-if3 = c .before .before in
+    let at-digits-after = at-if3 .before .before in
+    let at-if2 = at-digits-after .before in
+    let at-if1 = at-if2 .before in
+    let args = at-if1 .before .before .args in
+    let if1 = at-if1 .if1 in
+    let if2 = at-if2 .if2 in
+    let digits-after = at-digits-after .digits-after in
+    let if3 = at-if3 .if3 in
     with-places (args .places .now) (if1 .left) (if2 .left) (digits-after .result .count) (digits-after .ensures .count)
     (args .negative) (args .whole) _ _ (if3 .left) (c .signed .ensures) (digits-after .ensures .value)
 

@@ -27,10 +27,13 @@ loop-holds c =
 
 returns : tie.Need-returns Inv-loop μ-loop
 returns c =
-    let args = c .before .before .before .before .before .before .args in
-    let loop = c .before .before .before .before .loop in
-    let loop-test = c .before .before .before .loop-test in
-    let d = sym (c .before .is-digit .ensures) ∙ not-true _ (c .if1 .taken) in
+    let at-is-digit = c .before in
+    let at-loop-test = at-is-digit .before .before in
+    let at-loop = at-loop-test .before in
+    let args = at-loop .before .before .args in
+    let loop = at-loop .loop in
+    let loop-test = at-loop-test .loop-test in
+    let d = sym (at-is-digit .is-digit .ensures) ∙ not-true _ (c .if1 .taken) in
     record { count = sym (leading-stops isDigit (args .run .now) (loop .i) (loop-test .taken) d) ∙ loop .inv .1; value = loop .inv .2 }
 
 appended-requires : tie.Need-appended-requires Inv-loop μ-loop
@@ -41,11 +44,15 @@ appended-requires c κs =
 
 loop-again : tie.Need-loop-again Inv-loop μ-loop
 loop-again c =
-    let args = c .before .before .before .before .before .before .before .before .args in
-    let loop = c .before .before .before .before .before .before .loop in
-    let loop-test = c .before .before .before .before .before .loop-test in
-    let is-digit = c .before .before .before .is-digit in
-    let if1 = c .before .before .if1 in
+    let at-if1 = c .before .before in
+    let at-is-digit = at-if1 .before in
+    let at-loop-test = at-is-digit .before .before in
+    let at-loop = at-loop-test .before in
+    let args = at-loop .before .before .args in
+    let loop = at-loop .loop in
+    let loop-test = at-loop-test .loop-test in
+    let is-digit = at-is-digit .is-digit in
+    let if1 = at-if1 .if1 in
     let d = sym (is-digit .ensures) ∙ not-false _ (if1 .left) in (
       omega arith,
       sym (leading-more isDigit (args .run .now) (loop .i) (loop-test .taken) d) ∙ loop .inv .1,

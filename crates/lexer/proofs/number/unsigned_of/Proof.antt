@@ -42,10 +42,13 @@ decimal-of-requires c κs =
 
 returns-3 : tie.Need-returns-3
 returns-3 c =
-    let args = c .before .before .before .before .before .before .before .args in
-    let digits-after = c .before .before .before .before .before .digits-after in
+    let at-if2 = c .before .before in
+    let at-before = at-if2 .before in
+    let at-digits-after = at-before .before .before in
+    let args = at-digits-after .before .before .args in
+    let digits-after = at-digits-after .digits-after in
     c .decimal-of .ensures
-    ∙ dot-taken (args .word .now) (digits-after .result) (digits-after .ensures) (within (c .before .before .before .before)) (args .negative) (c .before .before .if2 .left)
+    ∙ dot-taken (args .word .now) (digits-after .result) (digits-after .ensures) (within (at-before .before)) (args .negative) (at-if2 .if2 .left)
 
 pub unsigned-of-spec : {M : Type 1} → statement M
 unsigned-of-spec =

@@ -30,10 +30,13 @@ loop-holds c =
 
 returns : tie.Need-returns Inv-loop μ-loop
 returns c =
-    let is-running = c .before .is-running in
-    let loop = c .before .before .before .before .loop in
-    let args = c .before .before .before .before .before .before .args in
-    let loop-test = c .before .before .before .loop-test in
+    let at-is-running = c .before in
+    let at-loop-test = at-is-running .before .before in
+    let at-loop = at-loop-test .before in
+    let is-running = at-is-running .is-running in
+    let loop = at-loop .loop in
+    let args = at-loop .before .before .args in
+    let loop-test = at-loop-test .loop-test in
     let r = sym (is-running .ensures) ∙ not-true (is-running .result) (c .if1 .taken) in
     record {
       low = loop .inv .0;
@@ -45,10 +48,13 @@ returns c =
 
 loop-again : tie.Need-loop-again Inv-loop μ-loop
 loop-again c =
-    let is-running = c .before .is-running in
-    let args = c .before .before .before .before .before .before .args in
-    let loop = c .before .before .before .before .loop in
-    let loop-test = c .before .before .before .loop-test in
+    let at-is-running = c .before in
+    let at-loop-test = at-is-running .before .before in
+    let at-loop = at-loop-test .before in
+    let is-running = at-is-running .is-running in
+    let args = at-loop .before .before .args in
+    let loop = at-loop .loop in
+    let loop-test = at-loop-test .loop-test in
     let r = sym (is-running .ensures) ∙ not-false (is-running .result) (c .if1 .left) in (
       omega arith,
       omega arith,

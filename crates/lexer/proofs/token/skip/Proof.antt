@@ -25,19 +25,25 @@ loop-holds c =
 
 returns : tie.Need-returns Inv-loop μ-loop
 returns c =
-    let is-separating = c .before .is-separating in
-    let loop = c .before .before .before .before .loop in
-    let args = c .before .before .before .before .before .before .args in
-    let loop-test = c .before .before .before .loop-test in
+    let at-is-separating = c .before in
+    let at-loop-test = at-is-separating .before .before in
+    let at-loop = at-loop-test .before in
+    let is-separating = at-is-separating .is-separating in
+    let loop = at-loop .loop in
+    let args = at-loop .before .before .args in
+    let loop-test = at-loop-test .loop-test in
     let r = sym (is-separating .ensures) ∙ not-true (is-separating .result) (c .if1 .taken) in
     record { low = loop .inv .0; high = loop .inv .1; same = loop .inv .2; start = loop .inv .3 ∙ token-start (args .text .now) (loop .at) (loop-test .taken) r; stops = λ h. r }
 
 loop-again : tie.Need-loop-again Inv-loop μ-loop
 loop-again c =
-    let is-separating = c .before .is-separating in
-    let loop = c .before .before .before .before .loop in
-    let args = c .before .before .before .before .before .before .args in
-    let loop-test = c .before .before .before .loop-test in
+    let at-is-separating = c .before in
+    let at-loop-test = at-is-separating .before .before in
+    let at-loop = at-loop-test .before in
+    let is-separating = at-is-separating .is-separating in
+    let loop = at-loop .loop in
+    let args = at-loop .before .before .args in
+    let loop-test = at-loop-test .loop-test in
     let r = sym (is-separating .ensures) ∙ not-false (is-separating .result) (c .if1 .left) in (
       omega arith,
       omega arith,

@@ -36,9 +36,11 @@ returns-2 c =
 
 returns-3 : tie.Need-returns-3
 returns-3 c =
-    let args = c .before .before .before .before .before .before .args in
-    let skip = c .before .before .before .before .skip in
-    let if1 = c .before .before .before .if1 in
+    let at-if1 = c .before .before .before in
+    let at-skip = at-if1 .before in
+    let args = at-skip .before .before .args in
+    let skip = at-skip .skip in
+    let if1 = at-if1 .if1 in
     let text = args .text .now in
     let at = skip .result in
     let h : at < length text = omega (arith, skip .ensures .high, if1 .left) in
@@ -52,13 +54,16 @@ flag-at-requires c κs =
 
 returns-4 : tie.Need-returns-4
 returns-4 c =
-    let args = c .before .before .before .before .before .before .before .before .args in
-    let skip = c .before .before .before .before .before .before .skip in
-    let if1 = c .before .before .before .before .before .if1 in
+    let at-if4 = c .before in
+    let at-if1 = at-if4 .before .before .before .before in
+    let at-skip = at-if1 .before in
+    let args = at-skip .before .before .args in
+    let skip = at-skip .skip in
+    let if1 = at-if1 .if1 in
     let text = args .text .now in
     let at = skip .result in
     let h : at < length text = omega (arith, skip .ensures .high, if1 .left) in
-    flag-told text (args .cursor .at) at (skip .ensures) h (c .before .if4 .taken) (c .flag-at .result) (c .flag-at .ensures)
+    flag-told text (args .cursor .at) at (skip .ensures) h (at-if4 .if4 .taken) (c .flag-at .result) (c .flag-at .ensures)
 
 run-end-requires : tie.Need-run-end-requires
 run-end-requires c κs =
@@ -67,19 +72,26 @@ run-end-requires c κs =
 
 add-t15 : tie.Need-add-t15
 add-t15 c =
-    let skip = c .before .before .before .before .before .before .before .skip in
-    let if1 = c .before .before .before .before .before .before .if1 in
+    let at-if1 = c .before .before .before .before .before .before in
+    let skip = at-if1 .before .skip in
+    let if1 = at-if1 .if1 in
     omega (arith, skip .ensures .high, if1 .left)
 
 returns-5 : tie.Need-returns-5
 returns-5 c =
-    let args = c .before .before .before .before .before .before .before .before .before .args in
-    let skip = c .before .before .before .before .before .before .before .skip in
-    let if1 = c .before .before .before .before .before .before .if1 in
-    let if2 = c .before .before .before .before .if2 in
-    let if3 = c .before .before .before .if3 in
-    let if4 = c .before .before .if4 in
-    let run-end = c .before .run-end in
+    let at-run-end = c .before in
+    let at-if4 = at-run-end .before in
+    let at-if3 = at-if4 .before in
+    let at-if2 = at-if3 .before in
+    let at-if1 = at-if2 .before .before in
+    let at-skip = at-if1 .before in
+    let args = at-skip .before .before .args in
+    let skip = at-skip .skip in
+    let if1 = at-if1 .if1 in
+    let if2 = at-if2 .if2 in
+    let if3 = at-if3 .if3 in
+    let if4 = at-if4 .if4 in
+    let run-end = at-run-end .run-end in
     let text = args .text .now in
     let at = skip .result in
     let h : at < length text = omega (arith, skip .ensures .high, if1 .left) in
@@ -94,12 +106,15 @@ run-token-requires c κs =
 
 returns-6 : tie.Need-returns-6
 returns-6 c =
-    let args = c .before .before .before .before .before .before .before .before .before .before .args in
-    let skip = c .before .before .before .before .before .before .before .before .skip in
-    let run-end = c .before .before .run-end in
+    let at-if5 = c .before in
+    let at-run-end = at-if5 .before in
+    let at-skip = at-run-end .before .before .before .before .before .before in
+    let args = at-skip .before .before .args in
+    let skip = at-skip .skip in
+    let run-end = at-run-end .run-end in
     let text = args .text .now in
     let at = skip .result in
-    let longer : at < run-end .result = omega (arith, run-end .ensures .low, c .before .if5 .left) in
+    let longer : at < run-end .result = omega (arith, run-end .ensures .low, at-if5 .if5 .left) in
     run-told text (args .cursor .at) at (skip .ensures) (run-end .result) (run-end .ensures) longer (c .run-token .result) (c .run-token .ensures)
 
 pub token-at-spec : {M : Type 1} → statement M

@@ -42,8 +42,9 @@ part-put-name-end c = omega (arith, named (c .before .before .before .before) .3
 
 put-name-requires : tie.Need-put-name-requires
 put-name-requires c κs =
-    let start = c .before .before .before .before .before .before .before .before .before .before .before .before in
-    (start .pre .1 .0, (start .pre .1 .1, named (c .before .before .before .before .before) .2))
+    let at-before = c .before .before .before .before in
+    let start = at-before .before .before .before .before .before .before .before .before in
+    (start .pre .1 .0, (start .pre .1 .1, named (at-before .before) .2))
 
 returns : tie.Need-returns
 returns c =
@@ -61,34 +62,43 @@ returns-2 c =
 
 returns-3 : tie.Need-returns-3
 returns-3 c =
+    let at-open-list = c .before .before .before in
+    let at-next = at-open-list .before .before .before in
+    let at-before = at-next .before in
     λ r h i.
-    let args = c .before .before .before .before .before .before .before .before .before .before .before .before .before .args in
-    let open-list = c .before .before .before .open-list in
-    let next = c .before .before .before .before .before .before .next in
+    let args = at-before .before .before .before .before .before .before .args in
+    let open-list = at-open-list .open-list in
+    let next = at-next .next in
     stepped-moved (args .text .now) (args .cursor .at) r (open-list .last .0) (args .names .now) (args .index .now) begins (next .given .0 .0)
-    (told (c .before .before .before .before .before .before .before .before) _ (next .given .1)) (begins-indexed r (args .index .now) i) (open-list .result)
+    (told (at-before .before) _ (next .given .1)) (begins-indexed r (args .index .now) i) (open-list .result)
     (c .moved .result) (c .moved .ensures) (open-list .ensures r (args .names .now) h)
 
 returns-4 : tie.Need-returns-4
 returns-4 c =
+    let at-close-list = c .before .before .before in
+    let at-next2 = at-close-list .before .before .before in
+    let at-before = at-next2 .before in
     λ r h i.
-    let args = c .before .before .before .before .before .before .before .before .before .before .before .before .before .args in
-    let close-list = c .before .before .before .close-list in
-    let next2 = c .before .before .before .before .before .before .next2 in
+    let args = at-before .before .before .before .before .before .before .args in
+    let close-list = at-close-list .close-list in
+    let next2 = at-next2 .next2 in
     stepped-moved (args .text .now) (args .cursor .at) r (close-list .last .0) (args .names .now) (args .index .now) ends (next2 .given .0 .0)
-    (told (c .before .before .before .before .before .before .before .before) _ (next2 .given .1)) (ends-indexed r (args .index .now) i) (close-list .result)
+    (told (at-before .before) _ (next2 .given .1)) (ends-indexed r (args .index .now) i) (close-list .result)
     (c .moved2 .result) (c .moved2 .ensures) (close-list .ensures r (args .names .now) h)
 
 returns-5 : tie.Need-returns-5
 unfolding boolean
 returns-5 c =
+    let at-put-token = c .before .before .before in
+    let at-b = at-put-token .before .before .before in
+    let at-before = at-b .before in
     λ r h i.
-    let args = c .before .before .before .before .before .before .before .before .before .before .before .before .before .args in
-    let put-token = c .before .before .before .put-token in
-    let b = c .before .before .before .before .before .before .b in
+    let args = at-before .before .before .before .before .before .before .args in
+    let put-token = at-put-token .put-token in
+    let b = at-b .b in
     stepped-moved (args .text .now) (args .cursor .at) r (put-token .last .0) (args .names .now) (args .index .now)
     (constant (boolean (b .given .0 .0))) (b .given .0 .1 .0)
-    (told (c .before .before .before .before .before .before .before .before) _ (b .given .1))
+    (told (at-before .before) _ (b .given .1))
     (constant-indexed r (args .index .now) i (boolean (b .given .0 .0))) (put-token .result) (c .moved3 .result)
     (c .moved3 .ensures)
     (constant-stepped r (args .place) (args .items .now) (put-token .last .0) (args .names .now) (boolean (b .given .0 .0))
@@ -96,20 +106,26 @@ returns-5 c =
 
 returns-6 : tie.Need-returns-6
 returns-6 c =
+    let at-put-token2 = c .before .before .before in
+    let at-to-word = at-put-token2 .before in
+    let at-number-kind = at-to-word .before .before in
+    let at-known-told5 = at-number-kind .before in
+    let at-z = at-known-told5 .before in
+    let at-before = at-z .before in
     λ r h i.
-    let args = c .before .before .before .before .before .before .before .before .before .before .before .before .before .before .before .args in
-    let put-token2 = c .before .before .before .put-token2 in
-    let to-word = c .before .before .before .before .to-word in
-    let number-kind = c .before .before .before .before .before .before .number-kind in
-    let known-told5 = c .before .before .before .before .before .before .before .known-told5 in
-    let z′ = c .before .before .before .before .before .before .before .before .z in
+    let args = at-before .before .before .before .before .before .before .args in
+    let put-token2 = at-put-token2 .put-token2 in
+    let to-word = at-to-word .to-word in
+    let number-kind = at-number-kind .number-kind in
+    let known-told5 = at-known-told5 .known-told5 in
+    let z′ = at-z .z in
     let w = ofZ w32 (z′ .given .0 .0) in
     let places = z′ .given .0 .1 .0 in
     let same : to-word .result ≡ w =
     to-word .ensures ∙ ap (ofZ w32) (toZ-ofZ {w = w32} {z = z′ .given .0 .0} (record { sfits = known-told5 .given .0 .1 })) in
     stepped-moved (args .text .now) (args .cursor .at) r (put-token2 .last .0) (args .names .now) (args .index .now)
     (constant (number w places)) (z′ .given .0 .1 .1 .0)
-    (told (c .before .before .before .before .before .before .before .before .before .before) _ (z′ .given .1))
+    (told (at-before .before) _ (z′ .given .1))
     (constant-indexed r (args .index .now) i (number w places)) (put-token2 .result)
     (c .moved4 .result) (c .moved4 .ensures)
     (constant-stepped r (args .place) (args .items .now) (put-token2 .last .0) (args .names .now) (number w places)
@@ -117,14 +133,17 @@ returns-6 c =
 
 returns-7 : tie.Need-returns-7
 returns-7 c =
+    let at-put-name = c .before .before .before .before .before .before .before in
+    let at-before = at-put-name .before .before .before .before .before in
+    let at-from = at-before .before in
     λ r h i.
-    let args = c .before .before .before .before .before .before .before .before .before .before .before .before .before .before .before .before .before .before .before .before .args in
-    let from = c .before .before .before .before .before .before .before .before .before .before .before .before .before .from in
-    let put-name = c .before .before .before .before .before .before .before .put-name in
+    let args = at-from .before .before .before .before .before .before .before .args in
+    let from = at-from .from in
+    let put-name = at-put-name .put-name in
     let t = put-name .ensures r h in
     stepped-moved (args .text .now) (args .cursor .at) r (put-name .last .0) (put-name .last .1 .0) (put-name .last .1 .1 .0)
     (name (part (from .given .0 .0) (from .given .0 .1 .0 .at) (args .text .now))) (from .given .0 .1 .0)
-    (named (c .before .before .before .before .before .before .before .before .before .before .before .before .before) .3) (t .1) (put-name .result) (c .moved5 .result) (c .moved5 .ensures) (t .0)
+    (named (at-before .before) .3) (t .1) (put-name .result) (c .moved5 .result) (c .moved5 .ensures) (t .0)
 
 pub advance-spec : {M : Type 1} → statement M
 advance-spec =

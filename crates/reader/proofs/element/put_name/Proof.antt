@@ -9,64 +9,87 @@ use Rattle.reader.specs.Code.NameStepLaws.{found-most, name-known, name-
 
 returns : tie.Need-returns
 returns c =
+    let at-put-token = c .before .before in
+    let at-if1 = at-put-token .before .before in
+    let at-find = at-if1 .before .before in
+    let at-args = at-find .before .before .before .before .before .before .before .before in
     λ r h.
-    let args = c .before .before .before .before .before .before .before .before .before .before .before .before .before .before .args in
-    let find = c .before .before .before .before .before .before .find in
-    let put-token = c .before .before .put-token in
-    let if1 = c .before .before .before .before .if1 in
-    let pre = c .before .before .before .before .before .before .before .before .before .before .before .before .before .before .pre in
+    let args = at-args .args in
+    let find = at-find .find in
+    let put-token = at-put-token .put-token in
+    let if1 = at-if1 .if1 in
+    let pre = at-args .pre in
     name-known r (args .place) (args .items .now) (args .names .now) h (args .word .now) (find .result) (find .ensures)
     (args .index .now) (pre .1 .0 .indexed) _ (put-token .result) (if1 .taken) (put-token .ensures)
 
 returns-2 : tie.Need-returns-2
 returns-2 c =
+    let at-if2 = c .before in
+    let at-if1 = at-if2 .before in
+    let at-find = at-if1 .before .before in
+    let at-args = at-find .before .before .before .before .before .before .before .before in
     λ r h.
-    let args = c .before .before .before .before .before .before .before .before .before .before .before .before .args in
-    let find = c .before .before .before .before .find in
-    let if1 = c .before .before .if1 in
-    let pre = c .before .before .before .before .before .before .before .before .before .before .before .before .pre in
+    let args = at-args .args in
+    let find = at-find .find in
+    let if1 = at-if1 .if1 in
+    let pre = at-args .pre in
     name-full r (args .place) (args .items .now) (args .names .now) h (args .word .now) (find .result) (find .ensures)
-    (args .index .now) (pre .1 .0 .indexed) (if1 .left) (pre .1 .1) _ _ (c .ground-at .result) (c .before .if2 .taken) (c .ground-at .ensures)
+    (args .index .now) (pre .1 .0 .indexed) (if1 .left) (pre .1 .1) _ _ (c .ground-at .result) (at-if2 .if2 .taken) (c .ground-at .ensures)
 
 enter-requires : tie.Need-enter-requires
 enter-requires c κs =
-    let args = c .before .before .before .before .before .before .before .before .before .before .before .before .before .args in
-    let find = c .before .before .before .before .before .find in
-    let pre = c .before .before .before .before .before .before .before .before .before .before .before .before .before .pre in
+    let at-if2 = c .before .before in
+    let at-find = at-if2 .before .before .before in
+    let at-bucket-of = at-find .before .before .before in
+    let at-args = at-bucket-of .before .before .before .before .before in
+    let args = at-args .args in
+    let find = at-find .find in
+    let pre = at-args .pre in
     let l = found-most (args .word .now) (args .names .now) (args .place .known) (find .result) (find .ensures) in
-    let if2 = c .before .before .if2 in
-    let bucket-of = c .before .before .before .before .before .before .before .before .bucket-of in
+    let if2 = at-if2 .if2 in
+    let bucket-of = at-bucket-of .bucket-of in
     let few : find .result < namesMost = omega (arith, l, if2 .left, pre .0 .names) in
     let b = bucket-below (args .word .now) in
     ((omega (arith, few, pre .1 .0 .room), pre .1 .1), (pre .1 .0 .indexed .size, few, omega (arith, b, bucket-of .ensures)))
 
 cast-put-token-2 : tie.Need-cast-put-token-2
 cast-put-token-2 c =
-    let args = c .before .before .before .before .before .before .before .before .before .before .before .before .before .before .before .before .before .before .before .args in
-    let find = c .before .before .before .before .before .before .before .before .before .before .before .find in
-    let pre = c .before .before .before .before .before .before .before .before .before .before .before .before .before .before .before .before .before .before .before .pre in
+    let at-find = c .before .before .before .before .before .before .before .before .before .before .before in
+    let at-args = at-find .before .before .before .before .before .before .before .before in
+    let args = at-args .args in
+    let find = at-find .find in
+    let pre = at-args .pre in
     let l = found-most (args .word .now) (args .names .now) (args .place .known) (find .result) (find .ensures) in omega
     (arith, l, pre .0 .names)
 
 add-put-token : tie.Need-add-put-token
 add-put-token c =
-    let args = c .before .before .before .before .before .before .before .before .before .before .before .before .before .before .before .before .before .before .before .args in
-    let find = c .before .before .before .before .before .before .before .before .before .before .before .find in
-    let pre = c .before .before .before .before .before .before .before .before .before .before .before .before .before .before .before .before .before .before .before .pre in
+    let at-find = c .before .before .before .before .before .before .before .before .before .before .before in
+    let at-args = at-find .before .before .before .before .before .before .before .before in
+    let args = at-args .args in
+    let find = at-find .find in
+    let pre = at-args .pre in
     let l = found-most (args .word .now) (args .names .now) (args .place .known) (find .result) (find .ensures) in omega
     (arith, l, pre .0 .names)
 
 returns-3 : tie.Need-returns-3
 returns-3 c =
+    let at-put-token2 = c .before .before in
+    let at-enter = at-put-token2 .before .before .before .before .before .before in
+    let at-if2 = at-enter .before .before .before in
+    let at-if1 = at-if2 .before in
+    let at-find = at-if1 .before .before in
+    let at-bucket-of = at-find .before .before .before in
+    let at-args = at-bucket-of .before .before .before .before .before in
     λ r h.
-    let args = c .before .before .before .before .before .before .before .before .before .before .before .before .before .before .before .before .before .before .before .before .before .before .args in
-    let find = c .before .before .before .before .before .before .before .before .before .before .before .before .before .before .find in
-    let if2 = c .before .before .before .before .before .before .before .before .before .before .before .if2 in
-    let pre = c .before .before .before .before .before .before .before .before .before .before .before .before .before .before .before .before .before .before .before .before .before .before .pre in
-    let bucket-of = c .before .before .before .before .before .before .before .before .before .before .before .before .before .before .before .before .before .bucket-of in
-    let enter = c .before .before .before .before .before .before .before .before .enter in
-    let if1 = c .before .before .before .before .before .before .before .before .before .before .before .before .if1 in
-    let put-token2 = c .before .before .put-token2 in
+    let args = at-args .args in
+    let find = at-find .find in
+    let if2 = at-if2 .if2 in
+    let pre = at-args .pre in
+    let bucket-of = at-bucket-of .bucket-of in
+    let enter = at-enter .enter in
+    let if1 = at-if1 .if1 in
+    let put-token2 = at-put-token2 .put-token2 in
     let l = found-most (args .word .now) (args .names .now) (args .place .known) (find .result) (find .ensures) in
     let few : find .result < namesMost = omega (arith, l, if2 .left, pre .0 .names) in
     rw (enter .ensures .0, enter .ensures .1, bucket-of .ensures)

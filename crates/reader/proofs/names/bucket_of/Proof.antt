@@ -29,7 +29,7 @@ mul-bucket c =
 add-bucket : tie.Need-add-bucket Inv-loop μ-loop
 add-bucket c =
     let loop = c .before .before .before .loop in
-    omega (arith, loop .inv .1, c .wide .ensures, c .before .shared-slice-known2 .given (loop .i))
+    omega (arith, loop .inv .1, c .byte .ensures, c .before .shared-slice-known2 .given (loop .i))
 
 loop-again : tie.Need-loop-again Inv-loop μ-loop
 loop-again c =
@@ -37,7 +37,7 @@ loop-again c =
     let loop = c .before .before .before .loop in
     let loop-test = c .before .before .loop-test in
     let e = bucket-step (args .word .now) (loop .i) (loop .bucket) (loop-test .taken) in
-    (omega arith, omega arith, rw (c .wide .ensures) (sym e ∙ loop .inv .2))
+    (omega arith, omega arith, rw (c .byte .ensures) (sym e ∙ loop .inv .2))
 
 returns : tie.Need-returns Inv-loop μ-loop
 returns c =
@@ -54,8 +54,8 @@ bucket-of-spec =
     μ-loop
     loop-holds
     mul-bucket
-    (λ c. search needs)  -- shared-slice-read-wide
-    (λ c κs. search needs)  -- wide-requires
+    (λ c. search needs)  -- shared-slice-read-byte
+    (λ c κs. search needs)  -- byte-requires
     add-bucket
     (λ c. search needs)  -- add-i
     (λ c. search needs)  -- loop-less

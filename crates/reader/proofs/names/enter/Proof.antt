@@ -8,8 +8,9 @@ use Rattle.reader.specs.Code.Index.{bucketCount}
 
 slice-write-index-2 : tie.Need-slice-write-index-2
 slice-write-index-2 c =
-    let args = c .before .before .before .before .before .before .before .before .args in
-    let pre = c .before .before .before .before .before .before .before .before .pre in
+    let at-args = c .before .before .before .before .before .before .before .before in
+    let args = at-args .args in
+    let pre = at-args .pre in
     let index = args .index .now in
     omega (arith, pre .1 .0, pre .1 .2, length-set index (bucketCount + args .number) (getD index (args .bucket) 0))
 

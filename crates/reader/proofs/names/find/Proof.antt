@@ -21,8 +21,10 @@ abbrev μ-loop : tie.MeasureT-loop
 -- the name of an entry is stored
 entry-stored : (c : tie.In-loop Inv-loop μ-loop) → c .before .loop .entry - 1 < c .before .before .before .before .before .before .args .known
 entry-stored c =
-    let args = c .before .before .before .before .before .before .args in
-    entry-known (args .word .now) (args .names .now) (args .index .now) (args .known) (c .before .before .before .before .before .before .pre .1 .0 .0) (c .before .loop .entry) (c .before .loop .inv) (c .loop-test .taken)
+    let at-loop = c .before in
+    let at-args = at-loop .before .before .before .before .before in
+    let args = at-args .args in
+    entry-known (args .word .now) (args .names .now) (args .index .now) (args .known) (at-args .pre .1 .0 .0) (at-loop .loop .entry) (at-loop .loop .inv) (c .loop-test .taken)
 
 entry-at-requires : tie.Need-entry-at-requires Inv-loop μ-loop
 entry-at-requires c κs =
@@ -44,11 +46,15 @@ spells-requires c κs =
 
 returns : tie.Need-returns Inv-loop μ-loop
 returns c =
-    let args = c .before .before .before .before .before .before .before .before .args in
-    let pre = c .before .before .before .before .before .before .before .before .pre in
-    let loop = c .before .before .before .loop in
-    let loop-test = c .before .before .loop-test in
-    let spells = c .before .spells in
+    let at-spells = c .before in
+    let at-loop-test = at-spells .before in
+    let at-loop = at-loop-test .before in
+    let at-args = at-loop .before .before .before .before .before in
+    let args = at-args .args in
+    let pre = at-args .pre in
+    let loop = at-loop .loop in
+    let loop-test = at-loop-test .loop-test in
+    let spells = at-spells .spells in
     find-here (args .word .now) (args .names .now) (args .index .now) (args .known) (pre .1 .0 .0) (loop .entry) (loop .inv)
     (loop-test .taken) (spells .result) (spells .ensures) (c .if1 .taken)
 
@@ -62,31 +68,41 @@ entry-at-requires-2 c κs =
 
 loop-less : tie.Need-loop-less Inv-loop μ-loop
 loop-less c =
-    let args = c .before .before .before .before .before .before .before .before .before .args in
-    let pre = c .before .before .before .before .before .before .before .before .before .pre in
-    let loop = c .before .before .before .before .loop in
-    let loop-test = c .before .before .before .loop-test in
+    let at-loop-test = c .before .before .before in
+    let at-loop = at-loop-test .before in
+    let at-args = at-loop .before .before .before .before .before in
+    let args = at-args .args in
+    let pre = at-args .pre in
+    let loop = at-loop .loop in
+    let loop-test = at-loop-test .loop-test in
     rw (c .entry-at2 .ensures)
     (find-falls (args .word .now) (args .names .now) (args .index .now) (args .known) (pre .1 .0 .0) (loop .entry) (loop .inv)
     (loop-test .taken))
 
 loop-again : tie.Need-loop-again Inv-loop μ-loop
 loop-again c =
-    let args = c .before .before .before .before .before .before .before .before .before .args in
-    let pre = c .before .before .before .before .before .before .before .before .before .pre in
-    let loop = c .before .before .before .before .loop in
-    let loop-test = c .before .before .before .loop-test in
-    let spells = c .before .before .spells in
-    let if1 = c .before .if1 in
+    let at-if1 = c .before in
+    let at-spells = at-if1 .before in
+    let at-loop-test = at-spells .before in
+    let at-loop = at-loop-test .before in
+    let at-args = at-loop .before .before .before .before .before in
+    let args = at-args .args in
+    let pre = at-args .pre in
+    let loop = at-loop .loop in
+    let loop-test = at-loop-test .loop-test in
+    let spells = at-spells .spells in
+    let if1 = at-if1 .if1 in
     rw (c .entry-at2 .ensures)
     (find-on (args .word .now) (args .names .now) (args .index .now) (args .known) (pre .1 .0 .0) (loop .entry) (loop .inv)
     (loop-test .taken) (spells .result) (spells .ensures) (if1 .left))
 
 returns-2 : tie.Need-returns-2 Inv-loop μ-loop
 returns-2 c =
-    let args = c .before .before .before .before .before .before .args in
-    let pre = c .before .before .before .before .before .before .pre in
-    let loop = c .before .loop in
+    let at-loop = c .before in
+    let at-args = at-loop .before .before .before .before .before in
+    let args = at-args .args in
+    let pre = at-args .pre in
+    let loop = at-loop .loop in
     let w = subst (Walked (namesIn (args .names .now) 0 (args .known)) (args .word .now)) (c .loop-test .left) (loop .inv) in
     find-end (args .word .now) (args .names .now) (args .index .now) (args .known) (pre .1 .0 .0) w
 

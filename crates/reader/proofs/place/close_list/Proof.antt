@@ -63,9 +63,10 @@ sub-t9 c =
 
 returns-2 : tie.Need-returns-2
 returns-2 c =
+    let at-if1 = c .before .before .before .before .before in
     λ r bytes h.
-    let args = c .before .before .before .before .before .before .before .args in
-    let if1 = c .before .before .before .before .before .if1 in
+    let args = at-if1 .before .before .args in
+    let if1 = at-if1 .if1 in
     close-went r (args .place) (args .items .now) bytes h (if1 .left)
 
 pub close-list-spec : {M : Type 1} → statement M

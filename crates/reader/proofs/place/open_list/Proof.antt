@@ -35,10 +35,13 @@ cast-put-item-2 c =
 
 put-item-requires : tie.Need-put-item-requires
 put-item-requires c κs =
-    let args = c .before .before .before .before .before .before .args in
-    let ground-at = c .before .before .before .ground-at in
-    let if1 = c .before .before .if1 in
-    let pre = c .before .before .before .before .before .before .pre in
+    let at-if1 = c .before .before in
+    let at-ground-at = at-if1 .before in
+    let at-args = at-ground-at .before .before .before in
+    let args = at-args .args in
+    let ground-at = at-ground-at .ground-at in
+    let if1 = at-if1 .if1 in
+    let pre = at-args .pre in
     let l = ground-room (args .place) (args .place .known) (args .place .depth + 1) (sym (ground-at .ensures) ∙ if1 .left) in
     omega (arith, pre .even, pre .room, l)
 
@@ -59,11 +62,14 @@ add-t13 c =
 
 returns-2 : tie.Need-returns-2
 returns-2 c =
+    let at-put-item = c .before .before .before .before .before in
+    let at-if1 = at-put-item .before .before .before in
+    let at-ground-at = at-if1 .before in
     λ r bytes h.
-    let args = c .before .before .before .before .before .before .before .before .before .before .before .before .args in
-    let ground-at = c .before .before .before .before .before .before .before .before .before .ground-at in
-    let if1 = c .before .before .before .before .before .before .before .before .if1 in
-    let put-item = c .before .before .before .before .before .put-item in
+    let args = at-ground-at .before .before .before .args in
+    let ground-at = at-ground-at .ground-at in
+    let if1 = at-if1 .if1 in
+    let put-item = at-put-item .put-item in
     open-went r (args .place) (args .items .now) bytes h _ (c .lacking .result) (sym (ground-at .ensures) ∙ if1 .left)
     (put-item .ensures) (c .lacking .ensures)
 

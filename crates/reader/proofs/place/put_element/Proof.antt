@@ -14,9 +14,11 @@ put-item-requires-2 c κs =
 
 returns : tie.Need-returns
 returns c =
-    let put-item2 = c .before .before .put-item2 in
-    let args = c .before .before .before .before .before .before .before .before .before .args in
-    let put-item = c .before .before .before .before .before .before .put-item in
+    let at-put-item2 = c .before .before in
+    let at-put-item = at-put-item2 .before .before .before .before in
+    let put-item2 = at-put-item2 .put-item2 in
+    let args = at-put-item .before .before .before .args in
+    let put-item = at-put-item .put-item in
     put-item2 .ensures ∙ ap (λ t. put3 t (3 * (args .item + 1)) (args .kind) (args .first) (args .second)) (put-item .ensures)
 
 pub put-element-spec : {M : Type 1} → statement M

@@ -33,11 +33,14 @@ add-t13 c =
 
 returns-2 : tie.Need-returns-2
 returns-2 c =
+    let at-put-element = c .before .before .before .before .before in
+    let at-if1 = at-put-element .before .before in
+    let at-ground-at = at-if1 .before in
     λ r d names bytes table h t k s f b.
-    let args = c .before .before .before .before .before .before .before .before .before .before .args in
-    let ground-at = c .before .before .before .before .before .before .before .before .ground-at in
-    let if1 = c .before .before .before .before .before .before .before .if1 in
-    let put-element = c .before .before .before .before .before .put-element in
+    let args = at-ground-at .before .before .args in
+    let ground-at = at-ground-at .ground-at in
+    let if1 = at-if1 .if1 in
+    let put-element = at-put-element .put-element in
     token-went r (args .place) (args .items .now) bytes h d (args .kind) (args .first) (args .second) t names (args .known) k _ table
     (c .lacking .result)
     (sym (ground-at .ensures) ∙ if1 .left) s f b (put-element .ensures) (c .lacking .ensures)

@@ -11,8 +11,11 @@ returns c =
 
 returns-2 : tie.Need-returns-2
 returns-2 c =
-    let a = c .before .before .before .before .before .before .args in
-    finds-inner (a .work .now) (a .number) (a .own) (a .w) _ (c .before .before .before .before .passed .ensures) _ _ (c .before .before .before .if1 .left) (c .before .before .passed2 .ensures) (c .binding-by2 .ensures)
+    let at-passed2 = c .before .before in
+    let at-if1 = at-passed2 .before in
+    let at-passed = at-if1 .before in
+    let a = at-passed .before .before .args in
+    finds-inner (a .work .now) (a .number) (a .own) (a .w) _ (at-passed .passed .ensures) _ _ (at-if1 .if1 .left) (at-passed2 .passed2 .ensures) (c .binding-by2 .ensures)
 
 returns-3 : tie.Need-returns-3
 returns-3 c =

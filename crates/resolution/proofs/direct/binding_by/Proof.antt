@@ -18,8 +18,13 @@ returns-2 c =
 
 returns-3 : tie.Need-returns-3
 returns-3 c =
-    let a = c .before .before .before .before .before .before .before .before .args in
-    finds-binder (a .work .now) (a .number) (a .own) (a .at) _ _ _ _ (c .before .before .before .before .before .before .word .ensures) (c .before .before .before .before .before .if1 .left) (c .before .before .before .reference .ensures) (whole (λ s. OnlyMark s (a .number) (a .own) (c .before .before .before .reference .result) (c .before .before .only-mark .result)) (a .work .now) (c .before .before .only-mark .ensures)) (c .before .if2 .left) (c .given-key .ensures)
+    let at-if2 = c .before in
+    let at-only-mark = at-if2 .before in
+    let at-reference = at-only-mark .before in
+    let at-if1 = at-reference .before .before in
+    let at-word = at-if1 .before in
+    let a = at-word .before .before .args in
+    finds-binder (a .work .now) (a .number) (a .own) (a .at) _ _ _ _ (at-word .word .ensures) (at-if1 .if1 .left) (at-reference .reference .ensures) (whole (λ s. OnlyMark s (a .number) (a .own) (at-reference .reference .result) (at-only-mark .only-mark .result)) (a .work .now) (at-only-mark .only-mark .ensures)) (at-if2 .if2 .left) (c .given-key .ensures)
 
 pub binding-by-spec : {M : Type 1} → statement M
 binding-by-spec =

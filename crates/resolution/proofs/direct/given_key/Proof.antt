@@ -26,8 +26,17 @@ returns-4 c =
 
 returns-5 : tie.Need-returns-5
 returns-5 c =
-    let a = c .before .before .before .before .before .before .before .before .before .before .before .args in
-    gives-key (a .work .now) (a .number) (a .at) (a .mark) _ _ _ _ _ _ (c .before .before .before .before .before .before .before .before .before .word .ensures) (c .before .before .before .before .before .before .before .before .if1 .left) (c .before .before .before .before .before .before .before .word2 .ensures) (c .before .before .before .before .before .before .if2 .left) (c .before .before .before .before .before .word3 .ensures) (c .before .before .before .before .count-of .ensures) (c .before .before .before .if3 .left) (c .before .before .word4 .ensures) (c .before .if4 .left) (c .word5 .ensures)
+    let at-if4 = c .before in
+    let at-word4 = at-if4 .before in
+    let at-if3 = at-word4 .before in
+    let at-count-of = at-if3 .before in
+    let at-word3 = at-count-of .before in
+    let at-if2 = at-word3 .before in
+    let at-word2 = at-if2 .before in
+    let at-if1 = at-word2 .before in
+    let at-word = at-if1 .before in
+    let a = at-word .before .before .args in
+    gives-key (a .work .now) (a .number) (a .at) (a .mark) _ _ _ _ _ _ (at-word .word .ensures) (at-if1 .if1 .left) (at-word2 .word2 .ensures) (at-if2 .if2 .left) (at-word3 .word3 .ensures) (at-count-of .count-of .ensures) (at-if3 .if3 .left) (at-word4 .word4 .ensures) (at-if4 .if4 .left) (c .word5 .ensures)
 
 pub given-key-spec : {M : Type 1} → statement M
 given-key-spec =

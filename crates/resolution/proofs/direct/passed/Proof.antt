@@ -27,13 +27,18 @@ returns c =
 
 loop-less : tie.Need-loop-less Inv-loop μ-loop
 loop-less c =
-    omega (arith, c .reference .ensures, referenceAt-falls (c .before .before .before .before .before .before .args .work .now) (c .before .before .before .before .loop .at) 2 (omega (arith, c .before .before .before .loop-test .taken)))
+    let at-loop-test = c .before .before .before in
+    let at-loop = at-loop-test .before in
+    omega (arith, c .reference .ensures, referenceAt-falls (at-loop .before .before .args .work .now) (at-loop .loop .at) 2 (omega (arith, at-loop-test .loop-test .taken)))
 
 loop-again : tie.Need-loop-again Inv-loop μ-loop
 loop-again c =
-    let loop = c .before .before .before .before .loop in
-    let a = c .before .before .before .before .before .before .args in
-    passes-on (a .work .now) (a .number) (a .w) (loop .at) _ (loop .inv) (c .before .before .is-passed .ensures (not-false _ (c .before .if1 .left))) (c .reference .ensures)
+    let at-if1 = c .before in
+    let at-is-passed = at-if1 .before in
+    let at-loop = at-is-passed .before .before in
+    let loop = at-loop .loop in
+    let a = at-loop .before .before .args in
+    passes-on (a .work .now) (a .number) (a .w) (loop .at) _ (loop .inv) (at-is-passed .is-passed .ensures (not-false _ (at-if1 .if1 .left))) (c .reference .ensures)
 
 returns-2 : tie.Need-returns-2 Inv-loop μ-loop
 returns-2 c =

@@ -55,12 +55,15 @@ toggle-slice-write-marks-3 t c =
 
 toggle-returns-4 : (t : ℕ) → toggle-lts.Need-returns-4 (toggle-claims t) (toggle-at t) toggle.Post
 toggle-returns-4 t c =
-    let entry = c .before .before .before .before .before .before .before .before .before in
+    let at-toggle = c .before .before in
+    let at-if2 = at-toggle .before .before .before in
+    let at-if1 = at-if2 .before .before in
+    let entry = at-if1 .before .before in
     let a = entry .args in
     let pre = entry .pre in
-    let if1 = c .before .before .before .before .before .before .before .if1 in
-    let if2 = c .before .before .before .before .before .if2 in
-    let toggle = c .before .before .toggle in
+    let if1 = at-if1 .if1 in
+    let if2 = at-if2 .if2 in
+    let toggle = at-toggle .toggle in
     let l : a .m ≤ getD (a .marks .now) (a .start + (a .count - 1)) 0 = omega arith in toggled-later (a .marks .now) (a .start) (a .count) (a .m) (pre .1) (if1 .left) (if2 .left) l (toggle .last .0) (toggle .result) (toggle .kept .0) (toggle .ensures)
 
 pub +toggle-spec : {M : Type 1} → statement M

@@ -11,7 +11,8 @@ use Rattle.resolution.specs.HandLaws.{fits-within, fits-not, count-most,
 -- src/marks.rt:51:9
 returns : tie.Need-returns
 returns c =
-    fits-within (c .before .before .args .marks .now) (c .before .before .args .start + stepLimit) (c .before .before .args .count) (omega (arith, (c .before .before .pre) .room)) (after-unmarked (c .before .before .args .marks .now) (c .before .before .args .start) (c .before .before .args .count) (c .before .before .args .m) (c .before .before .pre) (c .if1 .taken))
+    let at-args = c .before .before in
+    fits-within (at-args .args .marks .now) (at-args .args .start + stepLimit) (at-args .args .count) (omega (arith, (at-args .pre) .room)) (after-unmarked (at-args .args .marks .now) (at-args .args .start) (at-args .args .count) (at-args .args .m) (at-args .pre) (c .if1 .taken))
 
 -- src/marks.rt:53:23
 add-if2 : tie.Need-add-if2
@@ -24,7 +25,8 @@ add-result c = search needs
 -- src/marks.rt:54:9
 returns-2 : tie.Need-returns-2
 returns-2 c =
-    fits-not (c .before .before .before .args .marks .now) (c .before .before .before .args .start + stepLimit) (length (c .before .before .before .args .marks .now) + 1) (omega arith) (omega (arith, count-most (c .before .before .before .args .marks .now) (c .before .before .before .args .start) (c .before .before .before .args .count) (c .before .before .before .pre .descends)))
+    let at-args = c .before .before .before in
+    fits-not (at-args .args .marks .now) (at-args .args .start + stepLimit) (length (at-args .args .marks .now) + 1) (omega arith) (omega (arith, count-most (at-args .args .marks .now) (at-args .args .start) (at-args .args .count) (at-args .pre .descends)))
 
 -- src/marks.rt:56:5
 toggle-requires : tie.Need-toggle-requires
@@ -38,9 +40,12 @@ same-length c =
 -- src/marks.rt:46:1
 returns-3 : tie.Need-returns-3
 returns-3 c =
-    let l : c .before .before .before .before .before .before .before .args .m < stepLimit = omega arith in
-    fits-within (c .before .before .toggle .last .0) (c .before .before .before .before .before .before .before .args .start + stepLimit) (c .before .before .toggle .result) (omega (arith, c .before .before .toggle .ensures .room, c .before .before .toggle .kept .0))
-    (after-marked (c .before .before .before .before .before .before .before .args .marks .now) (c .before .before .before .before .before .before .before .args .start) (c .before .before .before .before .before .before .before .args .count) (c .before .before .before .before .before .before .before .args .m) (c .before .before .before .before .before .before .before .pre) l (c .before .before .before .before .if2 .left) _ _ (c .before .before .toggle .kept .0) (c .before .before .toggle .ensures))
+    let at-toggle = c .before .before in
+    let at-if2 = at-toggle .before .before in
+    let at-args = at-if2 .before .before .before in
+    let l : at-args .args .m < stepLimit = omega arith in
+    fits-within (at-toggle .toggle .last .0) (at-args .args .start + stepLimit) (at-toggle .toggle .result) (omega (arith, at-toggle .toggle .ensures .room, at-toggle .toggle .kept .0))
+    (after-marked (at-args .args .marks .now) (at-args .args .start) (at-args .args .count) (at-args .args .m) (at-args .pre) l (at-if2 .if2 .left) _ _ (at-toggle .toggle .kept .0) (at-toggle .toggle .ensures))
 
 pub mark-spec : {M : Type 1} → statement M
 mark-spec =

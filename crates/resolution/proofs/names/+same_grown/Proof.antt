@@ -31,9 +31,11 @@ same-grown-claims t = (compare-reads.Asked, compare-reads.Learnt, same-grown-bel
 
 same-grown-same-grown-requires : (t : ℕ) → same-grown-lts.Need-same-grown-requires (same-grown-claims t) (same-grown-at t) same-grown.Post
 same-grown-same-grown-requires t c κs =
-    let pre = c .before .before .before .before .before .before .before .before .before .pre in
-    let compare = c .before .before .before .before .before .compare in
-    let enum-told3 = c .before .enum-told3 in
+    let at-enum-told3 = c .before in
+    let at-compare = at-enum-told3 .before .before .before .before in
+    let pre = at-compare .before .before .before .before .pre in
+    let compare = at-compare .compare in
+    let enum-told3 = at-enum-told3 .enum-told3 in
     (omega (arith, pre .0, told-full (compare .ensures) (enum-told3 .given .1), compare .kept .1 .0), tt)
 
 same-grown-returns : (t : ℕ) → same-grown-lts.Need-returns (same-grown-claims t) (same-grown-at t) same-grown.Post

@@ -39,9 +39,11 @@ summary-grown-returns t c =
 
 summary-grown-summary-grown-requires : (t : ℕ) → summary-grown-lts.Need-summary-grown-requires (summary-grown-claims t) (summary-grown-at t) summary-grown.Post
 summary-grown-summary-grown-requires t c κs =
-    let pre = c .before .before .before .before .before .before .before .before .before .pre in
-    let summary-in = c .before .before .before .before .before .summary-in in
-    let if1 = c .before .if1 in
+    let at-if1 = c .before in
+    let at-summary-in = at-if1 .before .before .before .before in
+    let pre = at-summary-in .before .before .before .before .pre in
+    let summary-in = at-summary-in .summary-in in
+    let if1 = at-if1 .if1 in
     (omega (arith, pre .0, summary-in .ensures .full (if1 .left), summary-in .kept .1 .0), tt)
 
 summary-grown-returns-2 : (t : ℕ) → summary-grown-lts.Need-returns-2 (summary-grown-claims t) (summary-grown-at t) summary-grown.Post

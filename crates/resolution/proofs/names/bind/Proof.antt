@@ -3,8 +3,9 @@ use borrow.Author.Needs.{needs}
 use Rattle.resolution.proofs.names.bind.Statement.{statement}
 use Rattle.resolution.proofs.names.bind.Tie as tie
 use Rattle.arena.specs.ArenaLaws.{referenceAt-most}
-use Rattle.resolution.specs.NameLaws.{described, binds-name}
+use Rattle.resolution.specs.NameLaws.{binds-name}
 use native.Mathlib.Omega.{arith}
+use mathlib.Core.Path.{refl}
 
 put-binder-requires : tie.Need-put-binder-requires
 put-binder-requires c κs =
@@ -16,14 +17,16 @@ put-binder-requires c κs =
 
 returns : tie.Need-returns
 returns c =
-    let a = c .before .before .before .before .before .before .before .before .before .before .before .before .args in
-    let number-of = c .before .before .before .before .before .before .before .before .before .number-of in
-    let summary-of = c .before .before .before .before .before .before .before .summary-of in
-    let reference = c .before .before .before .before .before .reference in
-    let put-binder = c .before .before .put-binder in
-    binds-name (a .node) (a .w) (a .key) (a .parent) _ _ _ _ _ (a .work .now) _ (a .top) _
-    (described (a .work .now) (a .node) (a .w) _ _ (reference .ensures) (number-of .ensures) _ _ _ (summary-of .ensures))
-    (put-binder .ensures)
+    let at-put-binder = c .before .before in
+    let at-reference = at-put-binder .before .before .before in
+    let at-summary-of = at-reference .before .before in
+    let at-number-of = at-summary-of .before .before in
+    let a = at-number-of .before .before .before .args in
+    let number-of = at-number-of .number-of in
+    let summary-of = at-summary-of .summary-of in
+    let reference = at-reference .reference in
+    let put-binder = at-put-binder .put-binder in
+    binds-name (a .node) (a .w) _ (a .work .now) _ (a .top) _ (reference .ensures) (number-of .ensures) refl (summary-of .ensures) (put-binder .ensures)
 
 pub bind-spec : {M : Type 1} → statement M
 bind-spec =

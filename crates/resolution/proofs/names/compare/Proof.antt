@@ -30,53 +30,78 @@ resolve-requires-2 c κs =
 
 returns-3 : tie.Need-returns-3
 returns-3 c =
-    let resolve = c .before .before .before .before .before .before .before .before .before .resolve in
-    let if2 = c .before .before .before .before .before .before .if2 in
-    let resolve2 = c .before .before .before .before .resolve2 in
+    let at-resolve2 = c .before .before .before .before in
+    let at-if2 = at-resolve2 .before .before in
+    let resolve = at-if2 .before .before .before .resolve in
+    let if2 = at-if2 .if2 in
+    let resolve2 = at-resolve2 .resolve2 in
     is-full (omega (arith, resolve2 .ensures .full (c .if3 .taken), count-most _ 0 _ (resolve .ensures .within (if2 .left) .hand .descends)))
 
 returns-4 : tie.Need-returns-4
 returns-4 c =
-    let a = c .before .before .before .before .before .before .before .before .before .before .before .before .before .before .before .before .before .before .before .args in
-    let number-of = c .before .before .before .before .before .before .before .before .before .before .before .before .before .before .before .before .number-of in
-    let number-of2 = c .before .before .before .before .before .before .before .before .before .before .before .before .before .before .before .number-of2 in
-    let resolve = c .before .before .before .before .before .before .before .before .before .before .before .before .resolve in
-    let if2 = c .before .before .before .before .before .before .before .before .before .if2 in
-    let resolve2 = c .before .before .before .before .before .before .before .resolve2 in
-    let if3 = c .before .before .before .if3 in
+    let at-if3 = c .before .before .before in
+    let at-resolve2 = at-if3 .before .before .before .before in
+    let at-if2 = at-resolve2 .before .before in
+    let at-resolve = at-if2 .before .before .before in
+    let at-number-of2 = at-resolve .before .before .before in
+    let at-number-of = at-number-of2 .before in
+    let a = at-number-of .before .before .before .args in
+    let number-of = at-number-of .number-of in
+    let number-of2 = at-number-of2 .number-of2 in
+    let resolve = at-resolve .resolve in
+    let if2 = at-if2 .if2 in
+    let resolve2 = at-resolve2 .resolve2 in
+    let if3 = at-if3 .if3 in
     is-other (differ-bindings (a .work .now) (a .a) (a .v) (a .b) (a .w) _ _ (number-of .ensures) (number-of2 .ensures) _ _ _ _ _ _ _ (resolve .ensures .within (if2 .left)) (resolve2 .ensures .within (if3 .left)) (c .if4 .taken))
 
 returns-5 : tie.Need-returns-5
 returns-5 c =
-    let a = c .before .before .before .before .before .before .before .before .before .before .before .before .before .before .before .before .before .before .before .before .before .args in
-    let number-of = c .before .before .before .before .before .before .before .before .before .before .before .before .before .before .before .before .before .before .number-of in
-    let number-of2 = c .before .before .before .before .before .before .before .before .before .before .before .before .before .before .before .before .before .number-of2 in
-    let resolve = c .before .before .before .before .before .before .before .before .before .before .before .before .before .before .resolve in
-    let if2 = c .before .before .before .before .before .before .before .before .before .before .before .if2 in
-    let resolve2 = c .before .before .before .before .before .before .before .before .before .resolve2 in
-    let if3 = c .before .before .before .before .before .if3 in
+    let at-if3 = c .before .before .before .before .before in
+    let at-resolve2 = at-if3 .before .before .before .before in
+    let at-if2 = at-resolve2 .before .before in
+    let at-resolve = at-if2 .before .before .before in
+    let at-number-of2 = at-resolve .before .before .before in
+    let at-number-of = at-number-of2 .before in
+    let a = at-number-of .before .before .before .args in
+    let number-of = at-number-of .number-of in
+    let number-of2 = at-number-of2 .number-of2 in
+    let resolve = at-resolve .resolve in
+    let if2 = at-if2 .if2 in
+    let resolve2 = at-resolve2 .resolve2 in
+    let if3 = at-if3 .if3 in
     is-other (differ-counts (a .work .now) (a .a) (a .v) (a .b) (a .w) _ _ (number-of .ensures) (number-of2 .ensures) _ _ _ _ _ _ _ (resolve .ensures .within (if2 .left)) (resolve2 .ensures .within (if3 .left)) (λ z. omega (arith, c .if5 .taken)))
 
 equal-marks-requires : tie.Need-equal-marks-requires
 equal-marks-requires c κs =
-    let resolve2 = c .before .before .before .before .before .before .before .before .before .before .resolve2 in
-    let if3 = c .before .before .before .before .before .before .if3 in
-    let if5 = c .before .if5 in
+    let at-if5 = c .before in
+    let at-if3 = at-if5 .before .before .before .before .before in
+    let resolve2 = at-if3 .before .before .before .before .resolve2 in
+    let if3 = at-if3 .if3 in
+    let if5 = at-if5 .if5 in
     (omega (arith, resolve2 .ensures .within (if3 .left) .hand .room), omega (arith, resolve2 .ensures .within (if3 .left) .hand .room, if5 .left))
 
 -- past the tests of numbers, bindings and counts the marks decide
 marks-decide : (c : tie.After-equal-marks) (t : Bool) → c .equal-marks .result ≡ t → let a = c .before .before .before .before .before .before .before .before .before .before .before .before .before .before .before .before .before .before .before .before .before .before .before .args in t ≡ same (nameAt (a .work .now) (a .a) (a .v)) (nameAt (a .work .now) (a .b) (a .w))
 marks-decide c t e =
-    let a = c .before .before .before .before .before .before .before .before .before .before .before .before .before .before .before .before .before .before .before .before .before .before .before .args in
-    let number-of = c .before .before .before .before .before .before .before .before .before .before .before .before .before .before .before .before .before .before .before .before .number-of in
-    let number-of2 = c .before .before .before .before .before .before .before .before .before .before .before .before .before .before .before .before .before .before .before .number-of2 in
-    let if1 = c .before .before .before .before .before .before .before .before .before .before .before .before .before .before .before .before .before .before .if1 in
-    let resolve = c .before .before .before .before .before .before .before .before .before .before .before .before .before .before .before .before .resolve in
-    let if2 = c .before .before .before .before .before .before .before .before .before .before .before .before .before .if2 in
-    let resolve2 = c .before .before .before .before .before .before .before .before .before .before .before .resolve2 in
-    let if3 = c .before .before .before .before .before .before .before .if3 in
-    let if4 = c .before .before .before .before .if4 in
-    let if5 = c .before .before .if5 in
+    let at-if5 = c .before .before in
+    let at-if4 = at-if5 .before .before in
+    let at-if3 = at-if4 .before .before .before in
+    let at-resolve2 = at-if3 .before .before .before .before in
+    let at-if2 = at-resolve2 .before .before in
+    let at-resolve = at-if2 .before .before .before in
+    let at-if1 = at-resolve .before .before in
+    let at-number-of2 = at-if1 .before in
+    let at-number-of = at-number-of2 .before in
+    let a = at-number-of .before .before .before .args in
+    let number-of = at-number-of .number-of in
+    let number-of2 = at-number-of2 .number-of2 in
+    let if1 = at-if1 .if1 in
+    let resolve = at-resolve .resolve in
+    let if2 = at-if2 .if2 in
+    let resolve2 = at-resolve2 .resolve2 in
+    let if3 = at-if3 .if3 in
+    let if4 = at-if4 .if4 in
+    let if5 = at-if5 .if5 in
     same-marks (a .work .now) (a .a) (a .v) (a .b) (a .w) _ _ (number-of .ensures) (number-of2 .ensures) _ _ _ _ _ _ _ (resolve .ensures .within (if2 .left)) (resolve2 .ensures .within (if3 .left)) (if1 .left) (if4 .left) (omega (arith, if5 .left)) t (sym e ∙ c .equal-marks .ensures)
 
 returns-6 : tie.Need-returns-6

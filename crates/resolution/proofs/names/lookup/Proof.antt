@@ -9,10 +9,13 @@ use mathlib.Core.Path.{sym, _∙_}
 
 returns : tie.Need-returns
 returns c =
-    let a = c .before .before .before .before .before .before .args in
-    let binding-of = c .before .before .before .binding-of in
-    let if1 = c .before .before .if1 in
-    let number-of = c .before .number-of in
+    let at-number-of = c .before in
+    let at-if1 = at-number-of .before in
+    let at-binding-of = at-if1 .before in
+    let a = at-binding-of .before .before .before .args in
+    let binding-of = at-binding-of .binding-of in
+    let if1 = at-if1 .if1 in
+    let number-of = at-number-of .number-of in
     let x = nameAt (a .work .now) (a .node) (a .w) in
     lookup-none (a .operations .now) x _ (binding-of .ensures) (if1 .taken) _ (number-of .ensures ∙ sym (nameAt-number (a .work .now) (a .node) (a .w))) _ (c .unbound .ensures)
 

@@ -25,12 +25,17 @@ walk-requires c κs =
 
 returns-2 : tie.Need-returns-2
 returns-2 c =
-    let a = c .before .before .before .before .before .before .before .before .before .before .before .before .before .args in
-    let number-of = c .before .before .before .before .before .before .before .before .before .before .number-of in
-    let reference = c .before .before .before .before .before .before .before .before .before .reference in
-    let walked = c .before .before .before .before .before .before .before .walked in
-    let if1 = c .before .before .before .before .if1 in
-    let walk = c .before .before .walk in
+    let at-walk = c .before .before in
+    let at-if1 = at-walk .before .before in
+    let at-walked = at-if1 .before .before .before in
+    let at-reference = at-walked .before .before in
+    let at-number-of = at-reference .before in
+    let a = at-number-of .before .before .before .args in
+    let number-of = at-number-of .number-of in
+    let reference = at-reference .reference in
+    let walked = at-walked .walked in
+    let if1 = at-if1 .if1 in
+    let walk = at-walk .walk in
     fits-then (walk .ensures) (resolved (a .work .now) (a .node) (a .w) _ _ (reference .ensures) (number-of .ensures) (a .table .now) _ _ (a .start) _ _ _ _ (walked .ensures .within (if1 .left)))
 
 pub resolve-spec : {M : Type 1} → statement M

@@ -27,8 +27,9 @@ same-length-2 c = search needs
 
 returns-2 : tie.Need-returns-2
 returns-2 c =
-    let a = c .before .before .before .before .before .before .before .before .before .args in
-    let resolve = c .before .before .before .before .before .resolve in
+    let at-resolve = c .before .before .before .before .before in
+    let a = at-resolve .before .before .before .before .args in
+    let resolve = at-resolve .resolve in
     fits-then (resolve .ensures) (λ p. summed (a .work .now) (a .node) (a .w) _ _ _ _ _ p (c .newest-of .ensures))
 
 pub summary-in-spec : {M : Type 1} → statement M

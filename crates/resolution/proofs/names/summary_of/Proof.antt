@@ -7,8 +7,12 @@ use Rattle.resolution.specs.DirectLaws.{marked-summed}
 
 returns : tie.Need-returns
 returns c =
-    let a = c .before .before .before .before .before .before .args in
-    marked-summed (a .work .now) (a .node) (a .w) _ _ _ _ (c .before .before .before .before .number-of .ensures) (c .before .before .before .reference .ensures) (c .before .before .only-mark .ensures) (c .before .if1 .taken) (c .count-of .ensures)
+    let at-if1 = c .before in
+    let at-only-mark = at-if1 .before in
+    let at-reference = at-only-mark .before in
+    let at-number-of = at-reference .before in
+    let a = at-number-of .before .before .args in
+    marked-summed (a .work .now) (a .node) (a .w) _ _ _ _ (at-number-of .number-of .ensures) (at-reference .reference .ensures) (at-only-mark .only-mark .ensures) (at-if1 .if1 .taken) (c .count-of .ensures)
 
 returns-2 : tie.Need-returns-2
 returns-2 c =

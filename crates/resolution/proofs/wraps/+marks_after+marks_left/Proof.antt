@@ -63,12 +63,15 @@ marks-after-returns-2 t c =
 
 marks-after-marks-left-requires : (t : ℕ) → marks-after-lts.Need-marks-left-requires (marks-after-claims t) (marks-after-at t) marks-after.Post
 marks-after-marks-left-requires t c κs =
-    let entry = c .before .before .before .before .before .before .before in
+    let at-reference = c .before in
+    let at-if1 = at-reference .before .before in
+    let at-word = at-if1 .before in
+    let entry = at-word .before .before .before in
     let a = entry .args in
     let pre = entry .pre in
-    let word = c .before .before .before .before .word in
-    let if1 = c .before .before .before .if1 in
-    let reference = c .before .reference in
+    let word = at-word .word in
+    let if1 = at-if1 .if1 in
+    let reference = at-reference .reference in
     (omega (arith, wrap-falls (a .work .now) (a .w) _ (word .ensures) 2 _ (if1 .left) (reference .ensures)), pre .1)
 
 marks-after-returns-3 : (t : ℕ) → marks-after-lts.Need-returns-3 (marks-after-claims t) (marks-after-at t) marks-after.Post
@@ -84,44 +87,66 @@ marks-after-mark-requires t c κs =
 
 marks-after-returns-4 : (t : ℕ) → marks-after-lts.Need-returns-4 (marks-after-claims t) (marks-after-at t) marks-after.Post
 marks-after-returns-4 t c =
-    let a = c .before .before .before .before .before .before .before .before .before .before .before .before .before .before .before .before .before .args in
-    let word = c .before .before .before .before .before .before .before .before .before .before .before .before .before .before .word in
-    let reference = c .before .before .before .before .before .before .before .before .before .before .before .reference in
-    let marks-left = c .before .before .before .before .before .before .before .before .before .marks-left in
-    let if3 = c .before .before .before .before .before .before .if3 in
-    let if4 = c .before .before .before .before .before .if4 in
-    let word2 = c .before .before .before .before .word2 in
-    let mark = c .before .before .mark in
+    let at-mark = c .before .before in
+    let at-word2 = at-mark .before .before in
+    let at-if4 = at-word2 .before in
+    let at-if3 = at-if4 .before in
+    let at-marks-left = at-if3 .before .before .before in
+    let at-reference = at-marks-left .before .before in
+    let at-word = at-reference .before .before .before in
+    let a = at-word .before .before .before .args in
+    let word = at-word .word in
+    let reference = at-reference .reference in
+    let marks-left = at-marks-left .marks-left in
+    let if3 = at-if3 .if3 in
+    let if4 = at-if4 .if4 in
+    let word2 = at-word2 .word2 in
+    let mark = at-mark .mark in
     fits-then (mark .ensures) (marks-mark (a .work .now) (a .w) _ (word .ensures) _ (reference .ensures) (a .table .now) _ (a .start) (a .count) _ (marks-left .ensures .within (if3 .left)) _ (if4 .taken) (word2 .ensures) _ _)
 
 marks-after-marks-left-requires-2 : (t : ℕ) → marks-after-lts.Need-marks-left-requires-2 (marks-after-claims t) (marks-after-at t) marks-after.Post
 marks-after-marks-left-requires-2 t c κs =
-    let a = c .before .before .before .before .before .before .before .before .before .before .before .before .before .before .before .args in
-    let word = c .before .before .before .before .before .before .before .before .before .before .before .before .word in
-    let if1 = c .before .before .before .before .before .before .before .before .before .before .before .if1 in
-    let marks-left = c .before .before .before .before .before .before .before .marks-left in
-    let if3 = c .before .before .before .before .if3 in
-    let reference2 = c .before .reference2 in
+    let at-reference2 = c .before in
+    let at-if3 = at-reference2 .before .before .before in
+    let at-marks-left = at-if3 .before .before .before in
+    let at-if1 = at-marks-left .before .before .before .before in
+    let at-word = at-if1 .before in
+    let a = at-word .before .before .before .args in
+    let word = at-word .word in
+    let if1 = at-if1 .if1 in
+    let marks-left = at-marks-left .marks-left in
+    let if3 = at-if3 .if3 in
+    let reference2 = at-reference2 .reference2 in
     (omega (arith, wrap-falls (a .work .now) (a .w) _ (word .ensures) 3 _ (if1 .left) (reference2 .ensures)), marks-left .ensures .within (if3 .left) .hand)
 
 marks-after-returns-5 : (t : ℕ) → marks-after-lts.Need-returns-5 (marks-after-claims t) (marks-after-at t) marks-after.Post
 marks-after-returns-5 t c =
-    let a = c .before .before .before .before .before .before .before .before .before .before .before .before .before .before .before .before .before .before .args in
-    let word = c .before .before .before .before .before .before .before .before .before .before .before .before .before .before .before .word in
-    let reference = c .before .before .before .before .before .before .before .before .before .before .before .before .reference in
-    let marks-left = c .before .before .before .before .before .before .before .before .before .before .marks-left in
-    let if3 = c .before .before .before .before .before .before .before .if3 in
-    let if5 = c .before .before .before .before .before .if5 in
-    let reference2 = c .before .before .before .before .reference2 in
-    let marks-left2 = c .before .before .marks-left2 in
+    let at-marks-left2 = c .before .before in
+    let at-reference2 = at-marks-left2 .before .before in
+    let at-if5 = at-reference2 .before in
+    let at-if3 = at-if5 .before .before in
+    let at-marks-left = at-if3 .before .before .before in
+    let at-reference = at-marks-left .before .before in
+    let at-word = at-reference .before .before .before in
+    let a = at-word .before .before .before .args in
+    let word = at-word .word in
+    let reference = at-reference .reference in
+    let marks-left = at-marks-left .marks-left in
+    let if3 = at-if3 .if3 in
+    let if5 = at-if5 .if5 in
+    let reference2 = at-reference2 .reference2 in
+    let marks-left2 = at-marks-left2 .marks-left2 in
     fits-then (marks-left2 .ensures) (marks-join (a .work .now) (a .w) _ (word .ensures) _ (reference .ensures) (a .table .now) _ (a .start) (a .count) _ (marks-left .ensures .within (if3 .left)) _ (if5 .taken) (reference2 .ensures) _ _)
 
 marks-after-returns-6 : (t : ℕ) → marks-after-lts.Need-returns-6 (marks-after-claims t) (marks-after-at t) marks-after.Post
 marks-after-returns-6 t c =
-    let a = c .before .before .before .before .before .before .before .before .before .before .before .before .before .args in
-    let word = c .before .before .before .before .before .before .before .before .before .before .word in
-    let reference = c .before .before .before .before .before .before .before .reference in
-    let marks-left = c .before .before .before .before .before .marks-left in
+    let at-marks-left = c .before .before .before .before .before in
+    let at-reference = at-marks-left .before .before in
+    let at-word = at-reference .before .before .before in
+    let a = at-word .before .before .before .args in
+    let word = at-word .word in
+    let reference = at-reference .reference in
+    let marks-left = at-marks-left .marks-left in
     fits-then (marks-left .ensures) (λ p. marks-binder (a .work .now) (a .w) _ (word .ensures) _ (reference .ensures) (a .table .now) _ (a .start) (a .count) _ p (omega arith))
 
 abbrev marks-left-claims : ℕ → marks-left-lts.Claims

@@ -61,12 +61,15 @@ walk-returns-2 t c =
 
 walk-walked-requires : (t : ℕ) → walk-lts.Need-walked-requires (walk-claims t) (walk-at t) walk.Post
 walk-walked-requires t c κs =
-    let entry = c .before .before .before .before .before .before .before in
+    let at-reference = c .before in
+    let at-if1 = at-reference .before .before in
+    let at-word = at-if1 .before in
+    let entry = at-word .before .before .before in
     let a = entry .args in
     let pre = entry .pre in
-    let word = c .before .before .before .before .word in
-    let if1 = c .before .before .before .if1 in
-    let reference = c .before .reference in
+    let word = at-word .word in
+    let if1 = at-if1 .if1 in
+    let reference = at-reference .reference in
     (omega (arith, wrap-falls (a .work .now) (a .w) _ (word .ensures) 2 _ (if1 .left) (reference .ensures)), pre .1)
 
 walk-returns-3 : (t : ℕ) → walk-lts.Need-returns-3 (walk-claims t) (walk-at t) walk.Post
@@ -82,38 +85,57 @@ walk-mark-requires t c κs =
 
 walk-returns-4 : (t : ℕ) → walk-lts.Need-returns-4 (walk-claims t) (walk-at t) walk.Post
 walk-returns-4 t c =
-    let a = c .before .before .before .before .before .before .before .before .before .before .before .before .before .before .before .before .before .args in
-    let word = c .before .before .before .before .before .before .before .before .before .before .before .before .before .before .word in
-    let reference = c .before .before .before .before .before .before .before .before .before .before .before .reference in
-    let walked = c .before .before .before .before .before .before .before .before .before .walked in
-    let if3 = c .before .before .before .before .before .before .if3 in
-    let if4 = c .before .before .before .before .before .if4 in
-    let word2 = c .before .before .before .before .word2 in
-    let mark = c .before .before .mark in
+    let at-mark = c .before .before in
+    let at-word2 = at-mark .before .before in
+    let at-if4 = at-word2 .before in
+    let at-if3 = at-if4 .before in
+    let at-walked = at-if3 .before .before .before in
+    let at-reference = at-walked .before .before in
+    let at-word = at-reference .before .before .before in
+    let a = at-word .before .before .before .args in
+    let word = at-word .word in
+    let reference = at-reference .reference in
+    let walked = at-walked .walked in
+    let if3 = at-if3 .if3 in
+    let if4 = at-if4 .if4 in
+    let word2 = at-word2 .word2 in
+    let mark = at-mark .mark in
     fits-wider (mark .last .0) (a .start + stepLimit) (a .start + stepLimit + stepLimit) (mark .result) (omega arith) (fits-then (mark .ensures) (walk-mark (a .work .now) (a .w) _ (word .ensures) _ (reference .ensures) (a .table .now) _ (a .start) (a .number) (a .count) (a .binding) _ _ (walked .ensures .within (if3 .left)) _ (if4 .taken) (word2 .ensures) _ _))
 
 walk-walked-requires-2 : (t : ℕ) → walk-lts.Need-walked-requires-2 (walk-claims t) (walk-at t) walk.Post
 walk-walked-requires-2 t c κs =
-    let entry = c .before .before .before .before .before .before .before .before .before .before .before .before .before .before .before in
+    let at-reference2 = c .before in
+    let at-if3 = at-reference2 .before .before .before in
+    let at-walked = at-if3 .before .before .before in
+    let at-if1 = at-walked .before .before .before .before in
+    let at-word = at-if1 .before in
+    let entry = at-word .before .before .before in
     let a = entry .args in
     let pre = entry .pre in
-    let word = c .before .before .before .before .before .before .before .before .before .before .before .before .word in
-    let if1 = c .before .before .before .before .before .before .before .before .before .before .before .if1 in
-    let walked = c .before .before .before .before .before .before .before .walked in
-    let if3 = c .before .before .before .before .if3 in
-    let reference2 = c .before .reference2 in
+    let word = at-word .word in
+    let if1 = at-if1 .if1 in
+    let walked = at-walked .walked in
+    let if3 = at-if3 .if3 in
+    let reference2 = at-reference2 .reference2 in
     (omega (arith, wrap-falls (a .work .now) (a .w) _ (word .ensures) 3 _ (if1 .left) (reference2 .ensures), pre .0), walked .ensures .within (if3 .left) .hand)
 
 walk-returns-5 : (t : ℕ) → walk-lts.Need-returns-5 (walk-claims t) (walk-at t) walk.Post
 walk-returns-5 t c =
-    let a = c .before .before .before .before .before .before .before .before .before .before .before .before .before .before .before .before .before .before .args in
-    let word = c .before .before .before .before .before .before .before .before .before .before .before .before .before .before .before .word in
-    let reference = c .before .before .before .before .before .before .before .before .before .before .before .before .reference in
-    let walked = c .before .before .before .before .before .before .before .before .before .before .walked in
-    let if3 = c .before .before .before .before .before .before .before .if3 in
-    let if5 = c .before .before .before .before .before .if5 in
-    let reference2 = c .before .before .before .before .reference2 in
-    let walked2 = c .before .before .walked2 in
+    let at-walked2 = c .before .before in
+    let at-reference2 = at-walked2 .before .before in
+    let at-if5 = at-reference2 .before in
+    let at-if3 = at-if5 .before .before in
+    let at-walked = at-if3 .before .before .before in
+    let at-reference = at-walked .before .before in
+    let at-word = at-reference .before .before .before in
+    let a = at-word .before .before .before .args in
+    let word = at-word .word in
+    let reference = at-reference .reference in
+    let walked = at-walked .walked in
+    let if3 = at-if3 .if3 in
+    let if5 = at-if5 .if5 in
+    let reference2 = at-reference2 .reference2 in
+    let walked2 = at-walked2 .walked2 in
     fits-then (walked2 .ensures) (walk-join (a .work .now) (a .w) _ (word .ensures) _ (reference .ensures) (a .table .now) _ (a .start) (a .number) (a .count) (a .binding) _ _ (walked .ensures .within (if3 .left)) _ (if5 .taken) (reference2 .ensures) _ _ _)
 
 walk-rebind-requires : (t : ℕ) → walk-lts.Need-rebind-requires (walk-claims t) (walk-at t) walk.Post
@@ -124,16 +146,25 @@ walk-rebind-requires t c κs =
 
 walk-returns-6 : (t : ℕ) → walk-lts.Need-returns-6 (walk-claims t) (walk-at t) walk.Post
 walk-returns-6 t c =
-    let a = c .before .before .before .before .before .before .before .before .before .before .before .before .before .before .before .before .before .args in
-    let word = c .before .before .before .before .before .before .before .before .before .before .before .before .before .before .word in
-    let if1 = c .before .before .before .before .before .before .before .before .before .before .before .before .before .if1 in
-    let if2 = c .before .before .before .before .before .before .before .before .before .before .before .before .if2 in
-    let reference = c .before .before .before .before .before .before .before .before .before .before .before .reference in
-    let walked = c .before .before .before .before .before .before .before .before .before .walked in
-    let if3 = c .before .before .before .before .before .before .if3 in
-    let if4 = c .before .before .before .before .before .if4 in
-    let if5 = c .before .before .before .before .if5 in
-    let rebind = c .before .before .rebind in
+    let at-rebind = c .before .before in
+    let at-if5 = at-rebind .before .before in
+    let at-if4 = at-if5 .before in
+    let at-if3 = at-if4 .before in
+    let at-walked = at-if3 .before .before .before in
+    let at-reference = at-walked .before .before in
+    let at-if2 = at-reference .before in
+    let at-if1 = at-if2 .before in
+    let at-word = at-if1 .before in
+    let a = at-word .before .before .before .args in
+    let word = at-word .word in
+    let if1 = at-if1 .if1 in
+    let if2 = at-if2 .if2 in
+    let reference = at-reference .reference in
+    let walked = at-walked .walked in
+    let if3 = at-if3 .if3 in
+    let if4 = at-if4 .if4 in
+    let if5 = at-if5 .if5 in
+    let rebind = at-rebind .rebind in
     fits-then (rebind .ensures) (walk-binder (a .work .now) (a .w) _ (word .ensures) _ (reference .ensures) (a .table .now) _ (a .start) (a .number) (a .count) (a .binding) _ _ (walked .ensures .within (if3 .left)) (omega (arith, if1 .left, if2 .left, if4 .left, if5 .left)) _ _ _)
 
 abbrev walked-claims : ℕ → walked-lts.Claims

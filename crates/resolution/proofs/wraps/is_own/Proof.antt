@@ -33,23 +33,34 @@ newest-of-requires c κs =
 
 returns-4 : tie.Need-returns-4
 returns-4 c =
-    let a = c .before .before .before .before .before .before .before .before .before .before .before .before .args in
-    let word4 = c .before .before .before .word4 in
-    let newest-of = c .before .newest-of in
+    let at-newest-of = c .before in
+    let at-word4 = at-newest-of .before .before in
+    let a = at-word4 .before .before .before .before .before .before .before .before .before .args in
+    let word4 = at-word4 .word4 in
+    let newest-of = at-newest-of .newest-of in
     is-other (other-newest (a .work .now) (a .w) (a .table .now) (a .start) (a .number) (a .count) (a .binding) _ _ (word4 .ensures) (newest-of .ensures) (c .if4 .taken))
 
 returns-5 : tie.Need-returns-5
 returns-5 c =
-    let a = c .before .before .before .before .before .before .before .before .before .before .before .before .before .args in
-    let word = c .before .before .before .before .before .before .before .before .before .before .word in
-    let if1 = c .before .before .before .before .before .before .before .before .before .if1 in
-    let word2 = c .before .before .before .before .before .before .before .before .word2 in
-    let if2 = c .before .before .before .before .before .before .before .if2 in
-    let word3 = c .before .before .before .before .before .before .word3 in
-    let if3 = c .before .before .before .before .before .if3 in
-    let word4 = c .before .before .before .before .word4 in
-    let newest-of = c .before .before .newest-of in
-    let if4 = c .before .if4 in
+    let at-if4 = c .before in
+    let at-newest-of = at-if4 .before in
+    let at-word4 = at-newest-of .before .before in
+    let at-if3 = at-word4 .before in
+    let at-word3 = at-if3 .before in
+    let at-if2 = at-word3 .before in
+    let at-word2 = at-if2 .before in
+    let at-if1 = at-word2 .before in
+    let at-word = at-if1 .before in
+    let a = at-word .before .before .before .args in
+    let word = at-word .word in
+    let if1 = at-if1 .if1 in
+    let word2 = at-word2 .word2 in
+    let if2 = at-if2 .if2 in
+    let word3 = at-word3 .word3 in
+    let if3 = at-if3 .if3 in
+    let word4 = at-word4 .word4 in
+    let newest-of = at-newest-of .newest-of in
+    let if4 = at-if4 .if4 in
     is-same (same-few (a .work .now) (a .w) (a .table .now) (a .start) (a .number) (a .count) (a .binding) _ _ _ _ _
     (word .ensures) (if1 .left) (word2 .ensures) (if2 .left) (word3 .ensures) (if3 .left) (word4 .ensures) (newest-of .ensures) (if4 .left) (c .if5 .taken))
 
@@ -60,56 +71,81 @@ own-marks-requires c κs =
 
 returns-6 : tie.Need-returns-6
 returns-6 c =
-    let entry = c .before .before .before .before .before .before .before .before .before .before .before .before .before .before .before .before .before .before in
+    let at-own-marks = c .before .before .before in
+    let entry = at-own-marks .before .before .before .before .before .before .before .before .before .before .before .before .before .before .before in
     let a = entry .args in
     let pre = entry .pre in
-    let own-marks = c .before .before .before .own-marks in
+    let own-marks = at-own-marks .own-marks in
     is-full (omega (arith, own-marks .ensures .full (c .if6 .taken), count-most (a .table .now) (a .start) (a .count) (pre .descends)))
 
 returns-7 : tie.Need-returns-7
 returns-7 c =
-    let a = c .before .before .before .before .before .before .before .before .before .before .before .before .before .before .before .before .before .before .before .args in
-    let if5 = c .before .before .before .before .before .before .if5 in
-    let own-marks = c .before .before .before .before .own-marks in
-    let if6 = c .before .if6 in
+    let at-if6 = c .before in
+    let at-own-marks = at-if6 .before .before .before in
+    let at-if5 = at-own-marks .before .before in
+    let a = at-if5 .before .before .before .before .before .before .before .before .before .before .before .before .before .args in
+    let if5 = at-if5 .if5 in
+    let own-marks = at-own-marks .own-marks in
+    let if6 = at-if6 .if6 in
     is-other (other-length (a .work .now) (a .w) (a .table .now) (a .start) (a .number) (a .count) (a .binding) _ _ (own-marks .ensures .within (if6 .left)) (omega (arith, if5 .left)) (c .if7 .taken))
 
 equal-marks-requires : tie.Need-equal-marks-requires
 equal-marks-requires c κs =
-    let pre = c .before .before .before .before .before .before .before .before .before .before .before .before .before .before .before .before .before .before .before .before .pre in
-    let own-marks = c .before .before .before .before .before .own-marks in
-    let if6 = c .before .before .if6 in
-    let if7 = c .before .if7 in
+    let at-if7 = c .before in
+    let at-if6 = at-if7 .before in
+    let at-own-marks = at-if6 .before .before .before in
+    let pre = at-own-marks .before .before .before .before .before .before .before .before .before .before .before .before .before .before .before .pre in
+    let own-marks = at-own-marks .own-marks in
+    let if6 = at-if6 .if6 in
+    let if7 = at-if7 .if7 in
     (omega (arith, own-marks .ensures .within (if6 .left) .room, if7 .left), omega (arith, pre .room, own-marks .kept .1 .0))
 
 returns-8 : tie.Need-returns-8
 returns-8 c =
-    let a = c .before .before .before .before .before .before .before .before .before .before .before .before .before .before .before .before .before .before .before .before .before .before .args in
-    let word = c .before .before .before .before .before .before .before .before .before .before .before .before .before .before .before .before .before .before .before .word in
-    let if1 = c .before .before .before .before .before .before .before .before .before .before .before .before .before .before .before .before .before .before .if1 in
-    let word2 = c .before .before .before .before .before .before .before .before .before .before .before .before .before .before .before .before .before .word2 in
-    let if2 = c .before .before .before .before .before .before .before .before .before .before .before .before .before .before .before .before .if2 in
-    let word3 = c .before .before .before .before .before .before .before .before .before .before .before .before .before .before .before .word3 in
-    let if3 = c .before .before .before .before .before .before .before .before .before .before .before .before .before .before .if3 in
-    let word4 = c .before .before .before .before .before .before .before .before .before .before .before .before .before .word4 in
-    let newest-of = c .before .before .before .before .before .before .before .before .before .before .before .newest-of in
-    let if4 = c .before .before .before .before .before .before .before .before .before .before .if4 in
-    let own-marks = c .before .before .before .before .before .before .before .own-marks in
-    let if6 = c .before .before .before .before .if6 in
-    let if7 = c .before .before .before .if7 in
-    let equal-marks = c .before .equal-marks in
+    let at-equal-marks = c .before in
+    let at-if7 = at-equal-marks .before .before in
+    let at-if6 = at-if7 .before in
+    let at-own-marks = at-if6 .before .before .before in
+    let at-if4 = at-own-marks .before .before .before in
+    let at-newest-of = at-if4 .before in
+    let at-word4 = at-newest-of .before .before in
+    let at-if3 = at-word4 .before in
+    let at-word3 = at-if3 .before in
+    let at-if2 = at-word3 .before in
+    let at-word2 = at-if2 .before in
+    let at-if1 = at-word2 .before in
+    let at-word = at-if1 .before in
+    let a = at-word .before .before .before .args in
+    let word = at-word .word in
+    let if1 = at-if1 .if1 in
+    let word2 = at-word2 .word2 in
+    let if2 = at-if2 .if2 in
+    let word3 = at-word3 .word3 in
+    let if3 = at-if3 .if3 in
+    let word4 = at-word4 .word4 in
+    let newest-of = at-newest-of .newest-of in
+    let if4 = at-if4 .if4 in
+    let own-marks = at-own-marks .own-marks in
+    let if6 = at-if6 .if6 in
+    let if7 = at-if7 .if7 in
+    let equal-marks = at-equal-marks .equal-marks in
     is-same (same-all (a .work .now) (a .w) (a .table .now) (a .start) (a .number) (a .count) (a .binding) _ _ _ _ _
     (word .ensures) (if1 .left) (word2 .ensures) (if2 .left) (word3 .ensures) (if3 .left) (word4 .ensures) (newest-of .ensures) (if4 .left)
     _ _ (own-marks .ensures .within (if6 .left)) (if7 .left) (sym (c .if8 .taken) ∙ equal-marks .ensures))
 
 returns-9 : tie.Need-returns-9
 returns-9 c =
-    let a = c .before .before .before .before .before .before .before .before .before .before .before .before .before .before .before .before .before .before .before .before .before .before .args in
-    let if5 = c .before .before .before .before .before .before .before .before .before .if5 in
-    let own-marks = c .before .before .before .before .before .before .before .own-marks in
-    let if6 = c .before .before .before .before .if6 in
-    let if7 = c .before .before .before .if7 in
-    let equal-marks = c .before .equal-marks in
+    let at-equal-marks = c .before in
+    let at-if7 = at-equal-marks .before .before in
+    let at-if6 = at-if7 .before in
+    let at-own-marks = at-if6 .before .before .before in
+    let at-if5 = at-own-marks .before .before in
+    let a = at-if5 .before .before .before .before .before .before .before .before .before .before .before .before .before .args in
+    let if5 = at-if5 .if5 in
+    let own-marks = at-own-marks .own-marks in
+    let if6 = at-if6 .if6 in
+    let if7 = at-if7 .if7 in
+    let equal-marks = at-equal-marks .equal-marks in
     is-other (other-marks (a .work .now) (a .w) (a .table .now) (a .start) (a .number) (a .count) (a .binding) _ _ (own-marks .ensures .within (if6 .left)) (omega (arith, if5 .left)) (if7 .left) (sym (c .if8 .left) ∙ equal-marks .ensures))
 
 pub is-own-spec : {M : Type 1} → statement M

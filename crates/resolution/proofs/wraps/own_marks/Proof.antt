@@ -25,12 +25,17 @@ marks-after-requires-2 c κs =
 
 returns-2 : tie.Need-returns-2
 returns-2 c =
-    let a = c .before .before .before .before .before .before .before .before .before .before .before .before .before .args in
-    let reference = c .before .before .before .before .before .before .before .before .before .before .reference in
-    let marks-after = c .before .before .before .before .before .before .before .before .marks-after in
-    let if1 = c .before .before .before .before .before .if1 in
-    let reference2 = c .before .before .before .before .reference2 in
-    let marks-after2 = c .before .before .marks-after2 in
+    let at-marks-after2 = c .before .before in
+    let at-reference2 = at-marks-after2 .before .before in
+    let at-if1 = at-reference2 .before in
+    let at-marks-after = at-if1 .before .before .before in
+    let at-reference = at-marks-after .before .before in
+    let a = at-reference .before .before .before .args in
+    let reference = at-reference .reference in
+    let marks-after = at-marks-after .marks-after in
+    let if1 = at-if1 .if1 in
+    let reference2 = at-reference2 .reference2 in
+    let marks-after2 = at-marks-after2 .marks-after2 in
     fits-then (marks-after2 .ensures) (own-both (a .work .now) (a .w) _ _ (reference .ensures) (reference2 .ensures) (a .table .now) _ _ (a .start) _ _ (marks-after .ensures .within (if1 .left)))
 
 pub own-marks-spec : {M : Type 1} → statement M

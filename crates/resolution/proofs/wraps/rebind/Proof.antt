@@ -32,11 +32,13 @@ same-length c = search needs
 
 returns : tie.Need-returns
 returns c =
-    let entry = c .before .before .before .before .before .before .before .before .before in
+    let at-enum-told = c .before in
+    let at-is-own = at-enum-told .before .before .before .before in
+    let entry = at-is-own .before .before .before .before in
     let a = entry .args in
     let pre = entry .pre in
-    let is-own = c .before .before .before .before .before .is-own in
-    let enum-told = c .before .enum-told in
+    let is-own = at-is-own .is-own in
+    let enum-told = at-enum-told .enum-told in
     fits-within (is-own .last .1 .0) (a .start + stepLimit + stepLimit) (a .count) (omega (arith, pre .room, is-own .kept .1 .0)) (left-given (a .work .now) (a .w) (a .table .now) _ (a .start) (a .number) (a .count) (a .binding) pre (is-own .kept .1 .0) (told-same (is-own .ensures) (enum-told .given .1)) _ (c .word .ensures))
 
 same-length-2 : tie.Need-same-length-2
@@ -55,8 +57,9 @@ same-length-3 c = search needs
 
 returns-3 : tie.Need-returns-3
 returns-3 c =
-    let a = c .before .before .before .before .before .before .before .before .args in
-    let is-own = c .before .before .before .before .is-own in
+    let at-is-own = c .before .before .before .before in
+    let a = at-is-own .before .before .before .before .args in
+    let is-own = at-is-own .is-own in
     fits-not (is-own .last .1 .0) (a .start + stepLimit + stepLimit) (length (is-own .last .1 .0) + 1) (omega arith) (told-full (is-own .ensures) (c .enum-told3 .given .1))
 
 pub rebind-spec : {M : Type 1} → statement M

@@ -17,7 +17,9 @@ same-length c =
 
 returns : tie.Need-returns
 returns c =
-    let a = c .before .before .before .before .before .args in made-ellipsis (a .work .now) _ (a .top) _ (a .element) (a .n) (a .rest) (c .before .before .before .before .before .pre .1) (c .before .before .before .before .before .pre .2) (c .before .before .put .ensures)
+    let at-put = c .before .before in
+    let at-args = at-put .before .before .before in
+    let a = at-args .args in made-ellipsis (a .work .now) _ (a .top) _ (a .element) (a .n) (a .rest) (at-args .pre .1) (at-args .pre .2) (at-put .put .ensures)
 
 pub put-ellipsis-spec : {M : Type 1} → statement M
 put-ellipsis-spec = tie.close (tie.spec put-requires same-length returns)

@@ -28,20 +28,34 @@ loop-holds c =
 
 returns : tie.Need-returns Inv-loop μ-loop
 returns c =
-    let a = c .before .before .before .before .before .before .before .args in
-    let l = c .before .before .before .before .before .loop in
-    l .inv true (among-here (a .work .now) (a .dots) (a .w) (l .node) _ (sym (c .before .before .before .before .word .ensures) ∙ c .before .before .before .if1 .taken) (c .before .before .reference .ensures) (sym (c .if2 .taken) ∙ c .before .is-dots .ensures))
+    let at-is-dots = c .before in
+    let at-reference = at-is-dots .before in
+    let at-if1 = at-reference .before in
+    let at-word = at-if1 .before in
+    let at-loop = at-word .before in
+    let a = at-loop .before .before .args in
+    let l = at-loop .loop in
+    l .inv true (among-here (a .work .now) (a .dots) (a .w) (l .node) _ (sym (at-word .word .ensures) ∙ at-if1 .if1 .taken) (at-reference .reference .ensures) (sym (c .if2 .taken) ∙ at-is-dots .is-dots .ensures))
 
 loop-less : tie.Need-loop-less Inv-loop μ-loop
 loop-less c =
-    let l = c .before .before .before .before .before .before .loop in
-    omega (arith, c .reference2 .ensures, pair-falls (c .before .before .before .before .before .before .before .before .args .work .now) (l .node) 1 (sym (c .before .before .before .before .before .word .ensures) ∙ c .before .before .before .before .if1 .taken))
+    let at-if1 = c .before .before .before .before in
+    let at-word = at-if1 .before in
+    let at-loop = at-word .before in
+    let l = at-loop .loop in
+    omega (arith, c .reference2 .ensures, pair-falls (at-loop .before .before .args .work .now) (l .node) 1 (sym (at-word .word .ensures) ∙ at-if1 .if1 .taken))
 
 loop-again : tie.Need-loop-again Inv-loop μ-loop
 loop-again c =
-    let a = c .before .before .before .before .before .before .before .before .args in
-    let l = c .before .before .before .before .before .before .loop in
-    λ b h. l .inv b (among-more (a .work .now) (a .dots) (a .w) (l .node) _ (sym (c .before .before .before .before .before .word .ensures) ∙ c .before .before .before .before .if1 .taken) (c .before .before .before .reference .ensures) _ b (c .reference2 .ensures) (sym (c .before .if2 .left) ∙ c .before .before .is-dots .ensures) h)
+    let at-if2 = c .before in
+    let at-is-dots = at-if2 .before in
+    let at-reference = at-is-dots .before in
+    let at-if1 = at-reference .before in
+    let at-word = at-if1 .before in
+    let at-loop = at-word .before in
+    let a = at-loop .before .before .args in
+    let l = at-loop .loop in
+    λ b h. l .inv b (among-more (a .work .now) (a .dots) (a .w) (l .node) _ (sym (at-word .word .ensures) ∙ at-if1 .if1 .taken) (at-reference .reference .ensures) _ b (c .reference2 .ensures) (sym (at-if2 .if2 .left) ∙ at-is-dots .is-dots .ensures) h)
 
 returns-2 : tie.Need-returns-2 Inv-loop μ-loop
 returns-2 c =

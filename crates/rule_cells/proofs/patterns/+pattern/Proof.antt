@@ -11,23 +11,22 @@ use Rattle.rule_cells.proofs.dots.crowded.Reads as crowded-reads
 use Rattle.rule_cells.proofs.dots.dots_next.Reads as dots-next-reads
 use Rattle.rule_cells.proofs.patterns.following.Reads as following-reads
 use Rattle.rule_cells.proofs.patterns.pattern_leaf.Reads as pattern-leaf-reads
-use Rattle.rule_cells.proofs.patterns.put_list.Reads as put-list-reads
+use Rattle.rule_cells.proofs.constructors.put_list.Reads as put-list-reads
 use Rattle.rule_cells.proofs.patterns.+pattern.{statement}
 use Rattle.rule_cells.proofs.patterns.+pattern.Tie.{close}
 use borrow.Author.Needs.{needs}
 use Rattle.rule_cells.specs.ParseLaws.{asks-head, asks-tail, asks-rest, room-pair, head-below, rest-below}
-use Rattle.rule_cells.specs.PatternLaws.{left-leaf, left-taken, left-crowded, left-bad, made-head, left-bad-rest, made-rest, left-list, small-head, small-tail, small-rest, literals-still, dots-still, begins-still}
-use Rattle.rule_cells.specs.Dots.{dotsAt}
-use Rattle.recipe.specs.Tree.{names}
+use Rattle.rule_cells.specs.PatternLaws.{pair-here, left-leaf, left-taken, left-crowded, left-bad, made-head, left-bad-rest, made-rest, left-list, small-head, small-tail, small-rest, literals-still, dots-still, begins-still}
 use Rattle.recipe.specs.TreeLaws.{size-positive}
 use Rattle.arena.specs.Arena.{treeAt}
 use mathlib.Core.Bool.{false≢true}
 use mathlib.Core.Path.{sym, _∙_}
 use native.Mathlib.Omega.{arith}
+use Rattle.rule_cells.specs.Scopes.{dotsOf, literalsOf}
 
 abbrev μ-pattern : Measures 1 pattern-kinds.ps ℕ
 μ-pattern κs a =
-    a .1 .1 .1 .0
+    a .1 .1 .0
 
 abbrev pattern-at : ℕ → In 1 pattern-kinds.ps
 pattern-at t = and 1 pattern-kinds.ps (is 1 pattern-kinds.ps μ-pattern t) pattern.Pre
@@ -40,120 +39,231 @@ pattern-claims t = (word-reads.Asked, word-reads.Learnt, pattern-leaf-reads.Aske
 
 pattern-pattern-leaf-requires : (t : ℕ) → pattern-lts.Need-pattern-leaf-requires (pattern-claims t) (pattern-at t) pattern.Post
 pattern-pattern-leaf-requires t c κs =
-    let a = c .before .before .before .before .before .args in
-    let p = c .before .before .before .before .before .pre in
-    (p .1 .0, omega (arith, p .1 .3, size-positive (treeAt (a .work .now) (a .node) (a .w))), λ z. c .before .if1 .taken (c .before .before .word .ensures ∙ z))
+    let at-if1 = c .before in
+    let at-word = at-if1 .before in
+    let at-args = at-word .before .before .before in
+    let a = at-args .args in
+    let p = at-args .pre in
+    (p .1 .0, omega (arith, p .1 .3, size-positive (treeAt (a .work .now) (a .node) (a .form .wrap))), λ z. at-if1 .if1 .taken (at-word .word .ensures ∙ z))
 
 pattern-returns : (t : ℕ) → pattern-lts.Need-returns (pattern-claims t) (pattern-at t) pattern.Post
 pattern-returns t c =
-    let a = c .before .before .before .before .before .before .before .before .args in
-    let l = c .before .before .pattern-leaf in
-    left-leaf (dotsAt (a .work .now) (a .dots) (a .w)) (names (treeAt (a .work .now) (a .literals) (a .w))) (a .k) (a .taken) (a .work .now) (a .node) (a .w) (a .top) (l .last .0) (l .result) (λ z. c .before .before .before .before .if1 .taken (c .before .before .before .before .before .word .ensures ∙ z)) (l .ensures)
+    let at-pattern-leaf = c .before .before in
+    let at-if1 = at-pattern-leaf .before .before in
+    let at-word = at-if1 .before in
+    let a = at-word .before .before .before .args in
+    let l = at-pattern-leaf .pattern-leaf in
+    left-leaf (dotsOf (a .work .now) (a .form)) (literalsOf (a .work .now) (a .form)) (a .k) (a .taken) (a .work .now) (a .node) (a .form .wrap) (a .top) (l .last .0) (l .result) (λ z. at-if1 .if1 .taken (at-word .word .ensures ∙ z)) (l .ensures)
 
 pattern-pattern-requires : (t : ℕ) → pattern-lts.Need-pattern-requires (pattern-claims t) (pattern-at t) pattern.Post
 pattern-pattern-requires t c κs =
-    let a = c .before .before .before .before .before .before .before .before .before .before .args in
-    let p = c .before .before .before .before .before .before .before .before .before .before .pre in
+    let at-reference2 = c .before .before in
+    let at-reference = at-reference2 .before .before in
+    let at-if1 = at-reference .before .before in
+    let at-word = at-if1 .before in
+    let at-args = at-word .before .before .before in
+    let a = at-args .args in
+    let p = at-args .pre in
     let asks = p .1 .0 in
-    let is-pair = sym (c .before .before .before .before .before .before .before .word .ensures) ∙ c .before .before .before .before .before .before .if1 .left in
-    let head-is = c .before .before .before .before .reference .ensures in
-    let rest-is = c .before .before .reference2 .ensures in
-    (omega (arith, p .0, rest-below (a .work .now) (a .node) (a .w) (a .top) asks _ _ is-pair head-is rest-is), (asks-tail (a .work .now) (a .node) (a .w) (a .top) asks _ _ is-pair head-is rest-is, p .1 .1, p .1 .2, small-tail (a .work .now) (a .dots) (a .literals) (a .node) (a .w) (a .k) (a .top) asks (p .1 .1) (p .1 .2) _ _ is-pair head-is rest-is (p .1 .3), λ z. absurd (false≢true z)))
+    let is-pair = sym (at-word .word .ensures) ∙ at-if1 .if1 .left in
+    let head-is = at-reference .reference .ensures in
+    let rest-is = at-reference2 .reference2 .ensures in
+    let here = pair-here (a .work .now) (a .form) (a .node) (a .top) asks (p .1 .1) (p .1 .2) is-pair head-is rest-is in
+    (omega (arith, p .0, rest-below (a .work .now) (a .node) (a .form .wrap) (a .top) asks _ _ is-pair head-is rest-is), (asks-tail (a .work .now) (a .node) (a .form .wrap) (a .top) asks _ _ is-pair head-is rest-is, p .1 .1, p .1 .2, small-tail here (a .k) (p .1 .3), λ z. absurd (false≢true z)))
 
 pattern-returns-2 : (t : ℕ) → pattern-lts.Need-returns-2 (pattern-claims t) (pattern-at t) pattern.Post
 pattern-returns-2 t c =
-    let a = c .before .before .before .before .before .before .before .before .before .before .before .before .before .args in
-    let p = c .before .before .before .before .before .before .before .before .before .before .before .before .before .pre in
+    let at-pattern = c .before .before in
+    let at-if2 = at-pattern .before .before in
+    let at-reference2 = at-if2 .before in
+    let at-reference = at-reference2 .before .before in
+    let at-if1 = at-reference .before .before in
+    let at-word = at-if1 .before in
+    let at-args = at-word .before .before .before in
+    let a = at-args .args in
+    let p = at-args .pre in
     let asks = p .1 .0 in
-    let is-pair = sym (c .before .before .before .before .before .before .before .before .before .before .word .ensures) ∙ c .before .before .before .before .before .before .before .before .before .if1 .left in
-    let head-is = c .before .before .before .before .before .before .before .reference .ensures in
-    let rest-is = c .before .before .before .before .before .reference2 .ensures in
-    let l = c .before .before .pattern in
-    left-taken (a .work .now) (a .dots) (a .literals) (a .node) (a .w) (a .k) (a .top) asks (p .1 .1) (p .1 .2) _ _ is-pair head-is rest-is (a .taken) (l .last .0) (l .result) (c .before .before .before .before .if2 .taken) (p .1 .4) (l .ensures)
+    let is-pair = sym (at-word .word .ensures) ∙ at-if1 .if1 .left in
+    let head-is = at-reference .reference .ensures in
+    let rest-is = at-reference2 .reference2 .ensures in
+    let here = pair-here (a .work .now) (a .form) (a .node) (a .top) asks (p .1 .1) (p .1 .2) is-pair head-is rest-is in
+    let l = at-pattern .pattern in
+    left-taken here (a .k) (a .taken) (l .last .0) (l .result) (at-if2 .if2 .taken) (p .1 .4) (l .ensures)
 
 pattern-returns-3 : (t : ℕ) → pattern-lts.Need-returns-3 (pattern-claims t) (pattern-at t) pattern.Post
 pattern-returns-3 t c =
-    let a = c .before .before .before .before .before .before .before .before .before .before .before .before .before .before .args in
-    let p = c .before .before .before .before .before .before .before .before .before .before .before .before .before .before .pre in
+    let at-crowded = c .before in
+    let at-dots-next = at-crowded .before .before in
+    let at-if2 = at-dots-next .before .before in
+    let at-reference2 = at-if2 .before in
+    let at-reference = at-reference2 .before .before in
+    let at-if1 = at-reference .before .before in
+    let at-word = at-if1 .before in
+    let at-args = at-word .before .before .before in
+    let a = at-args .args in
+    let p = at-args .pre in
     let asks = p .1 .0 in
-    let is-pair = sym (c .before .before .before .before .before .before .before .before .before .before .before .word .ensures) ∙ c .before .before .before .before .before .before .before .before .before .before .if1 .left in
-    let head-is = c .before .before .before .before .before .before .before .before .reference .ensures in
-    let rest-is = c .before .before .before .before .before .before .reference2 .ensures in
-    left-crowded (a .work .now) (a .dots) (a .literals) (a .node) (a .w) (a .k) (a .top) asks (p .1 .1) (p .1 .2) _ _ is-pair head-is rest-is (a .taken) _ (c .before .before .before .before .before .if2 .left) (c .before .before .before .dots-next .ensures) (sym (c .if3 .taken) ∙ c .before .crowded .ensures)
+    let is-pair = sym (at-word .word .ensures) ∙ at-if1 .if1 .left in
+    let head-is = at-reference .reference .ensures in
+    let rest-is = at-reference2 .reference2 .ensures in
+    let untaken = at-if2 .if2 .left in
+    let next = at-dots-next .dots-next .ensures in
+    let here = pair-here (a .work .now) (a .form) (a .node) (a .top) asks (p .1 .1) (p .1 .2) is-pair head-is rest-is in
+    left-crowded here (a .k) untaken next (sym (c .if3 .taken) ∙ at-crowded .crowded .ensures)
 
 pattern-pattern-requires-2 : (t : ℕ) → pattern-lts.Need-pattern-requires-2 (pattern-claims t) (pattern-at t) pattern.Post
 pattern-pattern-requires-2 t c κs =
-    let a = c .before .before .before .before .before .before .before .before .before .before .before .before .before .before .before .before .before .args in
-    let p = c .before .before .before .before .before .before .before .before .before .before .before .before .before .before .before .before .before .pre in
+    let at-reference2 = c .before .before .before .before .before .before .before .before .before in
+    let at-reference = at-reference2 .before .before in
+    let at-if1 = at-reference .before .before in
+    let at-word = at-if1 .before in
+    let at-args = at-word .before .before .before in
+    let a = at-args .args in
+    let p = at-args .pre in
     let asks = p .1 .0 in
-    let is-pair = sym (c .before .before .before .before .before .before .before .before .before .before .before .before .before .before .word .ensures) ∙ c .before .before .before .before .before .before .before .before .before .before .before .before .before .if1 .left in
-    let head-is = c .before .before .before .before .before .before .before .before .before .before .before .reference .ensures in
-    let rest-is = c .before .before .before .before .before .before .before .before .before .reference2 .ensures in
-    (omega (arith, p .0, head-below (a .work .now) (a .node) (a .w) (a .top) asks _ _ is-pair head-is rest-is), (asks-head (a .work .now) (a .node) (a .w) (a .top) asks _ _ is-pair head-is rest-is, p .1 .1, p .1 .2, small-head (a .work .now) (a .dots) (a .literals) (a .node) (a .w) (a .k) (a .top) asks (p .1 .1) (p .1 .2) _ _ is-pair head-is rest-is (p .1 .3), λ z. absurd (false≢true z)))
+    let is-pair = sym (at-word .word .ensures) ∙ at-if1 .if1 .left in
+    let head-is = at-reference .reference .ensures in
+    let rest-is = at-reference2 .reference2 .ensures in
+    let here = pair-here (a .work .now) (a .form) (a .node) (a .top) asks (p .1 .1) (p .1 .2) is-pair head-is rest-is in
+    (omega (arith, p .0, head-below (a .work .now) (a .node) (a .form .wrap) (a .top) asks _ _ is-pair head-is rest-is), (asks-head (a .work .now) (a .node) (a .form .wrap) (a .top) asks _ _ is-pair head-is rest-is, p .1 .1, p .1 .2, small-head here (a .k) (p .1 .3), λ z. absurd (false≢true z)))
 
 pattern-returns-4 : (t : ℕ) → pattern-lts.Need-returns-4 (pattern-claims t) (pattern-at t) pattern.Post
 pattern-returns-4 t c =
-    let a = c .before .before .before .before .before .before .before .before .before .before .before .before .before .before .before .before .before .before .before .before .before .before .args in
-    let p = c .before .before .before .before .before .before .before .before .before .before .before .before .before .before .before .before .before .before .before .before .before .before .pre in
+    let at-pattern2 = c .before .before .before .before in
+    let at-dots-next = at-pattern2 .before .before .before .before .before .before .before in
+    let at-if2 = at-dots-next .before .before in
+    let at-reference2 = at-if2 .before in
+    let at-reference = at-reference2 .before .before in
+    let at-if1 = at-reference .before .before in
+    let at-word = at-if1 .before in
+    let at-args = at-word .before .before .before in
+    let a = at-args .args in
+    let p = at-args .pre in
     let asks = p .1 .0 in
-    let is-pair = sym (c .before .before .before .before .before .before .before .before .before .before .before .before .before .before .before .before .before .before .before .word .ensures) ∙ c .before .before .before .before .before .before .before .before .before .before .before .before .before .before .before .before .before .before .if1 .left in
-    let head-is = c .before .before .before .before .before .before .before .before .before .before .before .before .before .before .before .before .reference .ensures in
-    let rest-is = c .before .before .before .before .before .before .before .before .before .before .before .before .before .before .reference2 .ensures in
-    let first = c .before .before .before .before .pattern2 in
-    left-bad (a .work .now) (a .dots) (a .literals) (a .node) (a .w) (a .k) (a .top) asks (p .1 .1) (p .1 .2) _ _ is-pair head-is rest-is (a .taken) _ (c .before .before .before .before .before .before .before .before .before .before .before .before .before .if2 .left) (c .before .before .before .before .before .before .before .before .before .before .before .dots-next .ensures) (first .last .0) _ (c .enum-told .given .1) (first .ensures)
+    let is-pair = sym (at-word .word .ensures) ∙ at-if1 .if1 .left in
+    let head-is = at-reference .reference .ensures in
+    let rest-is = at-reference2 .reference2 .ensures in
+    let untaken = at-if2 .if2 .left in
+    let next = at-dots-next .dots-next .ensures in
+    let here = pair-here (a .work .now) (a .form) (a .node) (a .top) asks (p .1 .1) (p .1 .2) is-pair head-is rest-is in
+    let first = at-pattern2 .pattern2 in
+    left-bad here (a .k) untaken next (first .last .0) _ (c .enum-told .given .1) (first .ensures)
 
 pattern-pattern-requires-3 : (t : ℕ) → pattern-lts.Need-pattern-requires-3 (pattern-claims t) (pattern-at t) pattern.Post
 pattern-pattern-requires-3 t c κs =
-    let a = c .before .before .before .before .before .before .before .before .before .before .before .before .before .before .before .before .before .before .before .before .before .before .before .before .args in
-    let p = c .before .before .before .before .before .before .before .before .before .before .before .before .before .before .before .before .before .before .before .before .before .before .before .before .pre in
+    let at-a = c .before .before in
+    let at-pattern2 = at-a .before .before .before .before in
+    let at-dots-next = at-pattern2 .before .before .before .before .before .before .before in
+    let at-if2 = at-dots-next .before .before in
+    let at-reference2 = at-if2 .before in
+    let at-reference = at-reference2 .before .before in
+    let at-if1 = at-reference .before .before in
+    let at-word = at-if1 .before in
+    let at-args = at-word .before .before .before in
+    let a = at-args .args in
+    let p = at-args .pre in
     let asks = p .1 .0 in
-    let is-pair = sym (c .before .before .before .before .before .before .before .before .before .before .before .before .before .before .before .before .before .before .before .before .before .word .ensures) ∙ c .before .before .before .before .before .before .before .before .before .before .before .before .before .before .before .before .before .before .before .before .if1 .left in
-    let head-is = c .before .before .before .before .before .before .before .before .before .before .before .before .before .before .before .before .before .before .reference .ensures in
-    let rest-is = c .before .before .before .before .before .before .before .before .before .before .before .before .before .before .before .before .reference2 .ensures in
-    let first = c .before .before .before .before .before .before .pattern2 in
-    let head = made-head (a .work .now) (a .dots) (a .literals) (a .node) (a .w) (a .k) (a .top) asks (p .1 .1) (p .1 .2) _ _ is-pair head-is rest-is (a .taken) _ (c .before .before .before .before .before .before .before .before .before .before .before .before .before .before .before .if2 .left) (c .before .before .before .before .before .before .before .before .before .before .before .before .before .dots-next .ensures) (first .last .0) _ _ _ _ (c .before .before .a .given .1) (first .ensures) in
-    (omega (arith, p .0, rest-below (a .work .now) (a .node) (a .w) (a .top) asks _ _ is-pair head-is rest-is), (asks-rest (a .work .now) (a .node) (a .w) (a .top) asks _ _ is-pair head-is rest-is _ _ _ (first .kept .0) (head .grows), dots-still (a .work .now) (a .dots) (a .literals) (a .node) (a .w) (a .k) (a .top) asks (p .1 .1) (p .1 .2) _ _ is-pair head-is rest-is (a .taken) _ (c .before .before .before .before .before .before .before .before .before .before .before .before .before .before .before .if2 .left) (c .before .before .before .before .before .before .before .before .before .before .before .before .before .dots-next .ensures) (first .last .0) _ _ _ (first .kept .0) head, literals-still (a .work .now) (a .dots) (a .literals) (a .node) (a .w) (a .k) (a .top) asks (p .1 .1) (p .1 .2) _ _ is-pair head-is rest-is (a .taken) _ (c .before .before .before .before .before .before .before .before .before .before .before .before .before .before .before .if2 .left) (c .before .before .before .before .before .before .before .before .before .before .before .before .before .dots-next .ensures) (first .last .0) _ _ _ (first .kept .0) head, small-rest (a .work .now) (a .dots) (a .literals) (a .node) (a .w) (a .k) (a .top) asks (p .1 .1) (p .1 .2) _ _ is-pair head-is rest-is (a .taken) _ (c .before .before .before .before .before .before .before .before .before .before .before .before .before .before .before .if2 .left) (c .before .before .before .before .before .before .before .before .before .before .before .before .before .dots-next .ensures) (first .last .0) _ _ _ (first .kept .0) head (p .1 .3), begins-still (a .work .now) (a .dots) (a .literals) (a .node) (a .w) (a .k) (a .top) asks (p .1 .1) (p .1 .2) _ _ is-pair head-is rest-is (a .taken) _ (c .before .before .before .before .before .before .before .before .before .before .before .before .before .before .before .if2 .left) (c .before .before .before .before .before .before .before .before .before .before .before .before .before .dots-next .ensures) (first .last .0) _ _ _ (first .kept .0) head))
+    let is-pair = sym (at-word .word .ensures) ∙ at-if1 .if1 .left in
+    let head-is = at-reference .reference .ensures in
+    let rest-is = at-reference2 .reference2 .ensures in
+    let untaken = at-if2 .if2 .left in
+    let next = at-dots-next .dots-next .ensures in
+    let here = pair-here (a .work .now) (a .form) (a .node) (a .top) asks (p .1 .1) (p .1 .2) is-pair head-is rest-is in
+    let first = at-pattern2 .pattern2 in
+    let head = made-head here (a .k) untaken next (first .last .0) _ _ _ _ (at-a .a .given .1) (first .ensures) in
+    let below = rest-below (a .work .now) (a .node) (a .form .wrap) (a .top) asks _ _ is-pair head-is rest-is in
+    let asks-next = asks-rest (a .work .now) (a .node) (a .form .wrap) (a .top) asks _ _ is-pair head-is rest-is _ _ _ (first .kept .0) (head .grows) in
+    let dots-left = dots-still here (a .k) untaken next (first .kept .0) head in
+    let literals-left = literals-still here (a .k) untaken next (first .kept .0) head in
+    let small = small-rest here (a .k) untaken next (first .kept .0) head (p .1 .3) in
+    let begins = begins-still here (a .k) untaken next (first .kept .0) head in
+    (omega (arith, p .0, below), (asks-next, dots-left, literals-left, small, begins))
 
 pattern-returns-5 : (t : ℕ) → pattern-lts.Need-returns-5 (pattern-claims t) (pattern-at t) pattern.Post
 pattern-returns-5 t c =
-    let a = c .before .before .before .before .before .before .before .before .before .before .before .before .before .before .before .before .before .before .before .before .before .before .before .before .before .before .before .before .before .args in
-    let p = c .before .before .before .before .before .before .before .before .before .before .before .before .before .before .before .before .before .before .before .before .before .before .before .before .before .before .before .before .before .pre in
+    let at-pattern3 = c .before .before .before .before in
+    let at-a = at-pattern3 .before .before .before in
+    let at-pattern2 = at-a .before .before .before .before in
+    let at-dots-next = at-pattern2 .before .before .before .before .before .before .before in
+    let at-if2 = at-dots-next .before .before in
+    let at-reference2 = at-if2 .before in
+    let at-reference = at-reference2 .before .before in
+    let at-if1 = at-reference .before .before in
+    let at-word = at-if1 .before in
+    let at-args = at-word .before .before .before in
+    let a = at-args .args in
+    let p = at-args .pre in
     let asks = p .1 .0 in
-    let is-pair = sym (c .before .before .before .before .before .before .before .before .before .before .before .before .before .before .before .before .before .before .before .before .before .before .before .before .before .before .word .ensures) ∙ c .before .before .before .before .before .before .before .before .before .before .before .before .before .before .before .before .before .before .before .before .before .before .before .before .before .if1 .left in
-    let head-is = c .before .before .before .before .before .before .before .before .before .before .before .before .before .before .before .before .before .before .before .before .before .before .before .reference .ensures in
-    let rest-is = c .before .before .before .before .before .before .before .before .before .before .before .before .before .before .before .before .before .before .before .before .before .reference2 .ensures in
-    let first = c .before .before .before .before .before .before .before .before .before .before .before .pattern2 in
-    let head = made-head (a .work .now) (a .dots) (a .literals) (a .node) (a .w) (a .k) (a .top) asks (p .1 .1) (p .1 .2) _ _ is-pair head-is rest-is (a .taken) _ (c .before .before .before .before .before .before .before .before .before .before .before .before .before .before .before .before .before .before .before .before .if2 .left) (c .before .before .before .before .before .before .before .before .before .before .before .before .before .before .before .before .before .before .dots-next .ensures) (first .last .0) _ _ _ _ (c .before .before .before .before .before .before .before .a .given .1) (first .ensures) in
-    let second = c .before .before .before .before .pattern3 in
-    left-bad-rest (a .work .now) (a .dots) (a .literals) (a .node) (a .w) (a .k) (a .top) asks (p .1 .1) (p .1 .2) _ _ is-pair head-is rest-is (a .taken) _ (c .before .before .before .before .before .before .before .before .before .before .before .before .before .before .before .before .before .before .before .before .if2 .left) (c .before .before .before .before .before .before .before .before .before .before .before .before .before .before .before .before .before .before .dots-next .ensures) (first .last .0) _ _ _ (first .kept .0) head (second .last .0) _ (c .enum-told2 .given .1) (second .ensures)
+    let is-pair = sym (at-word .word .ensures) ∙ at-if1 .if1 .left in
+    let head-is = at-reference .reference .ensures in
+    let rest-is = at-reference2 .reference2 .ensures in
+    let untaken = at-if2 .if2 .left in
+    let next = at-dots-next .dots-next .ensures in
+    let here = pair-here (a .work .now) (a .form) (a .node) (a .top) asks (p .1 .1) (p .1 .2) is-pair head-is rest-is in
+    let first = at-pattern2 .pattern2 in
+    let head = made-head here (a .k) untaken next (first .last .0) _ _ _ _ (at-a .a .given .1) (first .ensures) in
+    let second = at-pattern3 .pattern3 in
+    left-bad-rest here (a .k) untaken next (first .kept .0) head (second .last .0) _ (c .enum-told2 .given .1) (second .ensures)
 
 pattern-put-list-requires : (t : ℕ) → pattern-lts.Need-put-list-requires (pattern-claims t) (pattern-at t) pattern.Post
 pattern-put-list-requires t c κs =
-    let a = c .before .before .before .before .before .before .before .before .before .before .before .before .before .before .before .before .before .before .before .before .before .before .before .before .before .before .before .before .before .before .before .args in
-    let p = c .before .before .before .before .before .before .before .before .before .before .before .before .before .before .before .before .before .before .before .before .before .before .before .before .before .before .before .before .before .before .before .pre in
+    let at-b = c .before .before in
+    let at-pattern3 = at-b .before .before .before .before in
+    let at-a = at-pattern3 .before .before .before in
+    let at-pattern2 = at-a .before .before .before .before in
+    let at-dots-next = at-pattern2 .before .before .before .before .before .before .before in
+    let at-if2 = at-dots-next .before .before in
+    let at-reference2 = at-if2 .before in
+    let at-reference = at-reference2 .before .before in
+    let at-if1 = at-reference .before .before in
+    let at-word = at-if1 .before in
+    let at-args = at-word .before .before .before in
+    let a = at-args .args in
+    let p = at-args .pre in
     let asks = p .1 .0 in
-    let is-pair = sym (c .before .before .before .before .before .before .before .before .before .before .before .before .before .before .before .before .before .before .before .before .before .before .before .before .before .before .before .before .word .ensures) ∙ c .before .before .before .before .before .before .before .before .before .before .before .before .before .before .before .before .before .before .before .before .before .before .before .before .before .before .before .if1 .left in
-    let head-is = c .before .before .before .before .before .before .before .before .before .before .before .before .before .before .before .before .before .before .before .before .before .before .before .before .before .reference .ensures in
-    let rest-is = c .before .before .before .before .before .before .before .before .before .before .before .before .before .before .before .before .before .before .before .before .before .before .before .reference2 .ensures in
-    let first = c .before .before .before .before .before .before .before .before .before .before .before .before .before .pattern2 in
-    let head = made-head (a .work .now) (a .dots) (a .literals) (a .node) (a .w) (a .k) (a .top) asks (p .1 .1) (p .1 .2) _ _ is-pair head-is rest-is (a .taken) _ (c .before .before .before .before .before .before .before .before .before .before .before .before .before .before .before .before .before .before .before .before .before .before .if2 .left) (c .before .before .before .before .before .before .before .before .before .before .before .before .before .before .before .before .before .before .before .before .dots-next .ensures) (first .last .0) _ _ _ _ (c .before .before .before .before .before .before .before .before .before .a .given .1) (first .ensures) in
-    let second = c .before .before .before .before .before .before .pattern3 in
-    let later = made-rest (a .work .now) (a .dots) (a .literals) (a .node) (a .w) (a .k) (a .top) asks (p .1 .1) (p .1 .2) _ _ is-pair head-is rest-is (a .taken) _ (c .before .before .before .before .before .before .before .before .before .before .before .before .before .before .before .before .before .before .before .before .before .before .if2 .left) (c .before .before .before .before .before .before .before .before .before .before .before .before .before .before .before .before .before .before .before .before .dots-next .ensures) (first .last .0) _ _ _ (first .kept .0) head (second .last .0) _ _ _ _ (c .before .before .b .given .1) (second .ensures) in
-    (room-pair (a .work .now) (a .node) (a .w) (a .top) asks _ _ is-pair head-is rest-is _ _ _ (first .kept .0) (head .grows) _ _ _ (second .kept .0) (later .grows), omega (arith, head .grows .at-most, later .grows .up), later .grows .at-most)
+    let is-pair = sym (at-word .word .ensures) ∙ at-if1 .if1 .left in
+    let head-is = at-reference .reference .ensures in
+    let rest-is = at-reference2 .reference2 .ensures in
+    let untaken = at-if2 .if2 .left in
+    let next = at-dots-next .dots-next .ensures in
+    let here = pair-here (a .work .now) (a .form) (a .node) (a .top) asks (p .1 .1) (p .1 .2) is-pair head-is rest-is in
+    let first = at-pattern2 .pattern2 in
+    let head = made-head here (a .k) untaken next (first .last .0) _ _ _ _ (at-a .a .given .1) (first .ensures) in
+    let second = at-pattern3 .pattern3 in
+    let later = made-rest here (a .k) untaken next (first .kept .0) head (second .last .0) _ _ _ _ (at-b .b .given .1) (second .ensures) in
+    (room-pair (a .work .now) (a .node) (a .form .wrap) (a .top) asks _ _ is-pair head-is rest-is _ _ _ (first .kept .0) (head .grows) _ _ _ (second .kept .0) (later .grows), omega (arith, head .grows .at-most, later .grows .up), later .grows .at-most)
 
 pattern-returns-6 : (t : ℕ) → pattern-lts.Need-returns-6 (pattern-claims t) (pattern-at t) pattern.Post
 pattern-returns-6 t c =
-    let a = c .before .before .before .before .before .before .before .before .before .before .before .before .before .before .before .before .before .before .before .before .before .before .before .before .before .before .before .before .before .before .before .before .before .before .args in
-    let p = c .before .before .before .before .before .before .before .before .before .before .before .before .before .before .before .before .before .before .before .before .before .before .before .before .before .before .before .before .before .before .before .before .before .before .pre in
+    let at-put-list = c .before .before in
+    let at-b = at-put-list .before .before .before in
+    let at-pattern3 = at-b .before .before .before .before in
+    let at-a = at-pattern3 .before .before .before in
+    let at-pattern2 = at-a .before .before .before .before in
+    let at-following = at-pattern2 .before .before in
+    let at-if3 = at-following .before .before in
+    let at-crowded = at-if3 .before in
+    let at-dots-next = at-crowded .before .before in
+    let at-if2 = at-dots-next .before .before in
+    let at-reference2 = at-if2 .before in
+    let at-reference = at-reference2 .before .before in
+    let at-if1 = at-reference .before .before in
+    let at-word = at-if1 .before in
+    let at-args = at-word .before .before .before in
+    let a = at-args .args in
+    let p = at-args .pre in
     let asks = p .1 .0 in
-    let is-pair = sym (c .before .before .before .before .before .before .before .before .before .before .before .before .before .before .before .before .before .before .before .before .before .before .before .before .before .before .before .before .before .before .before .word .ensures) ∙ c .before .before .before .before .before .before .before .before .before .before .before .before .before .before .before .before .before .before .before .before .before .before .before .before .before .before .before .before .before .before .if1 .left in
-    let head-is = c .before .before .before .before .before .before .before .before .before .before .before .before .before .before .before .before .before .before .before .before .before .before .before .before .before .before .before .before .reference .ensures in
-    let rest-is = c .before .before .before .before .before .before .before .before .before .before .before .before .before .before .before .before .before .before .before .before .before .before .before .before .before .before .reference2 .ensures in
-    let first = c .before .before .before .before .before .before .before .before .before .before .before .before .before .before .before .before .pattern2 in
-    let head = made-head (a .work .now) (a .dots) (a .literals) (a .node) (a .w) (a .k) (a .top) asks (p .1 .1) (p .1 .2) _ _ is-pair head-is rest-is (a .taken) _ (c .before .before .before .before .before .before .before .before .before .before .before .before .before .before .before .before .before .before .before .before .before .before .before .before .before .if2 .left) (c .before .before .before .before .before .before .before .before .before .before .before .before .before .before .before .before .before .before .before .before .before .before .before .dots-next .ensures) (first .last .0) _ _ _ _ (c .before .before .before .before .before .before .before .before .before .before .before .before .a .given .1) (first .ensures) in
-    let second = c .before .before .before .before .before .before .before .before .before .pattern3 in
-    let later = made-rest (a .work .now) (a .dots) (a .literals) (a .node) (a .w) (a .k) (a .top) asks (p .1 .1) (p .1 .2) _ _ is-pair head-is rest-is (a .taken) _ (c .before .before .before .before .before .before .before .before .before .before .before .before .before .before .before .before .before .before .before .before .before .before .before .before .before .if2 .left) (c .before .before .before .before .before .before .before .before .before .before .before .before .before .before .before .before .before .before .before .before .before .before .before .dots-next .ensures) (first .last .0) _ _ _ (first .kept .0) head (second .last .0) _ _ _ _ (c .before .before .before .before .before .b .given .1) (second .ensures) in
-    left-list (a .work .now) (a .dots) (a .literals) (a .node) (a .w) (a .k) (a .top) asks (p .1 .1) (p .1 .2) _ _ is-pair head-is rest-is (a .taken) _ (c .before .before .before .before .before .before .before .before .before .before .before .before .before .before .before .before .before .before .before .before .before .before .before .before .before .if2 .left) (c .before .before .before .before .before .before .before .before .before .before .before .before .before .before .before .before .before .before .before .before .before .before .before .dots-next .ensures) (first .last .0) _ _ _ (first .kept .0) head _ _ _ _ _ _ _ (sym (c .before .before .before .before .before .before .before .before .before .before .before .before .before .before .before .before .before .before .before .before .if3 .left) ∙ c .before .before .before .before .before .before .before .before .before .before .before .before .before .before .before .before .before .before .before .before .before .crowded .ensures) (c .before .before .before .before .before .before .before .before .before .before .before .before .before .before .before .before .before .before .following .ensures (a .w)) later (c .before .before .put-list .ensures)
+    let is-pair = sym (at-word .word .ensures) ∙ at-if1 .if1 .left in
+    let head-is = at-reference .reference .ensures in
+    let rest-is = at-reference2 .reference2 .ensures in
+    let untaken = at-if2 .if2 .left in
+    let next = at-dots-next .dots-next .ensures in
+    let here = pair-here (a .work .now) (a .form) (a .node) (a .top) asks (p .1 .1) (p .1 .2) is-pair head-is rest-is in
+    let first = at-pattern2 .pattern2 in
+    let head = made-head here (a .k) untaken next (first .last .0) _ _ _ _ (at-a .a .given .1) (first .ensures) in
+    let second = at-pattern3 .pattern3 in
+    let later = made-rest here (a .k) untaken next (first .kept .0) head (second .last .0) _ _ _ _ (at-b .b .given .1) (second .ensures) in
+    left-list here (a .k) untaken next (first .kept .0) head _ _ _ _ _ _ _ (sym (at-if3 .if3 .left) ∙ at-crowded .crowded .ensures) (at-following .following .ensures (a .form .wrap)) later (at-put-list .put-list .ensures .0)
 
 pub +pattern-spec : {M : Type 1} → statement M
 +pattern-spec = close μ-pattern λ t. pattern-lts.spec (pattern-claims t)

@@ -13,30 +13,49 @@ use Rattle.rule_cells.proofs.dots.is_ellipsis.Reads as is-ellipsis-read
 use Rattle.rule_cells.proofs.variables.is_variable.Reads as is-variable-reads
 use mathlib.Core.Path.{refl, sym, ap, _∙_}
 use Rattle.arena.specs.Arena.{wordAt, nameAt, treeAt}
-use Rattle.rule_cells.specs.Dots.{dotsAt}
 use Rattle.rule_cells.specs.PatternLaws.{left-dots, left-wildcard, left-literal, left-variable}
-use Rattle.recipe.specs.Tree.{names}
 use Rattle.arena.specs.NodeLaws.{nameAt-number}
+use Rattle.rule_cells.specs.Scopes.{dotsOf, literalsOf}
 
 returns : tie.Need-returns
 returns c =
-    let a = c .before .before .before .before .args in left-dots (dotsAt (a .work .now) (a .dots) (a .w)) (names (treeAt (a .work .now) (a .literals) (a .w))) (a .k) (nameAt (a .work .now) (a .node) (a .w)) (a .work .now) (a .top) (sym (c .before .is-ellipsis .ensures) ∙ c .if1 .taken)
+    let a = c .before .before .before .before .args in left-dots (dotsOf (a .work .now) (a .form)) (literalsOf (a .work .now) (a .form)) (a .k) (nameAt (a .work .now) (a .node) (a .form .wrap)) (a .work .now) (a .top) (sym (c .before .is-ellipsis .ensures) ∙ c .if1 .taken)
 
 returns-2 : tie.Need-returns-2
 returns-2 c =
-    let a = c .before .before .before .before .before .before .before .before .before .before .before .before .before .args in left-variable (dotsAt (a .work .now) (a .dots) (a .w)) (names (treeAt (a .work .now) (a .literals) (a .w))) (a .k) (nameAt (a .work .now) (a .node) (a .w)) (a .work .now) (a .top) _ _ (sym (c .before .before .before .before .before .before .before .before .before .before .is-ellipsis .ensures) ∙ c .before .before .before .before .before .before .before .before .before .if1 .left) (sym (c .before .before .before .before .before .is-variable .ensures) ∙ c .before .before .before .before .if2 .taken) (c .before .before .put-variable .ensures)
+    let at-put-variable = c .before .before in
+    let at-if2 = at-put-variable .before .before in
+    let at-is-variable = at-if2 .before in
+    let at-if1 = at-is-variable .before .before .before .before in
+    let at-is-ellipsis = at-if1 .before in
+    let a = at-is-ellipsis .before .before .before .args in left-variable (dotsOf (a .work .now) (a .form)) (literalsOf (a .work .now) (a .form)) (a .k) (nameAt (a .work .now) (a .node) (a .form .wrap)) (a .work .now) (a .top) _ _ (sym (at-is-ellipsis .is-ellipsis .ensures) ∙ at-if1 .if1 .left) (sym (at-is-variable .is-variable .ensures) ∙ at-if2 .if2 .taken) (at-put-variable .put-variable .ensures)
 
 returns-3 : tie.Need-returns-3
 returns-3 c =
-    let a = c .before .before .before .before .before .before .before .before .before .before .before .before .before .before .args in
-    let number-is = nameAt-number (a .work .now) (a .node) (a .w) ∙ sym (c .before .before .before .before .before .before .before .before .number-of .ensures) in
-    left-wildcard (dotsAt (a .work .now) (a .dots) (a .w)) (names (treeAt (a .work .now) (a .literals) (a .w))) (a .k) (nameAt (a .work .now) (a .node) (a .w)) (a .work .now) (a .top) _ _ (sym (c .before .before .before .before .before .before .before .before .before .before .before .is-ellipsis .ensures) ∙ c .before .before .before .before .before .before .before .before .before .before .if1 .left) (number-is ∙ c .before .before .before .before .if3 .taken) (sym (c .before .before .before .before .before .before .is-variable .ensures) ∙ c .before .before .before .before .before .if2 .left) (c .before .before .put-wildcard .ensures)
+    let at-put-wildcard = c .before .before in
+    let at-if3 = at-put-wildcard .before .before in
+    let at-if2 = at-if3 .before in
+    let at-is-variable = at-if2 .before in
+    let at-number-of = at-is-variable .before .before in
+    let at-if1 = at-number-of .before .before in
+    let at-is-ellipsis = at-if1 .before in
+    let a = at-is-ellipsis .before .before .before .args in
+    let number-is = nameAt-number (a .work .now) (a .node) (a .form .wrap) ∙ sym (at-number-of .number-of .ensures) in
+    left-wildcard (dotsOf (a .work .now) (a .form)) (literalsOf (a .work .now) (a .form)) (a .k) (nameAt (a .work .now) (a .node) (a .form .wrap)) (a .work .now) (a .top) _ _ (sym (at-is-ellipsis .is-ellipsis .ensures) ∙ at-if1 .if1 .left) (number-is ∙ at-if3 .if3 .taken) (sym (at-is-variable .is-variable .ensures) ∙ at-if2 .if2 .left) (at-put-wildcard .put-wildcard .ensures)
 
 returns-4 : tie.Need-returns-4
 returns-4 c =
-    let a = c .before .before .before .before .before .before .before .before .before .before .before .before .before .before .before .before .args in
-    let number-is = nameAt-number (a .work .now) (a .node) (a .w) ∙ sym (c .before .before .before .before .before .before .before .before .before .before .number-of .ensures) in
-    left-literal (dotsAt (a .work .now) (a .dots) (a .w)) (names (treeAt (a .work .now) (a .literals) (a .w))) (a .k) (nameAt (a .work .now) (a .node) (a .w)) (a .work .now) (a .top) (a .node) (a .w) _ _ _ _ refl (sym (c .before .before .before .before .before .before .before .before .before .before .before .before .before .is-ellipsis .ensures) ∙ c .before .before .before .before .before .before .before .before .before .before .before .before .if1 .left) (λ z. c .before .before .before .before .before .before .if3 .left (sym number-is ∙ z)) (sym (c .before .before .before .before .before .before .before .before .is-variable .ensures) ∙ c .before .before .before .before .before .before .before .if2 .left) (sym number-is) (c .before .before .before .before .binding-of .ensures) (c .before .before .put-literal .ensures)
+    let at-put-literal = c .before .before in
+    let at-binding-of = at-put-literal .before .before in
+    let at-if3 = at-binding-of .before .before in
+    let at-if2 = at-if3 .before in
+    let at-is-variable = at-if2 .before in
+    let at-number-of = at-is-variable .before .before in
+    let at-if1 = at-number-of .before .before in
+    let at-is-ellipsis = at-if1 .before in
+    let a = at-is-ellipsis .before .before .before .args in
+    let number-is = nameAt-number (a .work .now) (a .node) (a .form .wrap) ∙ sym (at-number-of .number-of .ensures) in
+    left-literal (dotsOf (a .work .now) (a .form)) (literalsOf (a .work .now) (a .form)) (a .k) (nameAt (a .work .now) (a .node) (a .form .wrap)) (a .work .now) (a .top) (a .node) (a .form .wrap) _ _ _ _ refl (sym (at-is-ellipsis .is-ellipsis .ensures) ∙ at-if1 .if1 .left) (λ z. at-if3 .if3 .left (sym number-is ∙ z)) (sym (at-is-variable .is-variable .ensures) ∙ at-if2 .if2 .left) (sym number-is) (at-binding-of .binding-of .ensures) (at-put-literal .put-literal .ensures)
 
 pub pattern-name-spec : {M : Type 1} → statement M
 pattern-name-spec =

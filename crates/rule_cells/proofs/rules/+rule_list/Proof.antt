@@ -16,13 +16,14 @@ use borrow.Author.Needs.{needs}
 use Rattle.words.specs.Packed.{builtOf}
 use Rattle.rule_cells.specs.ParseLaws.{packs-at, packs, asks-tail, rest-below}
 use Rattle.rule_cells.specs.RuleParse.{RulesLeft}
+use Rattle.rule_cells.specs.PatternLaws.{pair-here}
 use Rattle.rule_cells.specs.RuleListLaws.{left-end, left-later, made-later, asks-first, literals-still, left-both, dots-still}
 use mathlib.Core.Path.{sym, _∙_}
 use native.Mathlib.Omega.{arith}
 
 abbrev μ-rule-list : Measures 1 rule-list-kinds.ps ℕ
 μ-rule-list κs a =
-    a .1 .1 .1 .0
+    a .1 .1 .0
 
 abbrev rule-list-at : ℕ → In 1 rule-list-kinds.ps
 rule-list-at t = and 1 rule-list-kinds.ps (is 1 rule-list-kinds.ps μ-rule-list t) rule-list.Pre
@@ -36,56 +37,91 @@ rule-list-claims t = (word-reads.Asked, word-reads.Learnt, pair-reads.Asked, pai
 
 rule-list-returns : (t : ℕ) → rule-list-lts.Need-returns (rule-list-claims t) (rule-list-at t) rule-list.Post
 rule-list-returns t c =
-    let a = c .before .before .before .before .before .args in
-    let p = c .before .before .before .before .before .pre in
-    let left = left-end (a .work .now) (a .dots) (a .literals) (a .node) (a .w) (a .top) (p .1 .0) (p .1 .1) (p .1 .2) (λ z. c .before .if1 .taken (c .before .before .word .ensures ∙ z)) in
-    packs-at (RulesLeft _ _ _ _ _) _ _ _ _ (packs (a .work .now) (a .node) (a .w) (a .top) (p .1 .0)) (c .pair .ensures) (left .words) left
+    let at-if1 = c .before in
+    let at-word = at-if1 .before in
+    let at-args = at-word .before .before .before in
+    let a = at-args .args in
+    let p = at-args .pre in
+    let left = left-end (a .work .now) (a .form) (a .node) (a .top) (λ z. at-if1 .if1 .taken (at-word .word .ensures ∙ z)) in
+    packs-at (RulesLeft _ _ _ _ _) _ _ _ _ (packs (a .work .now) (a .node) (a .form .wrap) (a .top) (p .1 .0)) (c .pair .ensures) (left .words) left
 
 rule-list-rule-list-requires : (t : ℕ) → rule-list-lts.Need-rule-list-requires (rule-list-claims t) (rule-list-at t) rule-list.Post
 rule-list-rule-list-requires t c κs =
-    let a = c .before .before .before .before .before .before .before .before .before .args in
-    let p = c .before .before .before .before .before .before .before .before .before .pre in
+    let at-reference2 = c .before in
+    let at-reference = at-reference2 .before .before in
+    let at-if1 = at-reference .before .before in
+    let at-word = at-if1 .before in
+    let at-args = at-word .before .before .before in
+    let a = at-args .args in
+    let p = at-args .pre in
     let asks = p .1 .0 in
-    let is-pair = sym (c .before .before .before .before .before .before .word .ensures) ∙ c .before .before .before .before .before .if1 .left in
-    let head-is = c .before .before .before .reference .ensures in
-    let rest-is = c .before .reference2 .ensures in
-    (omega (arith, p .0, rest-below (a .work .now) (a .node) (a .w) (a .top) asks _ _ is-pair head-is rest-is), (asks-tail (a .work .now) (a .node) (a .w) (a .top) asks _ _ is-pair head-is rest-is, p .1 .1, p .1 .2))
+    let is-pair = sym (at-word .word .ensures) ∙ at-if1 .if1 .left in
+    let head-is = at-reference .reference .ensures in
+    let rest-is = at-reference2 .reference2 .ensures in
+    (omega (arith, p .0, rest-below (a .work .now) (a .node) (a .form .wrap) (a .top) asks _ _ is-pair head-is rest-is), (asks-tail (a .work .now) (a .node) (a .form .wrap) (a .top) asks _ _ is-pair head-is rest-is, p .1 .1, p .1 .2))
 
 rule-list-returns-2 : (t : ℕ) → rule-list-lts.Need-returns-2 (rule-list-claims t) (rule-list-at t) rule-list.Post
 unfolding builtOf
 rule-list-returns-2 t c =
-    let a = c .before .before .before .before .before .before .before .before .before .before .before .before .before .before .before .args in
-    let p = c .before .before .before .before .before .before .before .before .before .before .before .before .before .before .before .pre in
+    let at-parts = c .before .before in
+    let at-rule-list = at-parts .before .before .before in
+    let at-reference2 = at-rule-list .before .before in
+    let at-reference = at-reference2 .before .before in
+    let at-if1 = at-reference .before .before in
+    let at-word = at-if1 .before in
+    let at-args = at-word .before .before .before in
+    let a = at-args .args in
+    let p = at-args .pre in
     let asks = p .1 .0 in
-    let is-pair = sym (c .before .before .before .before .before .before .before .before .before .before .before .before .word .ensures) ∙ c .before .before .before .before .before .before .before .before .before .before .before .if1 .left in
-    let head-is = c .before .before .before .before .before .before .before .before .before .reference .ensures in
-    let rest-is = c .before .before .before .before .before .before .before .reference2 .ensures in
-    let l = c .before .before .before .before .before .rule-list in
-    left-later (a .work .now) (a .dots) (a .literals) (a .node) (a .w) (a .top) asks (p .1 .1) (p .1 .2) _ _ is-pair head-is rest-is (l .last .0) (builtOf (l .result)) (sym (c .before .before .parts .ensures) ∙ c .enum-told .given .1) (l .ensures)
+    let is-pair = sym (at-word .word .ensures) ∙ at-if1 .if1 .left in
+    let head-is = at-reference .reference .ensures in
+    let rest-is = at-reference2 .reference2 .ensures in
+    let here = pair-here (a .work .now) (a .form) (a .node) (a .top) asks (p .1 .1) (p .1 .2) is-pair head-is rest-is in
+    let l = at-rule-list .rule-list in
+    left-later here (l .last .0) (builtOf (l .result)) (sym (at-parts .parts .ensures) ∙ c .enum-told .given .1) (l .ensures)
 
 rule-list-rule-requires : (t : ℕ) → rule-list-lts.Need-rule-requires (rule-list-claims t) (rule-list-at t) rule-list.Post
 rule-list-rule-requires t c κs =
-    let a = c .before .before .before .before .before .before .before .before .before .before .before .before .before .before .before .before .before .args in
-    let p = c .before .before .before .before .before .before .before .before .before .before .before .before .before .before .before .before .before .pre in
+    let at-next = c .before .before in
+    let at-parts = at-next .before .before in
+    let at-rule-list = at-parts .before .before .before in
+    let at-reference2 = at-rule-list .before .before in
+    let at-reference = at-reference2 .before .before in
+    let at-if1 = at-reference .before .before in
+    let at-word = at-if1 .before in
+    let at-args = at-word .before .before .before in
+    let a = at-args .args in
+    let p = at-args .pre in
     let asks = p .1 .0 in
-    let is-pair = sym (c .before .before .before .before .before .before .before .before .before .before .before .before .before .before .word .ensures) ∙ c .before .before .before .before .before .before .before .before .before .before .before .before .before .if1 .left in
-    let head-is = c .before .before .before .before .before .before .before .before .before .before .before .reference .ensures in
-    let rest-is = c .before .before .before .before .before .before .before .before .before .reference2 .ensures in
-    let l = c .before .before .before .before .before .before .before .rule-list in
-    let later = made-later (a .work .now) (a .dots) (a .literals) (a .node) (a .w) (a .top) asks (p .1 .1) (p .1 .2) _ _ is-pair head-is rest-is (l .last .0) (builtOf (l .result)) _ _ (sym (c .before .before .before .before .parts .ensures) ∙ c .before .before .next .given .1) (l .ensures) in
-    (asks-first (a .work .now) (a .dots) (a .literals) (a .node) (a .w) (a .top) asks (p .1 .1) (p .1 .2) _ _ is-pair head-is rest-is (l .last .0) _ _ (l .kept .0) later, dots-still (a .work .now) (a .dots) (a .literals) (a .node) (a .w) (a .top) asks (p .1 .1) (p .1 .2) _ _ is-pair head-is rest-is (l .last .0) _ _ (l .kept .0) later, literals-still (a .work .now) (a .dots) (a .literals) (a .node) (a .w) (a .top) asks (p .1 .1) (p .1 .2) _ _ is-pair head-is rest-is (l .last .0) _ _ (l .kept .0) later, later .at-most)
+    let is-pair = sym (at-word .word .ensures) ∙ at-if1 .if1 .left in
+    let head-is = at-reference .reference .ensures in
+    let rest-is = at-reference2 .reference2 .ensures in
+    let here = pair-here (a .work .now) (a .form) (a .node) (a .top) asks (p .1 .1) (p .1 .2) is-pair head-is rest-is in
+    let l = at-rule-list .rule-list in
+    let later = made-later here (l .last .0) (builtOf (l .result)) _ _ (sym (at-parts .parts .ensures) ∙ at-next .next .given .1) (l .ensures) in
+    (asks-first here (l .kept .0) later, dots-still here (l .kept .0) later, literals-still here (l .kept .0) later, later .at-most)
 
 rule-list-returns-3 : (t : ℕ) → rule-list-lts.Need-returns-3 (rule-list-claims t) (rule-list-at t) rule-list.Post
 rule-list-returns-3 t c =
-    let a = c .before .before .before .before .before .before .before .before .before .before .before .before .before .before .before .before .before .before .before .before .args in
-    let p = c .before .before .before .before .before .before .before .before .before .before .before .before .before .before .before .before .before .before .before .before .pre in
+    let at-rule = c .before .before in
+    let at-next = at-rule .before .before .before in
+    let at-parts = at-next .before .before in
+    let at-rule-list = at-parts .before .before .before in
+    let at-reference2 = at-rule-list .before .before in
+    let at-reference = at-reference2 .before .before in
+    let at-if1 = at-reference .before .before in
+    let at-word = at-if1 .before in
+    let at-args = at-word .before .before .before in
+    let a = at-args .args in
+    let p = at-args .pre in
     let asks = p .1 .0 in
-    let is-pair = sym (c .before .before .before .before .before .before .before .before .before .before .before .before .before .before .before .before .before .word .ensures) ∙ c .before .before .before .before .before .before .before .before .before .before .before .before .before .before .before .before .if1 .left in
-    let head-is = c .before .before .before .before .before .before .before .before .before .before .before .before .before .before .reference .ensures in
-    let rest-is = c .before .before .before .before .before .before .before .before .before .before .before .before .reference2 .ensures in
-    let l = c .before .before .before .before .before .before .before .before .before .before .rule-list in
-    let later = made-later (a .work .now) (a .dots) (a .literals) (a .node) (a .w) (a .top) asks (p .1 .1) (p .1 .2) _ _ is-pair head-is rest-is (l .last .0) (builtOf (l .result)) _ _ (sym (c .before .before .before .before .before .before .before .parts .ensures) ∙ c .before .before .before .before .before .next .given .1) (l .ensures) in
-    left-both (a .work .now) (a .dots) (a .literals) (a .node) (a .w) (a .top) asks (p .1 .1) (p .1 .2) _ _ is-pair head-is rest-is (l .last .0) _ _ (l .kept .0) later (c .before .before .rule .last .0) (builtOf (c .before .before .rule .result)) (c .before .before .rule .ensures)
+    let is-pair = sym (at-word .word .ensures) ∙ at-if1 .if1 .left in
+    let head-is = at-reference .reference .ensures in
+    let rest-is = at-reference2 .reference2 .ensures in
+    let here = pair-here (a .work .now) (a .form) (a .node) (a .top) asks (p .1 .1) (p .1 .2) is-pair head-is rest-is in
+    let l = at-rule-list .rule-list in
+    let later = made-later here (l .last .0) (builtOf (l .result)) _ _ (sym (at-parts .parts .ensures) ∙ at-next .next .given .1) (l .ensures) in
+    left-both here (l .kept .0) later (at-rule .rule .last .0) (builtOf (at-rule .rule .result)) (at-rule .rule .ensures)
 
 pub +rule-list-spec : {M : Type 1} → statement M
 +rule-list-spec = close μ-rule-list λ t. rule-list-lts.spec (rule-list-claims t)

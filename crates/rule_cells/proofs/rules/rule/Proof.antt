@@ -14,16 +14,33 @@ use mathlib.Core.Path.{sym, _∙_}
 
 rule-parts-requires : tie.Need-rule-parts-requires
 rule-parts-requires c κs =
-    let a = c .before .before .before .before .before .before .before .before .before .before .before .before .before .args in parts-ask (a .work .now) (a .dots) (a .literals) (a .node) (a .w) (a .next) (a .top) (c .before .before .before .before .before .before .before .before .before .before .before .before .before .pre .0) (c .before .before .before .before .before .before .before .before .before .before .before .before .before .pre .1) (c .before .before .before .before .before .before .before .before .before .before .before .before .before .pre .2) (c .before .before .before .before .before .before .before .before .before .before .before .before .before .pre .3) _ _ _ _ (sym (c .before .before .before .before .before .before .before .before .before .if1 .taken) ∙ c .before .before .before .before .before .before .before .before .before .before .rule-shape .ensures) (c .before .before .before .before .before .before .before .first .ensures) (c .before .before .before .before .before .rest .ensures) (c .before .before .before .rest2 .ensures) (c .before .first2 .ensures)
+    let at-first2 = c .before in
+    let at-rest2 = at-first2 .before .before in
+    let at-rest = at-rest2 .before .before in
+    let at-first = at-rest .before .before in
+    let at-if1 = at-first .before .before in
+    let at-rule-shape = at-if1 .before in
+    let at-args = at-rule-shape .before .before .before in
+    let a = at-args .args in parts-ask (a .work .now) (a .form) (a .node) (a .next) (a .top) (at-args .pre .0) (at-args .pre .1) (at-args .pre .2) (at-args .pre .3) _ _ _ _ (sym (at-if1 .if1 .taken) ∙ at-rule-shape .rule-shape .ensures) (at-first .first .ensures) (at-rest .rest .ensures) (at-rest2 .rest2 .ensures) (at-first2 .first2 .ensures)
 
 returns : tie.Need-returns
 returns c =
-    let a = c .before .before .before .before .before .before .before .before .before .before .before .before .before .before .before .before .args in left-parts (a .work .now) (a .dots) (a .literals) (a .node) (a .w) (a .next) (a .top) (c .before .before .before .before .before .before .before .before .before .before .before .before .before .before .before .before .pre .0) (c .before .before .before .before .before .before .before .before .before .before .before .before .before .before .before .before .pre .1) (c .before .before .before .before .before .before .before .before .before .before .before .before .before .before .before .before .pre .2) (c .before .before .before .before .before .before .before .before .before .before .before .before .before .before .before .before .pre .3) _ _ _ _ (sym (c .before .before .before .before .before .before .before .before .before .before .before .before .if1 .taken) ∙ c .before .before .before .before .before .before .before .before .before .before .before .before .before .rule-shape .ensures) (c .before .before .before .before .before .before .before .before .before .before .first .ensures) (c .before .before .before .before .before .before .before .before .rest .ensures) (c .before .before .before .before .before .before .rest2 .ensures) (c .before .before .before .before .first2 .ensures) (c .before .before .rule-parts .last .0) (builtOf (c .before .before .rule-parts .result)) (c .before .before .rule-parts .ensures)
+    let at-rule-parts = c .before .before in
+    let at-first2 = at-rule-parts .before .before in
+    let at-rest2 = at-first2 .before .before in
+    let at-rest = at-rest2 .before .before in
+    let at-first = at-rest .before .before in
+    let at-if1 = at-first .before .before in
+    let at-rule-shape = at-if1 .before in
+    let at-args = at-rule-shape .before .before .before in
+    let a = at-args .args in left-parts (a .work .now) (a .form) (a .node) (a .next) (a .top) (at-args .pre .0) (at-args .pre .1) (at-args .pre .2) (at-args .pre .3) _ _ _ _ (sym (at-if1 .if1 .taken) ∙ at-rule-shape .rule-shape .ensures) (at-first .first .ensures) (at-rest .rest .ensures) (at-rest2 .rest2 .ensures) (at-first2 .first2 .ensures) (at-rule-parts .rule-parts .last .0) (builtOf (at-rule-parts .rule-parts .result)) (at-rule-parts .rule-parts .ensures)
 
 returns-2 : tie.Need-returns-2
 unfolding builtOf
 returns-2 c =
-    let a = c .before .before .before .before .args in left-shape (a .work .now) (a .dots) (a .literals) (a .node) (a .w) (a .next) (a .top) (c .before .before .before .before .pre .0) (c .before .before .before .before .pre .1) (c .before .before .before .before .pre .2) (c .before .before .before .before .pre .3) (sym (c .if1 .left) ∙ c .before .rule-shape .ensures)
+    let at-rule-shape = c .before in
+    let at-args = at-rule-shape .before .before .before in
+    let a = at-args .args in left-shape (a .work .now) (a .form) (a .node) (a .next) (a .top) (at-args .pre .0) (at-args .pre .1) (at-args .pre .2) (at-args .pre .3) (sym (c .if1 .left) ∙ at-rule-shape .rule-shape .ensures)
 
 pub rule-spec : {M : Type 1} → statement M
 rule-spec =

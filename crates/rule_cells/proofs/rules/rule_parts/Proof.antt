@@ -24,75 +24,109 @@ gather-requires : tie.Need-gather-requires
 gather-requires c κs =
     let a = c .before .before .before .args in
     let ask = c .before .before .before .pre in
-    (omega arith, held-none (a .work .now) (a .w) _, small-p (a .work .now) (a .dots) (a .literals) (a .p) (a .q) (a .w) (a .next) (a .top) ask)
+    (omega arith, held-none (a .work .now) (a .form .wrap) _, small-p ask)
 
 returns : tie.Need-returns
 unfolding builtOf
 returns c =
-    let a = c .before .before .before .before .before .before .args in
-    let ask = c .before .before .before .before .before .before .pre in
-    let g = c .before .before .gather in
-    left-variables (a .work .now) (a .dots) (a .literals) (a .p) (a .q) (a .w) (a .next) (a .top) ask _ (g .last .1 .0) (keptOf (g .result)) (kept-bad (g .result) (c .if1 .taken)) (g .ensures)
+    let at-gather = c .before .before in
+    let at-args = at-gather .before .before .before .before in
+    let a = at-args .args in
+    let ask = at-args .pre in
+    let g = at-gather .gather in
+    left-variables ask _ (g .last .1 .0) (keptOf (g .result)) (kept-bad (g .result) (c .if1 .taken)) (g .ensures)
 
 pattern-requires : tie.Need-pattern-requires
 pattern-requires c κs =
-    let a = c .before .before .before .before .before .before .before .args in
-    let ask = c .before .before .before .before .before .before .before .pre in
-    (asks-p (a .work .now) (a .dots) (a .literals) (a .p) (a .q) (a .w) (a .next) (a .top) ask, ask .dots-below, ask .literals-below, small-size (a .work .now) (a .dots) (a .literals) (a .p) (a .q) (a .w) (a .next) (a .top) ask, λ z. absurd (false≢true z))
+    let at-args = c .before .before .before .before .before .before .before in
+    let a = at-args .args in
+    let ask = at-args .pre in
+    (asks-p ask, ask .dots-below, ask .literals-below, small-size ask, λ z. absurd (false≢true z))
 
 returns-2 : tie.Need-returns-2
 unfolding builtOf
 returns-2 c =
-    let a = c .before .before .before .before .before .before .before .before .before .before .before .before .args in
-    let ask = c .before .before .before .before .before .before .before .before .before .before .before .before .pre in
-    left-pattern (a .work .now) (a .dots) (a .literals) (a .p) (a .q) (a .w) (a .next) (a .top) ask (c .before .before .before .before .pattern .last .0) _ (c .enum-told .given .1) (c .before .before .before .before .pattern .ensures)
+    let at-pattern = c .before .before .before .before in
+    let at-args = at-pattern .before .before .before .before .before .before .before .before in
+    let a = at-args .args in
+    let ask = at-args .pre in
+    left-pattern ask (at-pattern .pattern .last .0) _ (c .enum-told .given .1) (at-pattern .pattern .ensures)
 
 template-requires : tie.Need-template-requires
 template-requires c κs =
-    let a = c .before .before .before .before .before .before .before .before .before .before .before .before .before .before .before .args in
-    let ask = c .before .before .before .before .before .before .before .before .before .before .before .before .before .before .before .pre in
-    let g = c .before .before .before .before .before .before .before .before .before .before .before .gather in
-    let stored = gathered-stored _ _ _ _ _ _ (g .last .1 .0) (keptOf (g .result)) _ (kept-count (g .result) (c .before .before .before .before .before .before .before .before .before .if1 .left)) (g .ensures) in
-    let p = c .before .before .before .before .before .before .before .pattern in
-    let pattern = made-pattern (a .work .now) (a .dots) (a .literals) (a .p) (a .q) (a .w) (a .next) (a .top) ask (p .last .0) _ _ _ _ (c .before .before .before .a .given .1) (p .ensures) in
-    (asks-q (a .work .now) (a .dots) (a .literals) (a .p) (a .q) (a .w) (a .next) (a .top) ask _ (g .last .1 .0) _ stored (p .last .0) _ _ _ (p .kept .0) pattern, stored .held .most, omega (arith, g .kept .1 .0), under-top (a .work .now) (a .dots) (a .literals) (a .p) (a .q) (a .w) (a .next) (a .top) ask _ (g .last .1 .0) _ stored (p .last .0) _ _ _ (p .kept .0) pattern, dots-still (a .work .now) (a .dots) (a .literals) (a .p) (a .q) (a .w) (a .next) (a .top) ask _ (g .last .1 .0) _ stored (p .last .0) _ _ _ (p .kept .0) pattern, small-q (a .work .now) (a .dots) (a .literals) (a .p) (a .q) (a .w) (a .next) (a .top) ask _ (g .last .1 .0) _ stored (p .last .0) _ _ _ (p .kept .0) pattern)
+    let at-a = c .before .before .before in
+    let at-pattern = at-a .before .before .before .before in
+    let at-if1 = at-pattern .before .before in
+    let at-gather = at-if1 .before .before in
+    let at-args = at-gather .before .before .before .before in
+    let a = at-args .args in
+    let ask = at-args .pre in
+    let g = at-gather .gather in
+    let stored = gathered-stored _ _ _ _ _ _ (g .last .1 .0) (keptOf (g .result)) _ (kept-count (g .result) (at-if1 .if1 .left)) (g .ensures) in
+    let p = at-pattern .pattern in
+    let pattern = made-pattern ask (p .last .0) _ _ _ _ (at-a .a .given .1) (p .ensures) in
+    (asks-q ask stored (p .kept .0) pattern, stored .held .most, omega (arith, g .kept .1 .0), under-top ask stored (p .kept .0) pattern, dots-still ask stored (p .kept .0) pattern, small-q ask stored (p .kept .0) pattern)
 
 returns-3 : tie.Need-returns-3
 unfolding builtOf
 returns-3 c =
-    let a = c .before .before .before .before .before .before .before .before .before .before .before .before .before .before .before .before .before .before .before .before .before .args in
-    let ask = c .before .before .before .before .before .before .before .before .before .before .before .before .before .before .before .before .before .before .before .before .before .pre in
-    let g = c .before .before .before .before .before .before .before .before .before .before .before .before .before .before .before .before .before .gather in
-    let stored = gathered-stored _ _ _ _ _ _ (g .last .1 .0) (keptOf (g .result)) _ (kept-count (g .result) (c .before .before .before .before .before .before .before .before .before .before .before .before .before .before .before .if1 .left)) (g .ensures) in
-    let p = c .before .before .before .before .before .before .before .before .before .before .before .before .before .pattern in
-    let pattern = made-pattern (a .work .now) (a .dots) (a .literals) (a .p) (a .q) (a .w) (a .next) (a .top) ask (p .last .0) _ _ _ _ (c .before .before .before .before .before .before .before .before .before .a .given .1) (p .ensures) in
-    let q = c .before .before .before .before .before .template in
-    left-template (a .work .now) (a .dots) (a .literals) (a .p) (a .q) (a .w) (a .next) (a .top) ask _ (g .last .1 .0) _ stored (p .last .0) _ _ _ (p .kept .0) pattern (q .last .0) (builtOf (q .result)) (sym (c .before .before .parts .ensures) ∙ c .enum-told2 .given .1) (q .ensures)
+    let at-parts = c .before .before in
+    let at-template = at-parts .before .before .before in
+    let at-a = at-template .before .before .before .before in
+    let at-pattern = at-a .before .before .before .before in
+    let at-if1 = at-pattern .before .before in
+    let at-gather = at-if1 .before .before in
+    let at-args = at-gather .before .before .before .before in
+    let a = at-args .args in
+    let ask = at-args .pre in
+    let g = at-gather .gather in
+    let stored = gathered-stored _ _ _ _ _ _ (g .last .1 .0) (keptOf (g .result)) _ (kept-count (g .result) (at-if1 .if1 .left)) (g .ensures) in
+    let p = at-pattern .pattern in
+    let pattern = made-pattern ask (p .last .0) _ _ _ _ (at-a .a .given .1) (p .ensures) in
+    let q = at-template .template in
+    left-template ask stored (p .kept .0) pattern (q .last .0) (builtOf (q .result)) (sym (at-parts .parts .ensures) ∙ c .enum-told2 .given .1) (q .ensures)
 
 put-rule-requires : tie.Need-put-rule-requires
 put-rule-requires c κs =
-    let a = c .before .before .before .before .before .before .before .before .before .before .before .before .before .before .before .before .before .before .before .before .before .before .before .args in
-    let ask = c .before .before .before .before .before .before .before .before .before .before .before .before .before .before .before .before .before .before .before .before .before .before .before .pre in
-    let g = c .before .before .before .before .before .before .before .before .before .before .before .before .before .before .before .before .before .before .before .gather in
-    let stored = gathered-stored _ _ _ _ _ _ (g .last .1 .0) (keptOf (g .result)) _ (kept-count (g .result) (c .before .before .before .before .before .before .before .before .before .before .before .before .before .before .before .before .before .if1 .left)) (g .ensures) in
-    let p = c .before .before .before .before .before .before .before .before .before .before .before .before .before .before .before .pattern in
-    let pattern = made-pattern (a .work .now) (a .dots) (a .literals) (a .p) (a .q) (a .w) (a .next) (a .top) ask (p .last .0) _ _ _ _ (c .before .before .before .before .before .before .before .before .before .before .before .a .given .1) (p .ensures) in
-    let q = c .before .before .before .before .before .before .before .template in
-    let template = made-template (a .work .now) (a .dots) (a .literals) (a .p) (a .q) (a .w) (a .next) (a .top) ask _ (g .last .1 .0) _ stored (p .last .0) _ _ _ (p .kept .0) pattern (q .last .0) (builtOf (q .result)) _ _ (sym (c .before .before .before .before .parts .ensures) ∙ c .before .before .b .given .1) (q .ensures) in
-    rule-asks (a .work .now) (a .dots) (a .literals) (a .p) (a .q) (a .w) (a .next) (a .top) ask _ (g .last .1 .0) _ stored (p .last .0) _ _ _ (p .kept .0) pattern (q .last .0) _ _ (q .kept .0) template
+    let at-b = c .before .before in
+    let at-parts = at-b .before .before in
+    let at-template = at-parts .before .before .before in
+    let at-a = at-template .before .before .before .before in
+    let at-pattern = at-a .before .before .before .before in
+    let at-if1 = at-pattern .before .before in
+    let at-gather = at-if1 .before .before in
+    let at-args = at-gather .before .before .before .before in
+    let a = at-args .args in
+    let ask = at-args .pre in
+    let g = at-gather .gather in
+    let stored = gathered-stored _ _ _ _ _ _ (g .last .1 .0) (keptOf (g .result)) _ (kept-count (g .result) (at-if1 .if1 .left)) (g .ensures) in
+    let p = at-pattern .pattern in
+    let pattern = made-pattern ask (p .last .0) _ _ _ _ (at-a .a .given .1) (p .ensures) in
+    let q = at-template .template in
+    let template = made-template ask stored (p .kept .0) pattern (q .last .0) (builtOf (q .result)) _ _ (sym (at-parts .parts .ensures) ∙ at-b .b .given .1) (q .ensures) in
+    rule-asks ask stored (p .kept .0) pattern (q .kept .0) template
 
 returns-4 : tie.Need-returns-4
 returns-4 c =
-    let a = c .before .before .before .before .before .before .before .before .before .before .before .before .before .before .before .before .before .before .before .before .before .before .before .before .before .before .before .args in
-    let ask = c .before .before .before .before .before .before .before .before .before .before .before .before .before .before .before .before .before .before .before .before .before .before .before .before .before .before .before .pre in
-    let g = c .before .before .before .before .before .before .before .before .before .before .before .before .before .before .before .before .before .before .before .before .before .before .before .gather in
-    let stored = gathered-stored _ _ _ _ _ _ (g .last .1 .0) (keptOf (g .result)) _ (kept-count (g .result) (c .before .before .before .before .before .before .before .before .before .before .before .before .before .before .before .before .before .before .before .before .before .if1 .left)) (g .ensures) in
-    let p = c .before .before .before .before .before .before .before .before .before .before .before .before .before .before .before .before .before .before .before .pattern in
-    let pattern = made-pattern (a .work .now) (a .dots) (a .literals) (a .p) (a .q) (a .w) (a .next) (a .top) ask (p .last .0) _ _ _ _ (c .before .before .before .before .before .before .before .before .before .before .before .before .before .before .before .a .given .1) (p .ensures) in
-    let q = c .before .before .before .before .before .before .before .before .before .before .before .template in
-    let template = made-template (a .work .now) (a .dots) (a .literals) (a .p) (a .q) (a .w) (a .next) (a .top) ask _ (g .last .1 .0) _ stored (p .last .0) _ _ _ (p .kept .0) pattern (q .last .0) (builtOf (q .result)) _ _ (sym (c .before .before .before .before .before .before .before .before .parts .ensures) ∙ c .before .before .before .before .before .before .b .given .1) (q .ensures) in
-    let left = left-rule (a .work .now) (a .dots) (a .literals) (a .p) (a .q) (a .w) (a .next) (a .top) ask _ (g .last .1 .0) _ stored (p .last .0) _ _ _ (p .kept .0) pattern (q .last .0) _ _ (q .kept .0) template _ _ (c .before .before .before .put-rule .ensures) in
-    packs-at (RuleLeft _ _ _ _ _ _) _ _ _ _ (packs-rule (a .work .now) (a .dots) (a .literals) (a .p) (a .q) (a .w) (a .next) (a .top) ask) (c .pair .ensures) (left .words) left
+    let at-put-rule = c .before .before .before in
+    let at-b = at-put-rule .before .before .before in
+    let at-parts = at-b .before .before in
+    let at-template = at-parts .before .before .before in
+    let at-a = at-template .before .before .before .before in
+    let at-pattern = at-a .before .before .before .before in
+    let at-if1 = at-pattern .before .before in
+    let at-gather = at-if1 .before .before in
+    let at-args = at-gather .before .before .before .before in
+    let a = at-args .args in
+    let ask = at-args .pre in
+    let g = at-gather .gather in
+    let stored = gathered-stored _ _ _ _ _ _ (g .last .1 .0) (keptOf (g .result)) _ (kept-count (g .result) (at-if1 .if1 .left)) (g .ensures) in
+    let p = at-pattern .pattern in
+    let pattern = made-pattern ask (p .last .0) _ _ _ _ (at-a .a .given .1) (p .ensures) in
+    let q = at-template .template in
+    let template = made-template ask stored (p .kept .0) pattern (q .last .0) (builtOf (q .result)) _ _ (sym (at-parts .parts .ensures) ∙ at-b .b .given .1) (q .ensures) in
+    let left = left-rule ask stored (p .kept .0) pattern (q .kept .0) template _ _ (at-put-rule .put-rule .ensures) in
+    packs-at (RuleLeft _ _ _ _ _ _) _ _ _ _ (packs-rule ask) (c .pair .ensures) (left .words) left
 
 pub rule-parts-spec : {M : Type 1} → statement M
 rule-parts-spec =

@@ -13,11 +13,22 @@ use Rattle.rule_cells.specs.RuleListLaws.{shape-no, shape-other, shape-b
 
 returns : tie.Need-returns
 returns c =
-    let a = c .before .before .before .before .before .before .before .args in shape-other (a .work .now) (a .dots) (a .node) (a .w) _ _ (sym (c .before .before .before .before .if1 .taken) ∙ c .before .before .before .before .before .is-list-of .ensures (a .w)) (c .before .before .before .first .ensures) (c .before .before .first2 .ensures) (λ z. c .if2 .taken (c .before .word .ensures ∙ z))
+    let at-word = c .before in
+    let at-first2 = at-word .before in
+    let at-first = at-first2 .before in
+    let at-if1 = at-first .before in
+    let at-is-list-of = at-if1 .before in
+    let a = at-is-list-of .before .before .args in shape-other (a .work .now) (a .dots) (a .node) (a .w) _ _ (sym (at-if1 .if1 .taken) ∙ at-is-list-of .is-list-of .ensures (a .w)) (at-first .first .ensures) (at-first2 .first2 .ensures) (λ z. c .if2 .taken (at-word .word .ensures ∙ z))
 
 returns-2 : tie.Need-returns-2
 returns-2 c =
-    let a = c .before .before .before .before .before .before .before .before .args in shape-by (a .work .now) (a .dots) (a .node) (a .w) _ _ (sym (c .before .before .before .before .before .if1 .taken) ∙ c .before .before .before .before .before .before .is-list-of .ensures (a .w)) (c .before .before .before .before .first .ensures) (c .before .before .before .first2 .ensures) _ (sym (c .before .before .word .ensures) ∙ c .before .if2 .left) (c .is-ellipsis .ensures)
+    let at-if2 = c .before in
+    let at-word = at-if2 .before in
+    let at-first2 = at-word .before in
+    let at-first = at-first2 .before in
+    let at-if1 = at-first .before in
+    let at-is-list-of = at-if1 .before in
+    let a = at-is-list-of .before .before .args in shape-by (a .work .now) (a .dots) (a .node) (a .w) _ _ (sym (at-if1 .if1 .taken) ∙ at-is-list-of .is-list-of .ensures (a .w)) (at-first .first .ensures) (at-first2 .first2 .ensures) _ (sym (at-word .word .ensures) ∙ at-if2 .if2 .left) (c .is-ellipsis .ensures)
 
 returns-3 : tie.Need-returns-3
 returns-3 c =

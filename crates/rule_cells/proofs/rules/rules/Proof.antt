@@ -16,11 +16,34 @@ use mathlib.Core.Path.{sym, _∙_}
 
 rule-list-requires : tie.Need-rule-list-requires
 rule-list-requires c κs =
-    let a = c .before .before .before .before .before .before .before .before .before .before .before .before .before .args in (asks-list (a .work .now) (a .node) (a .w) (a .top) (c .before .before .before .before .before .before .before .before .before .before .before .before .before .pre) _ _ _ _ (c .before .before .before .before .before .before .before .ellipsis .ensures) (c .before .before .before .before .before .after-chosen .ensures) (c .before .before .before .first .ensures) (c .before .rest .ensures), dots-under (a .work .now) (a .node) (a .w) (a .top) (c .before .before .before .before .before .before .before .before .before .before .before .before .before .pre) _ _ _ _ (c .before .before .before .before .before .before .before .ellipsis .ensures) (c .before .before .before .before .before .after-chosen .ensures) (c .before .before .before .first .ensures) (c .before .rest .ensures), literals-under (a .work .now) (a .node) (a .w) (a .top) (c .before .before .before .before .before .before .before .before .before .before .before .before .before .pre) _ _ _ _ (c .before .before .before .before .before .before .before .ellipsis .ensures) (c .before .before .before .before .before .after-chosen .ensures) (c .before .before .before .first .ensures) (c .before .rest .ensures))
+    let at-rest = c .before in
+    let at-first = at-rest .before .before in
+    let at-after-chosen = at-first .before .before in
+    let at-ellipsis = at-after-chosen .before .before in
+    let at-args = at-ellipsis .before .before .before .before .before .before in
+    let a = at-args .args in
+    let dots = at-ellipsis .ellipsis .ensures in
+    let after = at-after-chosen .after-chosen .ensures in
+    let literals = at-first .first .ensures in
+    let list = at-rest .rest .ensures in
+    (asks-list (a .work .now) (a .node) (a .w) (a .top) (at-args .pre) dots after literals list, dots-under (a .work .now) (a .node) (a .w) (a .top) (at-args .pre) dots after literals list, literals-under (a .work .now) (a .node) (a .w) (a .top) (at-args .pre) dots after literals list)
 
 returns : tie.Need-returns
 returns c =
-    let a = c .before .before .before .before .before .before .before .before .before .before .before .before .before .before .before .before .args in left-form (a .work .now) (a .node) (a .w) (a .top) (c .before .before .before .before .before .before .before .before .before .before .before .before .before .before .before .before .pre) _ _ _ _ (c .before .before .before .before .before .before .before .before .before .before .ellipsis .ensures) (c .before .before .before .before .before .before .before .before .after-chosen .ensures) (c .before .before .before .before .before .before .first .ensures) (c .before .before .before .before .rest .ensures) (c .before .before .rule-list .last .0) (builtOf (c .before .before .rule-list .result)) (sym (c .before .before .before .before .before .before .before .before .before .before .before .before .if1 .taken) ∙ c .before .before .before .before .before .before .before .before .before .before .before .before .before .is-rules-form .ensures) (c .before .before .rule-list .ensures)
+    let at-rule-list = c .before .before in
+    let at-rest = at-rule-list .before .before in
+    let at-first = at-rest .before .before in
+    let at-after-chosen = at-first .before .before in
+    let at-ellipsis = at-after-chosen .before .before in
+    let at-if1 = at-ellipsis .before .before in
+    let at-is-rules-form = at-if1 .before in
+    let at-args = at-is-rules-form .before .before .before in
+    let a = at-args .args in
+    let dots = at-ellipsis .ellipsis .ensures in
+    let after = at-after-chosen .after-chosen .ensures in
+    let literals = at-first .first .ensures in
+    let list = at-rest .rest .ensures in
+    left-form (a .work .now) (a .node) (a .w) (a .top) (at-args .pre) dots after literals list (at-rule-list .rule-list .last .0) (builtOf (at-rule-list .rule-list .result)) (sym (at-if1 .if1 .taken) ∙ at-is-rules-form .is-rules-form .ensures) (at-rule-list .rule-list .ensures)
 
 returns-2 : tie.Need-returns-2
 unfolding builtOf

@@ -28,7 +28,11 @@ rest-requires-2 c κs =
 
 returns : tie.Need-returns
 returns c =
-    let a = c .before .before .before .before .before .before .args in after-chosen (a .work .now) (a .node) _ _ (c .before .before .before .before .rest .ensures) (c .before .before .before .first .ensures) _ (sym (c .before .before .word .ensures) ∙ c .before .if1 .taken) (c .rest2 .ensures)
+    let at-if1 = c .before in
+    let at-word = at-if1 .before in
+    let at-first = at-word .before in
+    let at-rest = at-first .before in
+    let a = at-rest .before .before .args in after-chosen (a .work .now) (a .node) _ _ (at-rest .rest .ensures) (at-first .first .ensures) _ (sym (at-word .word .ensures) ∙ at-if1 .if1 .taken) (c .rest2 .ensures)
 
 returns-2 : tie.Need-returns-2
 returns-2 c =

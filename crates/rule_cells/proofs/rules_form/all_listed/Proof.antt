@@ -29,20 +29,34 @@ loop-holds c =
 
 loop-less : tie.Need-loop-less Inv-loop μ-loop
 loop-less c =
-    let l = c .before .before .before .before .before .before .loop in
-    omega (arith, c .reference2 .ensures, pair-falls (c .before .before .before .before .before .before .before .before .args .work .now) (l .at) 1 (sym (c .before .before .before .before .before .word .ensures) ∙ c .before .before .before .before .if1 .taken))
+    let at-if1 = c .before .before .before .before in
+    let at-word = at-if1 .before in
+    let at-loop = at-word .before in
+    let l = at-loop .loop in
+    omega (arith, c .reference2 .ensures, pair-falls (at-loop .before .before .args .work .now) (l .at) 1 (sym (at-word .word .ensures) ∙ at-if1 .if1 .taken))
 
 loop-again : tie.Need-loop-again Inv-loop μ-loop
 loop-again c =
-    let a = c .before .before .before .before .before .before .before .before .args in
-    let l = c .before .before .before .before .before .before .loop in
-    λ r h. l .inv r (all-more (a .work .now) (a .dots) (a .w) (l .at) _ (sym (c .before .before .before .before .before .word .ensures) ∙ c .before .before .before .before .if1 .taken) (c .before .before .before .reference .ensures) _ r (c .reference2 .ensures) (sym (c .before .if2 .taken) ∙ c .before .before .may-be-listed .ensures) h)
+    let at-if2 = c .before in
+    let at-may-be-listed = at-if2 .before in
+    let at-reference = at-may-be-listed .before in
+    let at-if1 = at-reference .before in
+    let at-word = at-if1 .before in
+    let at-loop = at-word .before in
+    let a = at-loop .before .before .args in
+    let l = at-loop .loop in
+    λ r h. l .inv r (all-more (a .work .now) (a .dots) (a .w) (l .at) _ (sym (at-word .word .ensures) ∙ at-if1 .if1 .taken) (at-reference .reference .ensures) _ r (c .reference2 .ensures) (sym (at-if2 .if2 .taken) ∙ at-may-be-listed .may-be-listed .ensures) h)
 
 returns : tie.Need-returns Inv-loop μ-loop
 returns c =
-    let a = c .before .before .before .before .before .before .before .args in
-    let l = c .before .before .before .before .before .loop in
-    l .inv false (all-no (a .work .now) (a .dots) (a .w) (l .at) _ (sym (c .before .before .before .before .word .ensures) ∙ c .before .before .before .if1 .taken) (c .before .before .reference .ensures) (sym (c .if2 .left) ∙ c .before .may-be-listed .ensures))
+    let at-may-be-listed = c .before in
+    let at-reference = at-may-be-listed .before in
+    let at-if1 = at-reference .before in
+    let at-word = at-if1 .before in
+    let at-loop = at-word .before in
+    let a = at-loop .before .before .args in
+    let l = at-loop .loop in
+    l .inv false (all-no (a .work .now) (a .dots) (a .w) (l .at) _ (sym (at-word .word .ensures) ∙ at-if1 .if1 .taken) (at-reference .reference .ensures) (sym (c .if2 .left) ∙ at-may-be-listed .may-be-listed .ensures))
 
 returns-2 : tie.Need-returns-2 Inv-loop μ-loop
 returns-2 c =

@@ -15,15 +15,33 @@ use Rattle.rule_cells.specs.Forms.{body-literals, body-none, body-some}
 
 returns : tie.Need-returns
 returns c =
-    let a = c .before .before .before .before .before .before .before .before .before .args in body-none (a .work .now) (a .node) (a .w) _ _ _ (c .before .before .before .before .before .before .before .ellipsis .ensures) (c .before .before .before .before .before .before .after-chosen .ensures) (c .before .before .before .before .before .first .ensures) (sym (c .before .before .before .if1 .taken) ∙ c .before .before .before .before .literals-good .ensures) _ _ (c .before .before .rest .ensures) (c .before .count .ensures) (c .if2 .taken)
+    let at-count = c .before in
+    let at-rest = at-count .before in
+    let at-if1 = at-rest .before in
+    let at-literals-good = at-if1 .before in
+    let at-first = at-literals-good .before in
+    let at-after-chosen = at-first .before in
+    let at-ellipsis = at-after-chosen .before in
+    let a = at-ellipsis .before .before .args in body-none (a .work .now) (a .node) (a .w) _ _ _ (at-ellipsis .ellipsis .ensures) (at-after-chosen .after-chosen .ensures) (at-first .first .ensures) (sym (at-if1 .if1 .taken) ∙ at-literals-good .literals-good .ensures) _ _ (at-rest .rest .ensures) (at-count .count .ensures) (c .if2 .taken)
 
 returns-2 : tie.Need-returns-2
 returns-2 c =
-    let a = c .before .before .before .before .before .before .before .before .before .args in body-some (a .work .now) (a .node) (a .w) _ _ _ (c .before .before .before .before .before .before .before .ellipsis .ensures) (c .before .before .before .before .before .before .after-chosen .ensures) (c .before .before .before .before .before .first .ensures) (sym (c .before .before .before .if1 .taken) ∙ c .before .before .before .before .literals-good .ensures) _ _ (c .before .before .rest .ensures) (c .before .count .ensures) (c .if2 .left)
+    let at-count = c .before in
+    let at-rest = at-count .before in
+    let at-if1 = at-rest .before in
+    let at-literals-good = at-if1 .before in
+    let at-first = at-literals-good .before in
+    let at-after-chosen = at-first .before in
+    let at-ellipsis = at-after-chosen .before in
+    let a = at-ellipsis .before .before .args in body-some (a .work .now) (a .node) (a .w) _ _ _ (at-ellipsis .ellipsis .ensures) (at-after-chosen .after-chosen .ensures) (at-first .first .ensures) (sym (at-if1 .if1 .taken) ∙ at-literals-good .literals-good .ensures) _ _ (at-rest .rest .ensures) (at-count .count .ensures) (c .if2 .left)
 
 returns-3 : tie.Need-returns-3
 returns-3 c =
-    let a = c .before .before .before .before .before .before .args in body-literals (a .work .now) (a .node) (a .w) _ _ _ (c .before .before .before .before .ellipsis .ensures) (c .before .before .before .after-chosen .ensures) (c .before .before .first .ensures) (sym (c .if1 .left) ∙ c .before .literals-good .ensures)
+    let at-literals-good = c .before in
+    let at-first = at-literals-good .before in
+    let at-after-chosen = at-first .before in
+    let at-ellipsis = at-after-chosen .before in
+    let a = at-ellipsis .before .before .args in body-literals (a .work .now) (a .node) (a .w) _ _ _ (at-ellipsis .ellipsis .ensures) (at-after-chosen .after-chosen .ensures) (at-first .first .ensures) (sym (c .if1 .left) ∙ at-literals-good .literals-good .ensures)
 
 pub is-rules-body-spec : {M : Type 1} → statement M
 is-rules-body-spec =

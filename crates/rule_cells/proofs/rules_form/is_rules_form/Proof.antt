@@ -14,11 +14,22 @@ use Rattle.rule_cells.specs.Forms.{form-no, form-unchosen, form-body}
 
 returns : tie.Need-returns
 returns c =
-    let a = c .before .before .before .before .before .before .before .before .args in form-body (a .work .now) (a .node) (a .w) _ (c .before .before .before .before .before .before .first .ensures) (sym (c .before .before .before .before .if1 .taken) ∙ c .before .before .before .before .before .is-syntax-rules .ensures) _ (c .before .before .before .element .ensures) _ (λ w. sym (c .before .if2 .taken) ∙ c .before .before .chosen-good .ensures w) (c .is-rules-body .ensures)
+    let at-if2 = c .before in
+    let at-chosen-good = at-if2 .before in
+    let at-element = at-chosen-good .before in
+    let at-if1 = at-element .before in
+    let at-is-syntax-rules = at-if1 .before in
+    let at-first = at-is-syntax-rules .before in
+    let a = at-first .before .before .args in form-body (a .work .now) (a .node) (a .w) _ (at-first .first .ensures) (sym (at-if1 .if1 .taken) ∙ at-is-syntax-rules .is-syntax-rules .ensures) _ (at-element .element .ensures) _ (λ w. sym (at-if2 .if2 .taken) ∙ at-chosen-good .chosen-good .ensures w) (c .is-rules-body .ensures)
 
 returns-2 : tie.Need-returns-2
 returns-2 c =
-    let a = c .before .before .before .before .before .before .before .args in form-unchosen (a .work .now) (a .node) (a .w) _ (c .before .before .before .before .before .first .ensures) (sym (c .before .before .before .if1 .taken) ∙ c .before .before .before .before .is-syntax-rules .ensures) _ (c .before .before .element .ensures) (λ w. sym (c .if2 .left) ∙ c .before .chosen-good .ensures w)
+    let at-chosen-good = c .before in
+    let at-element = at-chosen-good .before in
+    let at-if1 = at-element .before in
+    let at-is-syntax-rules = at-if1 .before in
+    let at-first = at-is-syntax-rules .before in
+    let a = at-first .before .before .args in form-unchosen (a .work .now) (a .node) (a .w) _ (at-first .first .ensures) (sym (at-if1 .if1 .taken) ∙ at-is-syntax-rules .is-syntax-rules .ensures) _ (at-element .element .ensures) (λ w. sym (c .if2 .left) ∙ at-chosen-good .chosen-good .ensures w)
 
 returns-3 : tie.Need-returns-3
 returns-3 c =

@@ -24,7 +24,11 @@ binding-of-requires c κs = search needs
 
 returns-3 : tie.Need-returns-3
 returns-3 c =
-    let a = c .before .before .before .before .before .before .args in head-yes (a .work .now) (a .node) (a .w) _ (sym (c .before .before .before .before .word .ensures) ∙ c .before .before .before .if1 .left) (c .before .before .number-of .ensures) _ (c .before .if2 .left) (c .binding-of .ensures)
+    let at-if2 = c .before in
+    let at-number-of = at-if2 .before in
+    let at-if1 = at-number-of .before in
+    let at-word = at-if1 .before in
+    let a = at-word .before .before .args in head-yes (a .work .now) (a .node) (a .w) _ (sym (at-word .word .ensures) ∙ at-if1 .if1 .left) (at-number-of .number-of .ensures) _ (at-if2 .if2 .left) (c .binding-of .ensures)
 
 pub is-syntax-rules-spec : {M : Type 1} → statement M
 is-syntax-rules-spec =

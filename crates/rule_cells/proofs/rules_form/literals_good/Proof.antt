@@ -24,7 +24,11 @@ count-requires c κs =
 
 returns : tie.Need-returns
 returns c =
-    let a = c .before .before .before .before .before .before .args in literals-most (a .work .now) (a .dots) (a .w) (a .node) (sym (c .before .before .before .if1 .taken) ∙ c .before .before .before .before .is-list .ensures (a .w)) _ (sym (c .before .if2 .taken) ∙ c .before .before .all-listed .ensures) (c .count .ensures)
+    let at-if2 = c .before in
+    let at-all-listed = at-if2 .before in
+    let at-if1 = at-all-listed .before in
+    let at-is-list = at-if1 .before in
+    let a = at-is-list .before .before .args in literals-most (a .work .now) (a .dots) (a .w) (a .node) (sym (at-if1 .if1 .taken) ∙ at-is-list .is-list .ensures (a .w)) _ (sym (at-if2 .if2 .taken) ∙ at-all-listed .all-listed .ensures) (c .count .ensures)
 
 returns-2 : tie.Need-returns-2
 returns-2 c =

@@ -32,7 +32,11 @@ number-of-requires c κs =
 
 returns-3 : tie.Need-returns-3
 returns-3 c =
-    let a = c .before .before .before .before .before .before .args in listed-by (a .work .now) (a .dots) (a .w) (a .node) (sym (c .before .before .before .before .word .ensures) ∙ c .before .before .before .if1 .left) _ (sym (c .before .if2 .left) ∙ c .before .before .is-ellipsis .ensures) (c .number-of .ensures)
+    let at-if2 = c .before in
+    let at-is-ellipsis = at-if2 .before in
+    let at-if1 = at-is-ellipsis .before in
+    let at-word = at-if1 .before in
+    let a = at-word .before .before .args in listed-by (a .work .now) (a .dots) (a .w) (a .node) (sym (at-word .word .ensures) ∙ at-if1 .if1 .left) _ (sym (at-if2 .if2 .left) ∙ at-is-ellipsis .is-ellipsis .ensures) (c .number-of .ensures)
 
 pub may-be-listed-spec : {M : Type 1} → statement M
 may-be-listed-spec =

@@ -41,23 +41,48 @@ driven-returns-3 t c =
 
 driven-add-inner : (t : ℕ) → driven-lts.Need-add-inner (driven-claims t) (driven-at t) driven.Post
 driven-add-inner t c =
-    let a = c .before .before .before .before .before .before .args in omega (arith, c .before .before .before .before .before .before .pre .1, driven-falls (a .work .now) (a .at) (a .j) _ _ _ (c .before .before .before .before .word .ensures) (omega (arith, c .before .before .if2 .left)) (omega (arith, c .before .if3 .left)) (c .reference .ensures) refl .0)
+    let at-if3 = c .before in
+    let at-if2 = at-if3 .before in
+    let at-word = at-if2 .before .before in
+    let at-args = at-word .before .before in
+    let a = at-args .args in omega (arith, at-args .pre .1, driven-falls (a .work .now) (a .at) (a .j) _ _ _ (at-word .word .ensures) (omega (arith, at-if2 .if2 .left)) (omega (arith, at-if3 .if3 .left)) (c .reference .ensures) refl .0)
 
 driven-driven-requires : (t : ℕ) → driven-lts.Need-driven-requires (driven-claims t) (driven-at t) driven.Post
 driven-driven-requires t c κs =
-    let a = c .before .before .before .before .before .before .args in (omega (arith, driven-falls (a .work .now) (a .at) (a .j) _ _ _ (c .before .before .before .before .word .ensures) (omega (arith, c .before .before .if2 .left)) (omega (arith, c .before .if3 .left)) (c .reference .ensures) refl .0), omega (arith, c .before .before .before .before .before .before .pre .1, driven-falls (a .work .now) (a .at) (a .j) _ _ _ (c .before .before .before .before .word .ensures) (omega (arith, c .before .before .if2 .left)) (omega (arith, c .before .if3 .left)) (c .reference .ensures) refl .0))
+    let at-if3 = c .before in
+    let at-if2 = at-if3 .before in
+    let at-word = at-if2 .before .before in
+    let at-args = at-word .before .before in
+    let a = at-args .args in (omega (arith, driven-falls (a .work .now) (a .at) (a .j) _ _ _ (at-word .word .ensures) (omega (arith, at-if2 .if2 .left)) (omega (arith, at-if3 .if3 .left)) (c .reference .ensures) refl .0), omega (arith, at-args .pre .1, driven-falls (a .work .now) (a .at) (a .j) _ _ _ (at-word .word .ensures) (omega (arith, at-if2 .if2 .left)) (omega (arith, at-if3 .if3 .left)) (c .reference .ensures) refl .0))
 
 driven-returns-4 : (t : ℕ) → driven-lts.Need-returns-4 (driven-claims t) (driven-at t) driven.Post
 driven-returns-4 t c =
-    let a = c .before .before .before .before .before .before .before .before .args in driven-first (a .work .now) (a .at) (a .j) _ _ _ (c .before .before .before .before .before .before .word .ensures) (omega (arith, c .before .before .before .before .if2 .left)) (omega (arith, c .before .before .before .if3 .left)) (c .before .before .reference .ensures) refl (sym (c .if4 .taken) ∙ c .before .driven .ensures)
+    let at-driven = c .before in
+    let at-reference = at-driven .before in
+    let at-if3 = at-reference .before in
+    let at-if2 = at-if3 .before in
+    let at-word = at-if2 .before .before in
+    let a = at-word .before .before .args in driven-first (a .work .now) (a .at) (a .j) _ _ _ (at-word .word .ensures) (omega (arith, at-if2 .if2 .left)) (omega (arith, at-if3 .if3 .left)) (at-reference .reference .ensures) refl (sym (c .if4 .taken) ∙ at-driven .driven .ensures)
 
 driven-driven-requires-2 : (t : ℕ) → driven-lts.Need-driven-requires-2 (driven-claims t) (driven-at t) driven.Post
 driven-driven-requires-2 t c κs =
-    let a = c .before .before .before .before .before .before .before .before .before .args in (omega (arith, driven-falls (a .work .now) (a .at) (a .j) _ _ _ (c .before .before .before .before .before .before .before .word .ensures) (omega (arith, c .before .before .before .before .before .if2 .left)) (omega (arith, c .before .before .before .before .if3 .left)) (c .before .before .before .reference .ensures) (c .reference2 .ensures) .1), omega (arith, c .before .before .before .before .before .before .before .before .before .pre .1, driven-falls (a .work .now) (a .at) (a .j) _ _ _ (c .before .before .before .before .before .before .before .word .ensures) (omega (arith, c .before .before .before .before .before .if2 .left)) (omega (arith, c .before .before .before .before .if3 .left)) (c .before .before .before .reference .ensures) (c .reference2 .ensures) .1))
+    let at-reference = c .before .before .before in
+    let at-if3 = at-reference .before in
+    let at-if2 = at-if3 .before in
+    let at-word = at-if2 .before .before in
+    let at-args = at-word .before .before in
+    let a = at-args .args in (omega (arith, driven-falls (a .work .now) (a .at) (a .j) _ _ _ (at-word .word .ensures) (omega (arith, at-if2 .if2 .left)) (omega (arith, at-if3 .if3 .left)) (at-reference .reference .ensures) (c .reference2 .ensures) .1), omega (arith, at-args .pre .1, driven-falls (a .work .now) (a .at) (a .j) _ _ _ (at-word .word .ensures) (omega (arith, at-if2 .if2 .left)) (omega (arith, at-if3 .if3 .left)) (at-reference .reference .ensures) (c .reference2 .ensures) .1))
 
 driven-returns-5 : (t : ℕ) → driven-lts.Need-returns-5 (driven-claims t) (driven-at t) driven.Post
 driven-returns-5 t c =
-    let a = c .before .before .before .before .before .before .before .before .before .before .args in driven-rest (a .work .now) (a .at) (a .j) _ _ _ (c .before .before .before .before .before .before .before .before .word .ensures) (omega (arith, c .before .before .before .before .before .before .if2 .left)) (omega (arith, c .before .before .before .before .before .if3 .left)) (c .before .before .before .before .reference .ensures) (c .before .reference2 .ensures) _ (sym (c .before .before .if4 .left) ∙ c .before .before .before .driven .ensures) (c .driven2 .ensures)
+    let at-reference2 = c .before in
+    let at-if4 = at-reference2 .before in
+    let at-driven = at-if4 .before in
+    let at-reference = at-driven .before in
+    let at-if3 = at-reference .before in
+    let at-if2 = at-if3 .before in
+    let at-word = at-if2 .before .before in
+    let a = at-word .before .before .args in driven-rest (a .work .now) (a .at) (a .j) _ _ _ (at-word .word .ensures) (omega (arith, at-if2 .if2 .left)) (omega (arith, at-if3 .if3 .left)) (at-reference .reference .ensures) (at-reference2 .reference2 .ensures) _ (sym (at-if4 .if4 .left) ∙ at-driven .driven .ensures) (c .driven2 .ensures)
 
 pub +driven-spec : {M : Type 1} → statement M
 +driven-spec = close μ-driven λ t. driven-lts.spec (driven-claims t)

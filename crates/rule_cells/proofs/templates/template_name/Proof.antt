@@ -11,7 +11,6 @@ use Rattle.rule_cells.proofs.templates.depth_fits.Reads as depth-fits-r
 use Rattle.rule_cells.proofs.variables.find.Reads as find-reads
 use Rattle.words.proofs.packed.pair.Reads as pair-reads
 use Rattle.words.specs.Packed.{builtOf}
-use Rattle.rule_cells.specs.Variables.{variablesFrom}
 use Rattle.rule_cells.specs.VariableLaws.{found-at, found-not}
 use Rattle.rule_cells.specs.ParseLaws.{packs-at}
 use Rattle.rule_cells.specs.Parse.{TemplateLeft}
@@ -20,33 +19,52 @@ use Rattle.recipe.specs.Tree.{size}
 use Rattle.arena.specs.NodeLaws.{nameAt-number}
 use Rattle.arena.specs.Arena.{nameAt}
 use mathlib.Core.Path.{refl, sym, _∙_}
-use Rattle.rule_cells.specs.Dots.{dotsAt}
+use Rattle.rule_cells.specs.Scopes.{dotsUnder, variablesUnder}
 
 returns : tie.Need-returns
 unfolding builtOf
 returns c =
     let a = c .before .before .before .before .before .args in
-    left-dots (dotsAt (a .work .now) (a .dots) (a .w)) (variablesFrom (a .work .now) (a .w) (a .vars .now) 0 (a .count)) (a .d) (nameAt (a .work .now) (a .node) (a .w)) (a .work .now) (a .top) (sym (c .before .is-ellipsis .ensures) ∙ c .if1 .taken)
+    left-dots (dotsUnder (a .work .now) (a .scope)) (variablesUnder (a .work .now) (a .vars .now) (a .scope)) (a .scope .d) (nameAt (a .work .now) (a .node) (a .scope .wrap)) (a .work .now) (a .top) (sym (c .before .is-ellipsis .ensures) ∙ c .if1 .taken)
 
 returns-2 : tie.Need-returns-2
 unfolding size
 returns-2 c =
-    let a = c .before .before .before .before .before .before .before .before .before .before .before .before .before .before .before .before .before .args in
-    let left = left-variable (dotsAt (a .work .now) (a .dots) (a .w)) (variablesFrom (a .work .now) (a .w) (a .vars .now) 0 (a .count)) (a .d) (nameAt (a .work .now) (a .node) (a .w)) (a .work .now) (a .top) _ _ _ _ (sym (c .before .before .before .before .before .before .before .before .before .before .before .before .before .is-ellipsis .ensures) ∙ c .before .before .before .before .before .before .before .before .before .before .before .before .if1 .left) (found-at _ _ _ _ (c .before .before .before .before .before .before .before .before .k .given .1) (c .before .before .before .before .before .before .before .before .before .before .find .ensures)) (sym (c .before .before .before .before .before .if2 .taken) ∙ c .before .before .before .before .before .before .depth-fits .ensures) (c .before .before .before .put-variable-template .ensures) in
-    packs-at (TemplateLeft _ _ _ _ _ _ _ _) _ _ _ _ (c .before .before .before .before .before .before .before .before .before .before .before .before .before .before .before .before .before .pre .1) (c .pair .ensures) (left .grows .words) left
+    let at-put-variable-template = c .before .before .before in
+    let at-if2 = at-put-variable-template .before .before in
+    let at-depth-fits = at-if2 .before in
+    let at-k = at-depth-fits .before .before in
+    let at-find = at-k .before .before in
+    let at-if1 = at-find .before .before in
+    let at-is-ellipsis = at-if1 .before in
+    let at-args = at-is-ellipsis .before .before .before .before in
+    let a = at-args .args in
+    let left = left-variable (dotsUnder (a .work .now) (a .scope)) (variablesUnder (a .work .now) (a .vars .now) (a .scope)) (a .scope .d) (nameAt (a .work .now) (a .node) (a .scope .wrap)) (a .work .now) (a .top) _ _ _ _ (sym (at-is-ellipsis .is-ellipsis .ensures) ∙ at-if1 .if1 .left) (found-at _ _ _ _ (at-k .k .given .1) (at-find .find .ensures)) (sym (at-if2 .if2 .taken) ∙ at-depth-fits .depth-fits .ensures) (at-put-variable-template .put-variable-template .ensures) in
+    packs-at (TemplateLeft _ _ _ _ _ _ _ _) _ _ _ _ (at-args .pre .1) (c .pair .ensures) (left .grows .words) left
 
 returns-3 : tie.Need-returns-3
 unfolding builtOf
 returns-3 c =
-    let a = c .before .before .before .before .before .before .before .before .before .before .before .before .args in
-    left-depth (dotsAt (a .work .now) (a .dots) (a .w)) (variablesFrom (a .work .now) (a .w) (a .vars .now) 0 (a .count)) (a .d) (nameAt (a .work .now) (a .node) (a .w)) (a .work .now) (a .top) _ _ (sym (c .before .before .before .before .before .before .before .before .is-ellipsis .ensures) ∙ c .before .before .before .before .before .before .before .if1 .left) (found-at _ _ _ _ (c .before .before .before .k .given .1) (c .before .before .before .before .before .find .ensures)) (sym (c .if2 .left) ∙ c .before .depth-fits .ensures)
+    let at-depth-fits = c .before in
+    let at-k = at-depth-fits .before .before in
+    let at-find = at-k .before .before in
+    let at-if1 = at-find .before .before in
+    let at-is-ellipsis = at-if1 .before in
+    let a = at-is-ellipsis .before .before .before .before .args in
+    left-depth (dotsUnder (a .work .now) (a .scope)) (variablesUnder (a .work .now) (a .vars .now) (a .scope)) (a .scope .d) (nameAt (a .work .now) (a .node) (a .scope .wrap)) (a .work .now) (a .top) _ _ (sym (at-is-ellipsis .is-ellipsis .ensures) ∙ at-if1 .if1 .left) (found-at _ _ _ _ (at-k .k .given .1) (at-find .find .ensures)) (sym (c .if2 .left) ∙ at-depth-fits .depth-fits .ensures)
 
 returns-4 : tie.Need-returns-4
 unfolding size
 returns-4 c =
-    let a = c .before .before .before .before .before .before .before .before .before .before .before .before .before .before .args in
-    let left = left-insert (dotsAt (a .work .now) (a .dots) (a .w)) (variablesFrom (a .work .now) (a .w) (a .vars .now) 0 (a .count)) (a .d) (nameAt (a .work .now) (a .node) (a .w)) (a .work .now) (a .top) (a .node) (a .w) _ _ refl (sym (c .before .before .before .before .before .before .before .before .before .before .is-ellipsis .ensures) ∙ c .before .before .before .before .before .before .before .before .before .if1 .left) (found-not _ _ (c .before .before .before .before .before .enum-told .given .1) (c .before .before .before .before .before .before .before .find .ensures)) (c .before .before .before .put-insert .ensures) in
-    packs-at (TemplateLeft _ _ _ _ _ _ _ _) _ _ _ _ (c .before .before .before .before .before .before .before .before .before .before .before .before .before .before .pre .1) (c .pair2 .ensures) (left .grows .words) left
+    let at-put-insert = c .before .before .before in
+    let at-enum-told = at-put-insert .before .before in
+    let at-find = at-enum-told .before .before in
+    let at-if1 = at-find .before .before in
+    let at-is-ellipsis = at-if1 .before in
+    let at-args = at-is-ellipsis .before .before .before .before in
+    let a = at-args .args in
+    let left = left-insert (dotsUnder (a .work .now) (a .scope)) (variablesUnder (a .work .now) (a .vars .now) (a .scope)) (a .scope .d) (nameAt (a .work .now) (a .node) (a .scope .wrap)) (a .work .now) (a .top) (a .node) (a .scope .wrap) _ _ refl (sym (at-is-ellipsis .is-ellipsis .ensures) ∙ at-if1 .if1 .left) (found-not _ _ (at-enum-told .enum-told .given .1) (at-find .find .ensures)) (at-put-insert .put-insert .ensures) in
+    packs-at (TemplateLeft _ _ _ _ _ _ _ _) _ _ _ _ (at-args .pre .1) (c .pair2 .ensures) (left .grows .words) left
 
 pub template-name-spec : {M : Type 1} → statement M
 template-name-spec =

@@ -17,6 +17,7 @@ use native.Mathlib.Omega.{arith}
 use Rattle.words.specs.Lists.{anyOf}
 use Rattle.recipe.specs.Name.{same}
 use Rattle.recipe.specs.Tree.{names}
+use Rattle.arena.specs.Offsets.{KIND}
 use Rattle.arena.specs.Arena.{wordAt, nameAt, treeAt}
 use Rattle.arena.specs.ListLaws.{pair-falls}
 use Rattle.rule_cells.specs.VariableLaws.{any-name, any-head, any-rest, any-other}
@@ -38,7 +39,7 @@ is-literal-claims t = (word-reads.Asked, word-reads.Learnt, reference-reads.Aske
 
 abbrev is-literal-Inv-loop : is-literal-lts.InvT-loop
 is-literal-Inv-loop work list node w at₀ kind₀ at kind =
-    (kind ≡ wordAt work at 3) × (at ≤ list) × ((b : Bool) → b ≡ anyOf (same (nameAt work node w)) (names (treeAt work at w)) → b ≡ anyOf (same (nameAt work node w)) (names (treeAt work list w)))
+    (kind ≡ wordAt work at KIND) × (at ≤ list) × ((b : Bool) → b ≡ anyOf (same (nameAt work node w)) (names (treeAt work at w)) → b ≡ anyOf (same (nameAt work node w)) (names (treeAt work list w)))
 
 abbrev is-literal-μ-loop : is-literal-lts.MeasureT-loop
 is-literal-μ-loop work list node w at₀ kind₀ at kind =
@@ -50,29 +51,45 @@ is-literal-loop-holds t c =
 
 is-literal-is-literal-requires : (t : ℕ) → is-literal-lts.Need-is-literal-requires (is-literal-claims t) (is-literal-at t) is-literal.Post is-literal-Inv-loop is-literal-μ-loop
 is-literal-is-literal-requires t c κs =
-    let l = c .before .before .loop in
-    (omega (arith, c .before .before .before .before .before .pre .0, l .inv .1, pair-falls (c .before .before .before .before .before .args .work .now) (l .at) 2 (sym (l .inv .0) ∙ c .before .loop-test .taken), c .reference .ensures), tt)
+    let at-loop-test = c .before in
+    let at-loop = at-loop-test .before in
+    let at-args = at-loop .before .before .before in
+    let l = at-loop .loop in
+    (omega (arith, at-args .pre .0, l .inv .1, pair-falls (at-args .args .work .now) (l .at) 2 (sym (l .inv .0) ∙ at-loop-test .loop-test .taken), c .reference .ensures), tt)
 
 is-literal-returns : (t : ℕ) → is-literal-lts.Need-returns (is-literal-claims t) (is-literal-at t) is-literal.Post is-literal-Inv-loop is-literal-μ-loop
 is-literal-returns t c =
-    let a = c .before .before .before .before .before .before .before .args in
-    let l = c .before .before .before .before .loop in
+    let at-is-literal = c .before in
+    let at-reference = at-is-literal .before in
+    let at-loop-test = at-reference .before in
+    let at-loop = at-loop-test .before in
+    let a = at-loop .before .before .before .args in
+    let l = at-loop .loop in
     l .inv .2 true
-    (any-head (a .work .now) (l .at) (a .w) (same (nameAt (a .work .now) (a .node) (a .w))) _ (sym (l .inv .0) ∙ c .before .before .before .loop-test .taken) (c .before .before .reference .ensures) (sym (c .if1 .taken) ∙ c .before .is-literal .ensures))
+    (any-head (a .work .now) (l .at) (a .w) (same (nameAt (a .work .now) (a .node) (a .w))) _ (sym (l .inv .0) ∙ at-loop-test .loop-test .taken) (at-reference .reference .ensures) (sym (c .if1 .taken) ∙ at-is-literal .is-literal .ensures))
 
 is-literal-loop-less : (t : ℕ) → is-literal-lts.Need-loop-less (is-literal-claims t) (is-literal-at t) is-literal.Post is-literal-Inv-loop is-literal-μ-loop
 is-literal-loop-less t c =
-    omega (arith, pair-falls (c .before .before .before .before .before .before .before .before .before .args .work .now) (c .before .before .before .before .before .before .loop .at) 1 (sym (c .before .before .before .before .before .before .loop .inv .0) ∙ c .before .before .before .before .before .loop-test .taken), c .before .reference2 .ensures)
+    let at-reference2 = c .before in
+    let at-loop-test = at-reference2 .before .before .before .before in
+    let at-loop = at-loop-test .before in
+    omega (arith, pair-falls (at-loop .before .before .before .args .work .now) (at-loop .loop .at) 1 (sym (at-loop .loop .inv .0) ∙ at-loop-test .loop-test .taken), at-reference2 .reference2 .ensures)
 
 is-literal-loop-again : (t : ℕ) → is-literal-lts.Need-loop-again (is-literal-claims t) (is-literal-at t) is-literal.Post is-literal-Inv-loop is-literal-μ-loop
 is-literal-loop-again t c =
-    let a = c .before .before .before .before .before .before .before .before .before .args in
-    let l = c .before .before .before .before .before .before .loop in
-    let e = sym (l .inv .0) ∙ c .before .before .before .before .before .loop-test .taken in (
+    let at-reference2 = c .before in
+    let at-if1 = at-reference2 .before in
+    let at-is-literal = at-if1 .before in
+    let at-reference = at-is-literal .before in
+    let at-loop-test = at-reference .before in
+    let at-loop = at-loop-test .before in
+    let a = at-loop .before .before .before .args in
+    let l = at-loop .loop in
+    let e = sym (l .inv .0) ∙ at-loop-test .loop-test .taken in (
       c .word2 .ensures,
-      omega (arith, l .inv .1, pair-falls (a .work .now) (l .at) 1 e, c .before .reference2 .ensures),
+      omega (arith, l .inv .1, pair-falls (a .work .now) (l .at) 1 e, at-reference2 .reference2 .ensures),
       λ b h. l .inv .2 b
-          (any-rest (a .work .now) (l .at) (a .w) (same (nameAt (a .work .now) (a .node) (a .w))) _ _ b e (c .before .before .before .before .reference .ensures) (c .before .reference2 .ensures) (sym (c .before .before .if1 .left) ∙ c .before .before .before .is-literal .ensures) h),
+          (any-rest (a .work .now) (l .at) (a .w) (same (nameAt (a .work .now) (a .node) (a .w))) _ _ b e (at-reference .reference .ensures) (at-reference2 .reference2 .ensures) (sym (at-if1 .if1 .left) ∙ at-is-literal .is-literal .ensures) h),
     )
 
 is-literal-returns-2 : (t : ℕ) → is-literal-lts.Need-returns-2 (is-literal-claims t) (is-literal-at t) is-literal.Post is-literal-Inv-loop is-literal-μ-loop

@@ -25,7 +25,9 @@ find-requires c κs =
 returns-3 : tie.Need-returns-3
 unfolding keptOf
 returns-3 c =
-    let a = c .before .before .before .before .before .before .before .before .before .args in add-twice (a .work .now) (a .w) (a .vars .now) (a .n) (a .node) (a .d) _ (found-at _ _ _ _ (c .before .k .given .1) (c .before .before .before .find .ensures))
+    let at-k = c .before in
+    let at-find = at-k .before .before in
+    let a = at-find .before .before .before .before .before .before .args in add-twice (a .work .now) (a .w) (a .vars .now) (a .n) (a .node) (a .d) _ (found-at _ _ _ _ (at-k .k .given .1) (at-find .find .ensures))
 
 slice-write-vars-2 : tie.Need-slice-write-vars-2
 slice-write-vars-2 c =
@@ -33,8 +35,10 @@ slice-write-vars-2 c =
 
 returns-4 : tie.Need-returns-4
 returns-4 c =
-    let a = c .before .before .before .before .before .before .before .before .args in
-    gathered-count _ _ _ _ _ _ _ _ (add-one (a .work .now) (a .w) (a .vars .now) (a .n) (a .node) (a .d) (omega (arith, c .before .before .before .before .before .before .before .before .pre .0)) (c .before .before .before .before .before .before .before .before .pre .1) (omega arith) (omega arith) (found-not _ _ (c .enum-told .given .1) (c .before .before .find .ensures)))
+    let at-find = c .before .before in
+    let at-args = at-find .before .before .before .before .before .before in
+    let a = at-args .args in
+    gathered-count _ _ _ _ _ _ _ _ (add-one (a .work .now) (a .w) (a .vars .now) (a .n) (a .node) (a .d) (omega (arith, at-args .pre .0)) (at-args .pre .1) (omega arith) (omega arith) (found-not _ _ (c .enum-told .given .1) (at-find .find .ensures)))
 
 pub add-spec : {M : Type 1} → statement M
 add-spec =

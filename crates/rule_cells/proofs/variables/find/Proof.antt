@@ -25,17 +25,24 @@ loop-holds c =
 
 returns : tie.Need-returns Inv-loop μ-loop
 returns c =
-    let a = c .before .before .before .before .before .before .before .before .args in
-    let l = c .before .before .before .before .before .loop in
-    known-here (a .work .now) (a .w) (a .vars .now) (nameAt (a .work .now) (a .node) (a .w)) _ _ (c .before .before .before .before .loop-test .taken) (sym (c .before .if1 .taken) ∙ c .before .before .same-names .ensures) ∙ l .inv .1
+    let at-if1 = c .before in
+    let at-same-names = at-if1 .before in
+    let at-loop-test = at-same-names .before .before in
+    let at-loop = at-loop-test .before in
+    let a = at-loop .before .before .before .args in
+    let l = at-loop .loop in
+    known-here (a .work .now) (a .w) (a .vars .now) (nameAt (a .work .now) (a .node) (a .w)) _ _ (at-loop-test .loop-test .taken) (sym (at-if1 .if1 .taken) ∙ at-same-names .same-names .ensures) ∙ l .inv .1
 
 loop-again : tie.Need-loop-again Inv-loop μ-loop
 loop-again c =
-    let a = c .before .before .before .before .before .before .before .args in
-    let l = c .before .before .before .before .loop in
-    let s = c .before .same-names in (
+    let at-same-names = c .before in
+    let at-loop-test = at-same-names .before .before in
+    let at-loop = at-loop-test .before in
+    let a = at-loop .before .before .before .args in
+    let l = at-loop .loop in
+    let s = at-same-names .same-names in (
       omega arith,
-      known-more (a .work .now) (a .w) (a .vars .now) (nameAt (a .work .now) (a .node) (a .w)) _ _ (c .before .before .before .loop-test .taken) (sym (c .if1 .left) ∙ s .ensures) ∙ l .inv .1,
+      known-more (a .work .now) (a .w) (a .vars .now) (nameAt (a .work .now) (a .node) (a .w)) _ _ (at-loop-test .loop-test .taken) (sym (c .if1 .left) ∙ s .ensures) ∙ l .inv .1,
     )
 
 returns-2 : tie.Need-returns-2 Inv-loop μ-loop

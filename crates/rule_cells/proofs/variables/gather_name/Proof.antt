@@ -8,11 +8,10 @@ use Rattle.rule_cells.proofs.variables.add.Reads as add-reads
 use Rattle.rule_cells.proofs.variables.is_variable.Reads as is-variable-reads
 use Rattle.rule_cells.specs.Variables.{keptOf}
 use Rattle.rule_cells.specs.GatherLaws.{gathered-count, gathered-no, gathered-one}
-use Rattle.recipe.specs.Tree.{names}
 use Rattle.arena.specs.Arena.{nameAt, treeAt}
 use borrow.Author.Tests.{not-true, not-false}
 use mathlib.Core.Path.{sym, _∙_}
-use Rattle.rule_cells.specs.Dots.{dotsAt}
+use Rattle.rule_cells.specs.Scopes.{dotsOf, literalsOf}
 
 is-variable-requires : tie.Need-is-variable-requires
 is-variable-requires c κs =
@@ -22,7 +21,7 @@ returns : tie.Need-returns
 returns c =
     let a = c .before .before .before .before .args in
     let no = sym (c .before .is-variable .ensures) ∙ not-true _ (c .if1 .taken) in
-    gathered-count _ _ _ _ _ _ _ _ (gathered-no (a .work .now) (a .w) (a .node) (a .n) (a .vars .now) (dotsAt (a .work .now) (a .dots) (a .w)) (names (treeAt (a .work .now) (a .literals) (a .w))) (a .d) (nameAt (a .work .now) (a .node) (a .w)) no (c .before .before .before .before .pre .1))
+    gathered-count _ _ _ _ _ _ _ _ (gathered-no (a .work .now) (a .form .wrap) (a .node) (a .n) (a .vars .now) (dotsOf (a .work .now) (a .form)) (literalsOf (a .work .now) (a .form)) (a .d) (nameAt (a .work .now) (a .node) (a .form .wrap)) no (c .before .before .before .before .pre .1))
 
 add-requires : tie.Need-add-requires
 add-requires c κs =
@@ -34,9 +33,12 @@ same-length c =
 
 returns-2 : tie.Need-returns-2
 returns-2 c =
-    let a = c .before .before .before .before .before .before .before .before .args in
-    let yes = sym (c .before .before .before .before .before .is-variable .ensures) ∙ not-false _ (c .before .before .before .before .if1 .left) in
-    gathered-one (a .work .now) (a .w) (a .node) (a .n) (a .vars .now) (dotsAt (a .work .now) (a .dots) (a .w)) (names (treeAt (a .work .now) (a .literals) (a .w))) (a .d) (nameAt (a .work .now) (a .node) (a .w)) (c .before .before .add .last .1 .0) (keptOf (c .before .before .add .result)) yes (c .before .before .add .ensures)
+    let at-add = c .before .before in
+    let at-if1 = at-add .before .before in
+    let at-is-variable = at-if1 .before in
+    let a = at-is-variable .before .before .before .args in
+    let yes = sym (at-is-variable .is-variable .ensures) ∙ not-false _ (at-if1 .if1 .left) in
+    gathered-one (a .work .now) (a .form .wrap) (a .node) (a .n) (a .vars .now) (dotsOf (a .work .now) (a .form)) (literalsOf (a .work .now) (a .form)) (a .d) (nameAt (a .work .now) (a .node) (a .form .wrap)) (at-add .add .last .1 .0) (keptOf (at-add .add .result)) yes (at-add .add .ensures)
 
 pub gather-name-spec : {M : Type 1} → statement M
 gather-name-spec =

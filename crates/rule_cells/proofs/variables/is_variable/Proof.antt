@@ -9,32 +9,41 @@ use Rattle.rule_cells.proofs.dots.is_ellipsis.Reads as is-ellipsis-read
 use Rattle.rule_cells.proofs.variables.is_literal.Reads as is-literal-reads
 use mathlib.Core.Path.{refl, sym, ap, _∙_}
 use Rattle.arena.specs.Arena.{wordAt, nameAt, treeAt}
-use Rattle.rule_cells.specs.Dots.{dotsAt}
 use Rattle.rule_cells.specs.GatherLaws.{dots-no-variable, wildcard-no-variable, literal-no-variable, a-variable}
-use Rattle.recipe.specs.Tree.{names}
 use Rattle.arena.specs.NodeLaws.{nameAt-number}
+use Rattle.rule_cells.specs.Scopes.{dotsOf, literalsOf}
 
 returns : tie.Need-returns
 returns c =
-    let a = c .before .before .before .args in sym (dots-no-variable (dotsAt (a .work .now) (a .dots) (a .w)) (names (treeAt (a .work .now) (a .literals) (a .w))) (nameAt (a .work .now) (a .node) (a .w)) (sym (c .before .is-ellipsis .ensures) ∙ c .if1 .taken))
+    let a = c .before .before .before .args in sym (dots-no-variable (dotsOf (a .work .now) (a .form)) (literalsOf (a .work .now) (a .form)) (nameAt (a .work .now) (a .node) (a .form .wrap)) (sym (c .before .is-ellipsis .ensures) ∙ c .if1 .taken))
 
 returns-2 : tie.Need-returns-2
 returns-2 c =
     let a = c .before .before .before .before .before .args in
-    let number-is = nameAt-number (a .work .now) (a .node) (a .w) ∙ sym (c .before .number-of .ensures) in
-    sym (wildcard-no-variable (dotsAt (a .work .now) (a .dots) (a .w)) (names (treeAt (a .work .now) (a .literals) (a .w))) (nameAt (a .work .now) (a .node) (a .w)) (sym (c .before .before .before .is-ellipsis .ensures) ∙ c .before .before .if1 .left) (number-is ∙ c .if2 .taken))
+    let number-is = nameAt-number (a .work .now) (a .node) (a .form .wrap) ∙ sym (c .before .number-of .ensures) in
+    sym (wildcard-no-variable (dotsOf (a .work .now) (a .form)) (literalsOf (a .work .now) (a .form)) (nameAt (a .work .now) (a .node) (a .form .wrap)) (sym (c .before .before .before .is-ellipsis .ensures) ∙ c .before .before .if1 .left) (number-is ∙ c .if2 .taken))
 
 returns-3 : tie.Need-returns-3
 returns-3 c =
-    let a = c .before .before .before .before .before .before .before .args in
-    let number-is = nameAt-number (a .work .now) (a .node) (a .w) ∙ sym (c .before .before .before .number-of .ensures) in
-    sym (literal-no-variable (dotsAt (a .work .now) (a .dots) (a .w)) (names (treeAt (a .work .now) (a .literals) (a .w))) (nameAt (a .work .now) (a .node) (a .w)) (sym (c .before .before .before .before .before .is-ellipsis .ensures) ∙ c .before .before .before .before .if1 .left) (λ z. c .before .before .if2 .left (sym number-is ∙ z)) (sym (c .if3 .taken) ∙ c .before .is-literal .ensures))
+    let at-is-literal = c .before in
+    let at-if2 = at-is-literal .before in
+    let at-number-of = at-if2 .before in
+    let at-if1 = at-number-of .before in
+    let at-is-ellipsis = at-if1 .before in
+    let a = at-is-ellipsis .before .before .args in
+    let number-is = nameAt-number (a .work .now) (a .node) (a .form .wrap) ∙ sym (at-number-of .number-of .ensures) in
+    sym (literal-no-variable (dotsOf (a .work .now) (a .form)) (literalsOf (a .work .now) (a .form)) (nameAt (a .work .now) (a .node) (a .form .wrap)) (sym (at-is-ellipsis .is-ellipsis .ensures) ∙ at-if1 .if1 .left) (λ z. at-if2 .if2 .left (sym number-is ∙ z)) (sym (c .if3 .taken) ∙ at-is-literal .is-literal .ensures))
 
 returns-4 : tie.Need-returns-4
 returns-4 c =
-    let a = c .before .before .before .before .before .before .before .args in
-    let number-is = nameAt-number (a .work .now) (a .node) (a .w) ∙ sym (c .before .before .before .number-of .ensures) in
-    sym (a-variable (dotsAt (a .work .now) (a .dots) (a .w)) (names (treeAt (a .work .now) (a .literals) (a .w))) (nameAt (a .work .now) (a .node) (a .w)) (sym (c .before .before .before .before .before .is-ellipsis .ensures) ∙ c .before .before .before .before .if1 .left) (λ z. c .before .before .if2 .left (sym number-is ∙ z)) (sym (c .if3 .left) ∙ c .before .is-literal .ensures))
+    let at-is-literal = c .before in
+    let at-if2 = at-is-literal .before in
+    let at-number-of = at-if2 .before in
+    let at-if1 = at-number-of .before in
+    let at-is-ellipsis = at-if1 .before in
+    let a = at-is-ellipsis .before .before .args in
+    let number-is = nameAt-number (a .work .now) (a .node) (a .form .wrap) ∙ sym (at-number-of .number-of .ensures) in
+    sym (a-variable (dotsOf (a .work .now) (a .form)) (literalsOf (a .work .now) (a .form)) (nameAt (a .work .now) (a .node) (a .form .wrap)) (sym (at-is-ellipsis .is-ellipsis .ensures) ∙ at-if1 .if1 .left) (λ z. at-if2 .if2 .left (sym number-is ∙ z)) (sym (c .if3 .left) ∙ at-is-literal .is-literal .ensures))
 
 pub is-variable-spec : {M : Type 1} → statement M
 is-variable-spec =
