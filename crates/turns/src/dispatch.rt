@@ -1,5 +1,6 @@
 // One turn of an expression: what it is, and what its head finds, says which.
 
+ghost use Rattle.words.specs.Limits.{macrosMost};
 ghost use Rattle.arena.specs.Arena.{nameAt, treeAt};
 ghost use Rattle.arena.specs.Nodes.{OpensPair};
 ghost use Rattle.recipe.specs.Tree.{size};
@@ -33,7 +34,7 @@ fn form(
     reached: Reached,
 ) -> Turn
     requires { ⌜ (FormHead (now work) node tail wrap k) × (FormRoom (now work) (now core) (now known) node wrap reached) ⌝ }
-    ensures { λ r. ⌜ Turns (treeAt (now (work .entry)) node wrap) reached (tables (now (work .entry)) (now (core .entry)) (now (known .entry))) (tables (now (work .exit)) (now (core .exit)) (now (known .exit))) r ⌝ }
+    ensures { λ r. ⌜ Turns macrosMost (treeAt (now (work .entry)) node wrap) reached (tables (now (work .entry)) (now (core .entry)) (now (known .entry))) (tables (now (work .exit)) (now (core .exit)) (now (known .exit))) r ⌝ }
 {
     if k == names::QUOTE {
         return Turn::Over(base_forms::quoted(work, core, node, reached));
@@ -45,10 +46,10 @@ fn form(
         return base_forms::lambda(work, core, node, wrap, reached);
     }
     if k == names::LET_SYNTAX {
-        return macros::let_syntax(work, known, node, wrap, false, reached);
+        return macros::let_syntax(work, known, node, wrap, false, words::MACROS, reached);
     }
     if k == names::LETREC_SYNTAX {
-        return macros::let_syntax(work, known, node, wrap, true, reached);
+        return macros::let_syntax(work, known, node, wrap, true, words::MACROS, reached);
     }
     Turn::Over(leaf::refuse(12, reached))
 }
@@ -102,7 +103,7 @@ fn applied(
     reached: Reached,
 ) -> Turn
     requires { ⌜ CoreRoom (now core) (reached .at) 2 ⌝ }
-    ensures { λ r. ⌜ Applies (now (work .entry)) node tail wrap reached (now (core .entry)) (now (core .exit)) r ⌝ }
+    ensures { λ r. ⌜ Applies macrosMost (now (work .entry)) node tail wrap reached (now (core .entry)) (now (core .exit)) r ⌝ }
 {
     let count = lists::count(work, tail);
     Turn::Operands(

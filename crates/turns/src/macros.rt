@@ -2,7 +2,7 @@
 
 ghost use mathlib.Core.Path.{_≡_};
 ghost use mathlib.Core.Bool.{true, cond};
-ghost use Rattle.words.specs.Limits.{macrosMost};
+ghost use Prim.Native.Nat.{ℕ};
 ghost use Rattle.expansion.specs.Forms.{isMacros};
 ghost use Rattle.arena.specs.Arena.{treeAt};
 ghost use Rattle.turns.specs.MacroRules.{OneAsk, OneLeft, AllAsk, AllLeft};
@@ -74,7 +74,7 @@ fn rules_wrap(inside: bool, scope: u32, outer: u32) -> u32
     outer
 }
 
-// A form's macros, past its tests: its body stands for it.
+// A form's macros, past its tests, whatever limit it has passed: its body stands for it.
 fn macros_body(
     work: &mut [u32],
     macros: &mut [u32],
@@ -83,7 +83,7 @@ fn macros_body(
     inside: bool,
     reached: Reached,
 ) -> Turn
-    requires { ⌜ (MacroRoom (now work) (now macros) node wrap reached) × (isMacros macrosMost (treeAt (now work) node wrap) ≡ true) ⌝ }
+    requires { ⌜ (MacroRoom (now work) (now macros) node wrap reached) × ((limit : ℕ) × (isMacros limit (treeAt (now work) node wrap) ≡ true)) ⌝ }
     ensures { λ r. ⌜ KnownLeft (treeAt (now (work .entry)) node wrap) inside reached (now (work .entry)) (now (work .exit)) (now (macros .entry)) (now (macros .exit)) r ⌝ }
 {
     let first = reached.macros;
@@ -98,19 +98,20 @@ fn macros_body(
     Turn::Again(body, scope.wrap, reached.grown(top, count))
 }
 
-// (let-syntax ((name rules) ...) body), and letrec-syntax, whose rules stand inside the scope
+// (let-syntax ((name rules) ...) body) of at most `limit` macros, and letrec-syntax, whose rules stand inside the scope
 pub fn let_syntax(
     work: &mut [u32],
     macros: &mut [u32],
     node: u32,
     wrap: u32,
     inside: bool,
+    limit: u32,
     reached: Reached,
 ) -> Turn
     requires { ⌜ MacroRoom (now work) (now macros) node wrap reached ⌝ }
-    ensures { λ r. ⌜ MacrosLeft (treeAt (now (work .entry)) node wrap) inside reached (now (work .entry)) (now (work .exit)) (now (macros .entry)) (now (macros .exit)) r ⌝ }
+    ensures { λ r. ⌜ MacrosLeft limit (treeAt (now (work .entry)) node wrap) inside reached (now (work .entry)) (now (work .exit)) (now (macros .entry)) (now (macros .exit)) r ⌝ }
 {
-    if !shapes::is_macros(work, node, words::MACROS) {
+    if !shapes::is_macros(work, node, limit) {
         return Turn::Over(leaf::refuse(13, reached));
     }
     if !binders::keywords_distinct(work, node, wrap) {

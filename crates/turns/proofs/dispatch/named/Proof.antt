@@ -3,6 +3,7 @@ use borrow.Author.Needs.{needs}
 use Rattle.turns.proofs.dispatch.named.Statement.{statement}
 use Rattle.turns.proofs.dispatch.named.Tie as tie
 use mathlib.Core.Path.{_≡_, ap, sym, _∙_}
+use Rattle.words.specs.Limits.{macrosMost}
 use Rattle.arena.specs.Arena.{nameAt}
 use Rattle.resolution.specs.declared.names.Meaning.{Meaning}
 use Rattle.resolution.specs.declared.names.Looked.the-variants.{Finds}
@@ -24,7 +25,7 @@ returns c =
     let entry = c .before .before .before .before .before .before .before .before .before in
     let a = entry .args in
     let x = nameAt (a .work .now) (a .head) (a .wrap) in
-    λ operations lent. nothing-turned operations (a .work .now) (a .core .now) (a .known .now) (a .fuel) (a .node) (a .tail) (a .wrap) (a .reached) x (entry .pre .2) (entry .pre .0) (entry .pre .1) _
+    λ operations lent. nothing-turned macrosMost operations (a .work .now) (a .core .now) (a .known .now) (a .fuel) (a .node) (a .tail) (a .wrap) (a .reached) x (entry .pre .2) (entry .pre .0) (entry .pre .1) _
     (nothing-by (lookupIn (a .operations .now) x) _ (c .before .before .before .lookup .ensures) (c .before .enum-told .given .1) ∙ lookup-in operations (a .operations .now) x lent) (c .refuse .ensures)
 
 macro-use-requires : tie.Need-macro-use-requires
@@ -47,7 +48,7 @@ returns-2 c =
     let entry = c .before .before .before .before .before .before .before .before .before .before .before .before .before .before .before .before .before in
     let a = entry .args in
     let x = nameAt (a .work .now) (a .head) (a .wrap) in
-    λ operations lent. variable-turned operations (a .work .now) (a .core .now) (a .known .now) (a .fuel) (a .node) (a .tail) (a .wrap) (a .reached) x (entry .pre .2) (entry .pre .0) (entry .pre .1) _ _ _
+    λ operations lent. variable-turned macrosMost operations (a .work .now) (a .core .now) (a .known .now) (a .fuel) (a .node) (a .tail) (a .wrap) (a .reached) x (entry .pre .2) (entry .pre .0) (entry .pre .1) _ _ _
     (means (c .before .before .before .before .before .before .before .before .before .before .before) _ _ (c .before .before .before .before .before .before .before .before .before .found .given .1) (c .before .before .before .before .before .before .found2 .given .1) ∙ lookup-in operations (a .operations .now) x lent) (c .before .before .put-application .ensures)
 
 returns-3 : tie.Need-returns-3
@@ -55,7 +56,7 @@ returns-3 c =
     let entry = c .before .before .before .before .before .before .before .before .before .before .before .before .before .before .before .before .before in
     let a = entry .args in
     let x = nameAt (a .work .now) (a .head) (a .wrap) in
-    λ operations lent. operation-turned operations (a .work .now) (a .core .now) (a .known .now) (a .fuel) (a .node) (a .tail) (a .wrap) (a .reached) x (entry .pre .2) (entry .pre .0) (entry .pre .1) _ _ _
+    λ operations lent. operation-turned macrosMost operations (a .work .now) (a .core .now) (a .known .now) (a .fuel) (a .node) (a .tail) (a .wrap) (a .reached) x (entry .pre .2) (entry .pre .0) (entry .pre .1) _ _ _
     (means (c .before .before .before .before .before .before .before .before .before .before .before) _ _ (c .before .before .before .before .before .before .before .before .before .found .given .1) (c .before .before .before .before .before .before .found3 .given .1) ∙ lookup-in operations (a .operations .now) x lent) (c .before .before .put-application2 .ensures)
 
 returns-4 : tie.Need-returns-4
@@ -63,7 +64,7 @@ returns-4 c =
     let entry = c .before .before .before .before .before .before .before .before .before .before .before .before .before .before .before .before .before in
     let a = entry .args in
     let x = nameAt (a .work .now) (a .head) (a .wrap) in
-    λ operations lent. macro-turned operations (a .work .now) (a .core .now) (a .known .now) (a .fuel) (a .node) (a .tail) (a .wrap) (a .reached) x (entry .pre .2) (entry .pre .0) (entry .pre .1) _ (c .before .before .macro-use .last .0) (c .before .before .macro-use .result)
+    λ operations lent. macro-turned macrosMost operations (a .work .now) (a .core .now) (a .known .now) (a .fuel) (a .node) (a .tail) (a .wrap) (a .reached) x (entry .pre .2) (entry .pre .0) (entry .pre .1) _ (c .before .before .macro-use .last .0) (c .before .before .macro-use .result)
     (means (c .before .before .before .before .before .before .before .before .before .before .before) _ _ (c .before .before .before .before .before .before .before .before .before .found .given .1) (c .before .before .before .before .before .before .found4 .given .1) ∙ lookup-in operations (a .operations .now) x lent) (c .before .before .macro-use .kept .0) (c .before .before .macro-use .ensures)
 
 returns-5 : tie.Need-returns-5

@@ -8,14 +8,14 @@ bind-macros-requires : tie.Need-bind-macros-requires
 bind-macros-requires c κs =
     let entry = c .before .before .before .before .before .before .before .before .before in
     let a = entry .args in
-    (macros-all-names (a .work .now) (a .macros .now) (a .node) (a .wrap) (a .inside) (a .reached) (entry .pre .0) (entry .pre .1), macros-space (a .work .now) (a .macros .now) (a .node) (a .wrap) (a .inside) (a .reached) (entry .pre .0) (entry .pre .1))
+    (macros-all-names (a .work .now) (a .macros .now) (a .node) (a .wrap) (a .inside) (a .reached) (entry .pre .0) (entry .pre .1 .0) (entry .pre .1 .1), macros-space (a .work .now) (a .macros .now) (a .node) (a .wrap) (a .inside) (a .reached) (entry .pre .0) (entry .pre .1 .0) (entry .pre .1 .1))
 
 all-macros-requires : tie.Need-all-macros-requires
 all-macros-requires c κs =
     let entry = c .before .before .before .before .before .before .before .before .before .before .before .before .before .before .before in
     let a = entry .args in
     let bound = c .before .before .before .before .before .bind-macros in
-    macros-ask (a .work .now) (a .macros .now) (a .node) (a .wrap) (a .inside) (a .reached) (entry .pre .0) (entry .pre .1) _ _ (c .before .before .before .before .before .before .before .before .before .before .before .element .ensures) (c .before .before .before .before .before .before .before .before .before .count .ensures) (bound .last .0) _ _ _ (bound .ensures) (c .before .before .rules-wrap .ensures) (bound .kept .0)
+    macros-ask (a .work .now) (a .macros .now) (a .node) (a .wrap) (a .inside) (a .reached) (entry .pre .0) (entry .pre .1 .0) (entry .pre .1 .1) _ _ (c .before .before .before .before .before .before .before .before .before .before .before .element .ensures) (c .before .before .before .before .before .before .before .before .before .count .ensures) (bound .last .0) _ _ _ (bound .ensures) (c .before .before .rules-wrap .ensures) (bound .kept .0)
 
 returns : tie.Need-returns
 returns c =
@@ -23,13 +23,13 @@ returns c =
     let a = entry .args in
     let bound = c .before .before .before .before .before .before .before .before .before .before .before .before .before .bind-macros in
     let read = c .before .before .before .before .before .before .before .all-macros in
-    (macros-bad (a .work .now) (a .macros .now) (a .node) (a .wrap) (a .inside) (a .reached) (entry .pre .0) (entry .pre .1) _ _ (c .before .before .before .before .before .before .before .before .before .before .before .before .before .before .before .before .before .before .before .element .ensures) (c .before .before .before .before .before .before .before .before .before .before .before .before .before .before .before .before .before .count .ensures) (bound .last .0) _ _ _ (bound .ensures) (c .before .before .before .before .before .before .before .before .before .before .rules-wrap .ensures) (bound .kept .0) (read .last .0) (read .last .1 .0) _ (read .ensures) (c .before .enum-told .given .1), c .refuse .ensures)
+    (macros-bad (a .work .now) (a .macros .now) (a .node) (a .wrap) (a .inside) (a .reached) (entry .pre .0) (entry .pre .1 .0) (entry .pre .1 .1) _ _ (c .before .before .before .before .before .before .before .before .before .before .before .before .before .before .before .before .before .before .before .element .ensures) (c .before .before .before .before .before .before .before .before .before .before .before .before .before .before .before .before .before .count .ensures) (bound .last .0) _ _ _ (bound .ensures) (c .before .before .before .before .before .before .before .before .before .before .rules-wrap .ensures) (bound .kept .0) (read .last .0) (read .last .1 .0) _ (read .ensures) (c .before .enum-told .given .1), c .refuse .ensures)
 
 grown-requires : tie.Need-grown-requires
 grown-requires c κs =
     let entry = c .before .before .before .before .before .before .before .before .before .before .before .before .before .before .before .before .before .before .before .before .before .before .before in
     let a = entry .args in
-    macros-few (a .work .now) (a .macros .now) (a .node) (a .wrap) (a .inside) (a .reached) (entry .pre .0) (entry .pre .1) _ _ (c .before .before .before .before .before .before .before .before .before .before .before .before .before .before .before .before .before .before .before .element .ensures) (c .before .before .before .before .before .before .before .before .before .before .before .before .before .before .before .before .before .count .ensures)
+    macros-few (a .work .now) (a .macros .now) (a .node) (a .wrap) (a .inside) (a .reached) (entry .pre .0) (entry .pre .1 .0) (entry .pre .1 .1) _ _ (c .before .before .before .before .before .before .before .before .before .before .before .before .before .before .before .before .before .before .before .element .ensures) (c .before .before .before .before .before .before .before .before .before .before .before .before .before .before .before .before .before .count .ensures)
 
 returns-2 : tie.Need-returns-2
 returns-2 c =
@@ -37,7 +37,7 @@ returns-2 c =
     let a = entry .args in
     let bound = c .before .before .before .before .before .before .before .before .before .before .before .before .before .before .bind-macros in
     let read = c .before .before .before .before .before .before .before .before .all-macros in
-    macros-known (a .work .now) (a .macros .now) (a .node) (a .wrap) (a .inside) (a .reached) (entry .pre .0) (entry .pre .1) _ _ (c .before .before .before .before .before .before .before .before .before .before .before .before .before .before .before .before .before .before .before .before .element .ensures) (c .before .before .before .before .before .before .before .before .before .before .before .before .before .before .before .before .before .before .count .ensures) (bound .last .0) _ _ _ (bound .ensures) (c .before .before .before .before .before .before .before .before .before .before .before .rules-wrap .ensures) (bound .kept .0) (read .last .0) (read .last .1 .0) _ (read .ensures) _ _ (c .before .before .top .given .1) (c .before .before .before .before .before .before .before .before .before .before .before .before .before .before .before .before .element2 .ensures) _ (c .grown .ensures)
+    macros-known (a .work .now) (a .macros .now) (a .node) (a .wrap) (a .inside) (a .reached) (entry .pre .0) (entry .pre .1 .0) (entry .pre .1 .1) _ _ (c .before .before .before .before .before .before .before .before .before .before .before .before .before .before .before .before .before .before .before .before .element .ensures) (c .before .before .before .before .before .before .before .before .before .before .before .before .before .before .before .before .before .before .count .ensures) (bound .last .0) _ _ _ (bound .ensures) (c .before .before .before .before .before .before .before .before .before .before .before .rules-wrap .ensures) (bound .kept .0) (read .last .0) (read .last .1 .0) _ (read .ensures) _ _ (c .before .before .top .given .1) (c .before .before .before .before .before .before .before .before .before .before .before .before .before .before .before .before .element2 .ensures) _ (c .grown .ensures)
 
 pub macros-body-spec : {M : Type 1} → statement M
 macros-body-spec =
