@@ -11,12 +11,12 @@ use Rattle.arena.specs.ListLaws.{pair-falls}
 use Rattle.forms.specs.BinderLaws.{opened, names-none, distinct-none, distinct-not, distinct-later}
 
 abbrev Inv-loop : tie.InvT-loop
-Inv-loop work list w macros at₀ at =
-    (AllNames macros (treeAt work at w))
-    × (distinct (namesIn macros (treeAt work list w)) ≡ distinct (namesIn macros (treeAt work at w)))
+Inv-loop work list w entries at₀ at =
+    (AllNames entries (treeAt work at w))
+    × (distinct (namesIn entries (treeAt work list w)) ≡ distinct (namesIn entries (treeAt work at w)))
 
 abbrev μ-loop : tie.MeasureT-loop
-μ-loop work list w macros at₀ at =
+μ-loop work list w entries at₀ at =
     at
 
 loop-holds : tie.Need-loop-holds Inv-loop μ-loop
@@ -25,11 +25,11 @@ loop-holds c =
     (pre, refl)
 
 -- the list at hand is opened
-here : (c : tie.After-reference2 Inv-loop μ-loop) → let a = c .before .before .before .before .before .before .before .args in Opened (a .work .now) (c .before .before .before .before .before .loop .at) (a .w) (a .macros) (c .before .own-name .result) (c .reference2 .result)
+here : (c : tie.After-reference2 Inv-loop μ-loop) → let a = c .before .before .before .before .before .before .before .args in Opened (a .work .now) (c .before .before .before .before .before .loop .at) (a .wrap) (a .entries) (c .before .own-name .result) (c .reference2 .result)
 here c =
     let a = c .before .before .before .before .before .before .before .args in
     let loop = c .before .before .before .before .before .loop in
-    opened (a .work .now) (loop .at) _ (c .before .before .before .before .word .ensures) (a .w) (a .macros) (c .before .before .before .if1 .taken) (loop .inv .0) _ _ _ (c .before .before .reference .ensures) (c .before .own-name .ensures) (c .reference2 .ensures)
+    opened (a .work .now) (loop .at) _ (c .before .before .before .before .word .ensures) (a .wrap) (a .entries) (c .before .before .before .if1 .taken) (loop .inv .0) _ _ _ (c .before .before .reference .ensures) (c .before .own-name .ensures) (c .reference2 .ensures)
 
 is-among-requires : tie.Need-is-among-requires Inv-loop μ-loop
 is-among-requires c κs = here c .ordinary
@@ -56,7 +56,7 @@ returns-2 c =
     let a = c .before .before .before .before .args in
     let loop = c .before .before .loop in
     let word = c .before .word in
-    distinct-none _ (names-none (a .work .now) (loop .at) _ (word .ensures) (a .w) (a .macros) (c .if1 .left)) ∙ sym (loop .inv .1)
+    distinct-none _ (names-none (a .work .now) (loop .at) _ (word .ensures) (a .wrap) (a .entries) (c .if1 .left)) ∙ sym (loop .inv .1)
 
 pub are-distinct-spec : {M : Type 1} → statement M
 are-distinct-spec =
