@@ -9,7 +9,7 @@ use arena::lists;
 use resolution::names;
 
 // The node of the name that an element binds.
-pub fn own_name(work: &[u32], node: u32, entries: bool) -> u32
+pub(crate) fn own_name(work: &[u32], node: u32, entries: bool) -> u32
     ensures { λ r. ⌜ Means (now (work .entry)) node r (ownName entries) ⌝ }
 {
     if entries {

@@ -25,18 +25,18 @@ pub enum Read {
 }
 
 // The rules of macro `count`.
-pub fn one_macro(
+fn one_macro(
     work: &mut [u32],
     macros: &mut [u32],
     form: u32,
-    w: u32,
+    wrap: u32,
     count: u32,
     top: u32,
 ) -> Read
-    requires { ⌜ OneAsk (now work) (now macros) form w count top ⌝ }
-    ensures { λ r. ⌜ OneLeft (treeAt (now (work .entry)) form w) (now (work .entry)) (now (work .exit)) (now (macros .entry)) (now (macros .exit)) count top r ⌝ }
+    requires { ⌜ OneAsk (now work) (now macros) form wrap count top ⌝ }
+    ensures { λ r. ⌜ OneLeft (treeAt (now (work .entry)) form wrap) (now (work .entry)) (now (work .exit)) (now (macros .entry)) (now (macros .exit)) count top r ⌝ }
 {
-    let Built::At(at, upper) = packed::parts(rules::rules(work, form, w, top)) else {
+    let Built::At(at, upper) = packed::parts(rules::rules(work, form, wrap, top)) else {
         return Read::Bad;
     };
     macros[count as usize] = at;
@@ -44,9 +44,16 @@ pub fn one_macro(
 }
 
 // The rules of each (name rules) of a list, as macros from `count` on.
-fn all_macros(work: &mut [u32], macros: &mut [u32], list: u32, w: u32, count: u32, top: u32) -> Read
-    requires { ⌜ AllAsk (now work) (now macros) list w count top ⌝ }
-    ensures { λ r. ⌜ AllLeft (treeAt (now (work .entry)) list w) (now (work .entry)) (now (work .exit)) (now (macros .entry)) (now (macros .exit)) count top r ⌝ }
+fn all_macros(
+    work: &mut [u32],
+    macros: &mut [u32],
+    list: u32,
+    wrap: u32,
+    count: u32,
+    top: u32,
+) -> Read
+    requires { ⌜ AllAsk (now work) (now macros) list wrap count top ⌝ }
+    ensures { λ r. ⌜ AllLeft (treeAt (now (work .entry)) list wrap) (now (work .entry)) (now (work .exit)) (now (macros .entry)) (now (macros .exit)) count top r ⌝ }
 {
     let mut at = list;
     let mut n = count;
@@ -55,7 +62,7 @@ fn all_macros(work: &mut [u32], macros: &mut [u32], list: u32, w: u32, count: u3
         let entry = cells::reference(work, at, cells::HEAD);
         let form = lists::element(work, entry, 1);
         at = cells::reference(work, at, cells::TAIL);
-        let Read::Good(upper) = one_macro(work, macros, form, w, n, end) else {
+        let Read::Good(upper) = one_macro(work, macros, form, wrap, n, end) else {
             return Read::Bad;
         };
         end = upper;
@@ -91,8 +98,8 @@ fn macros_body(
     let count = lists::count(work, list);
     let body = lists::element(work, node, 2);
     let scope = binders::bind_macros(work, node, wrap, first, reached.top);
-    let w = rules_wrap(inside, scope.wrap, wrap);
-    let Read::Good(top) = all_macros(work, macros, list, w, first, scope.top) else {
+    let within = rules_wrap(inside, scope.wrap, wrap);
+    let Read::Good(top) = all_macros(work, macros, list, within, first, scope.top) else {
         return Turn::Over(leaf::refuse(15, reached));
     };
     Turn::Again(body, scope.wrap, reached.grown(top, count))

@@ -24,7 +24,7 @@ same-length c =
 returns : tie.Need-returns
 returns c =
     let a = c .before .before .before .before .before .before .before .args in
-    λ macros placed other operations fuel ready. applied-turned macrosMost operations (a .work .now) (a .core .now) macros fuel (a .node) (a .tail) (a .wrap) (a .reached) placed other ready _ _ _ (c .before .before .before .before .count .ensures) (c .before .before .put-node .ensures)
+    λ macros placed other operations fuel ready. applied-turned macrosMost operations (a .work .now) (a .core .now) macros fuel (a .list .node) (a .list .tail) (a .list .wrap) (a .reached) placed other ready _ _ _ (c .before .before .before .before .count .ensures) (c .before .before .put-node .ensures)
 
 pub applied-spec : {M : Type 1} → statement M
 applied-spec = tie.close (tie.spec count-requires put-node-requires same-length returns)

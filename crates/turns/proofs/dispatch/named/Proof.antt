@@ -14,57 +14,57 @@ use Rattle.turns.specs.ReadyLaws.{ready-use}
 use Rattle.turns.specs.DispatchLaws.{application-room, form-room, nothing-turned, variable-turned, operation-turned, macro-turned, form-heads}
 
 -- what the head finds, by the arm
-means : (c : tie.After-lookup) (f m : Meaning) → c .lookup .result ≡ Finds f → f ≡ m → let a = c .before .before .before .before .before .before .args in meansOf m ≡ lookupIn (a .operations .now) (nameAt (a .work .now) (a .head) (a .wrap))
+means : (c : tie.After-lookup) (f m : Meaning) → c .lookup .result ≡ Finds f → f ≡ m → let a = c .before .before .before .before .before .before .args in meansOf m ≡ lookupIn (a .operations .now) (nameAt (a .work .now) (a .list .head) (a .list .wrap))
 means c f m g e = ap meansOf (sym e) ∙ found-by _ _ (c .lookup .ensures) f g
 
 room : (c : tie.Start) → CoreRoom (c .args .core .now) (c .args .reached .at) 4
-room c = let a = c .args in application-room (a .work .now) (a .core .now) (a .known .now) (a .fuel) (a .node) (a .wrap) (a .reached) (c .pre .1) (c .pre .0) (a .tail) _ (c .pre .2)
+room c = let a = c .args in application-room (a .work .now) (a .core .now) (a .macros .now) (a .fuel) (a .list .node) (a .list .wrap) (a .reached) (c .pre .1) (c .pre .0) (a .list .tail) _ (c .pre .2)
 
 returns : tie.Need-returns
 returns c =
     let entry = c .before .before .before .before .before .before .before .before .before in
     let a = entry .args in
-    let x = nameAt (a .work .now) (a .head) (a .wrap) in
-    λ operations lent. nothing-turned macrosMost operations (a .work .now) (a .core .now) (a .known .now) (a .fuel) (a .node) (a .tail) (a .wrap) (a .reached) x (entry .pre .2) (entry .pre .0) (entry .pre .1) _
+    let x = nameAt (a .work .now) (a .list .head) (a .list .wrap) in
+    λ operations lent. nothing-turned macrosMost operations (a .work .now) (a .core .now) (a .macros .now) (a .fuel) (a .list .node) (a .list .tail) (a .list .wrap) (a .reached) x (entry .pre .2) (entry .pre .0) (entry .pre .1) _
     (nothing-by (lookupIn (a .operations .now) x) _ (c .before .before .before .lookup .ensures) (c .before .enum-told .given .1) ∙ lookup-in operations (a .operations .now) x lent) (c .refuse .ensures)
 
 macro-use-requires : tie.Need-macro-use-requires
 macro-use-requires c κs =
     let entry = c .before .before .before .before .before .before .before .before .before .before .before .before .before .before in
     let a = entry .args in
-    ready-use (a .work .now) (a .core .now) (a .known .now) (a .fuel) (a .node) (a .wrap) (a .reached) (entry .pre .1) (entry .pre .0)
+    ready-use (a .work .now) (a .core .now) (a .macros .now) (a .fuel) (a .list .node) (a .list .wrap) (a .reached) (entry .pre .1) (entry .pre .0)
 
 form-requires : tie.Need-form-requires
 form-requires c κs =
     let entry = c .before .before .before .before .before .before .before .before .before .before .before .before .before .before .before in
     let a = entry .args in (
-      form-heads (a .operations .now) (a .work .now) (a .node) (a .tail) (a .wrap) _ (nameAt (a .work .now) (a .head) (a .wrap)) (entry .pre .2)
+      form-heads (a .operations .now) (a .work .now) (a .list .node) (a .list .tail) (a .list .wrap) _ (nameAt (a .work .now) (a .list .head) (a .list .wrap)) (entry .pre .2)
           (means (c .before .before .before .before .before .before .before .before .before) _ _ (c .before .before .before .before .before .before .before .found .given .1) (c .before .before .before .before .found5 .given .1)),
-      form-room (a .work .now) (a .core .now) (a .known .now) (a .fuel) (a .node) (a .wrap) (a .reached) (entry .pre .1) (entry .pre .0),
+      form-room (a .work .now) (a .core .now) (a .macros .now) (a .fuel) (a .list .node) (a .list .wrap) (a .reached) (entry .pre .1) (entry .pre .0),
     )
 
 returns-2 : tie.Need-returns-2
 returns-2 c =
     let entry = c .before .before .before .before .before .before .before .before .before .before .before .before .before .before .before .before .before in
     let a = entry .args in
-    let x = nameAt (a .work .now) (a .head) (a .wrap) in
-    λ operations lent. variable-turned macrosMost operations (a .work .now) (a .core .now) (a .known .now) (a .fuel) (a .node) (a .tail) (a .wrap) (a .reached) x (entry .pre .2) (entry .pre .0) (entry .pre .1) _ _ _
+    let x = nameAt (a .work .now) (a .list .head) (a .list .wrap) in
+    λ operations lent. variable-turned macrosMost operations (a .work .now) (a .core .now) (a .macros .now) (a .fuel) (a .list .node) (a .list .tail) (a .list .wrap) (a .reached) x (entry .pre .2) (entry .pre .0) (entry .pre .1) _ _ _
     (means (c .before .before .before .before .before .before .before .before .before .before .before) _ _ (c .before .before .before .before .before .before .before .before .before .found .given .1) (c .before .before .before .before .before .before .found2 .given .1) ∙ lookup-in operations (a .operations .now) x lent) (c .before .before .put-application .ensures)
 
 returns-3 : tie.Need-returns-3
 returns-3 c =
     let entry = c .before .before .before .before .before .before .before .before .before .before .before .before .before .before .before .before .before in
     let a = entry .args in
-    let x = nameAt (a .work .now) (a .head) (a .wrap) in
-    λ operations lent. operation-turned macrosMost operations (a .work .now) (a .core .now) (a .known .now) (a .fuel) (a .node) (a .tail) (a .wrap) (a .reached) x (entry .pre .2) (entry .pre .0) (entry .pre .1) _ _ _
+    let x = nameAt (a .work .now) (a .list .head) (a .list .wrap) in
+    λ operations lent. operation-turned macrosMost operations (a .work .now) (a .core .now) (a .macros .now) (a .fuel) (a .list .node) (a .list .tail) (a .list .wrap) (a .reached) x (entry .pre .2) (entry .pre .0) (entry .pre .1) _ _ _
     (means (c .before .before .before .before .before .before .before .before .before .before .before) _ _ (c .before .before .before .before .before .before .before .before .before .found .given .1) (c .before .before .before .before .before .before .found3 .given .1) ∙ lookup-in operations (a .operations .now) x lent) (c .before .before .put-application2 .ensures)
 
 returns-4 : tie.Need-returns-4
 returns-4 c =
     let entry = c .before .before .before .before .before .before .before .before .before .before .before .before .before .before .before .before .before in
     let a = entry .args in
-    let x = nameAt (a .work .now) (a .head) (a .wrap) in
-    λ operations lent. macro-turned macrosMost operations (a .work .now) (a .core .now) (a .known .now) (a .fuel) (a .node) (a .tail) (a .wrap) (a .reached) x (entry .pre .2) (entry .pre .0) (entry .pre .1) _ (c .before .before .macro-use .last .0) (c .before .before .macro-use .result)
+    let x = nameAt (a .work .now) (a .list .head) (a .list .wrap) in
+    λ operations lent. macro-turned macrosMost operations (a .work .now) (a .core .now) (a .macros .now) (a .fuel) (a .list .node) (a .list .tail) (a .list .wrap) (a .reached) x (entry .pre .2) (entry .pre .0) (entry .pre .1) _ (c .before .before .macro-use .last .0) (c .before .before .macro-use .result)
     (means (c .before .before .before .before .before .before .before .before .before .before .before) _ _ (c .before .before .before .before .before .before .before .before .before .found .given .1) (c .before .before .before .before .before .before .found4 .given .1) ∙ lookup-in operations (a .operations .now) x lent) (c .before .before .macro-use .kept .0) (c .before .before .macro-use .ensures)
 
 returns-5 : tie.Need-returns-5

@@ -21,7 +21,7 @@ loop-holds : tie.Need-loop-holds Inv-loop μ-loop
 loop-holds c =
     let a = c .before .before .args in
     let pre = c .before .before .pre in
-    (refl, refl, reading-begins (a .work .now) (a .macros .now) (a .list) (a .w) (a .count) (a .top) pre)
+    (refl, refl, reading-begins (a .work .now) (a .macros .now) (a .list) (a .wrap) (a .count) (a .top) pre)
 
 one-macro-requires : tie.Need-one-macro-requires Inv-loop μ-loop
 one-macro-requires c κs =
@@ -32,7 +32,7 @@ one-macro-requires c κs =
     let reference = c .before .before .before .before .before .before .reference in
     let element = c .before .before .before .before .element in
     let reference2 = c .before .before .reference2 in
-    one-ask (loop .work) (loop .macros) (loop .at) (a .w) (loop .n) (loop .end) (loop .inv .2 .ask) _ _ _ (sym (word .ensures) ∙ if1 .taken) (reference .ensures) (reference2 .ensures) (element .ensures)
+    one-ask (loop .work) (loop .macros) (loop .at) (a .wrap) (loop .n) (loop .end) (loop .inv .2 .ask) _ _ _ (sym (word .ensures) ∙ if1 .taken) (reference .ensures) (reference2 .ensures) (element .ensures)
 
 returns : tie.Need-returns Inv-loop μ-loop
 returns c =
@@ -44,7 +44,7 @@ returns c =
     let element = c .before .before .before .before .before .before .before .before .before .before .before .element in
     let reference2 = c .before .before .before .before .before .before .before .before .before .reference2 in
     let one-macro = c .before .before .before .before .before .before .one-macro in
-    reading-bad (a .work .now) (a .macros .now) (a .list) (a .w) (a .count) (a .top) (loop .work) (loop .macros) (loop .at) (loop .n) (loop .end) (loop .inv .2) _ _ _ (sym (word .ensures) ∙ if1 .taken) (reference .ensures) (reference2 .ensures) (element .ensures) _ _ _ (one-macro .ensures) (c .enum-told .given .1)
+    reading-bad (a .work .now) (a .macros .now) (a .list) (a .wrap) (a .count) (a .top) (loop .work) (loop .macros) (loop .at) (loop .n) (loop .end) (loop .inv .2) _ _ _ (sym (word .ensures) ∙ if1 .taken) (reference .ensures) (reference2 .ensures) (element .ensures) _ _ _ (one-macro .ensures) (c .enum-told .given .1)
 
 add-n : tie.Need-add-n Inv-loop μ-loop
 add-n c =
@@ -55,7 +55,7 @@ add-n c =
     let reference = c .before .before .before .before .before .before .before .before .before .before .before .before .before .before .reference in
     let element = c .before .before .before .before .before .before .before .before .before .before .before .before .element in
     let reference2 = c .before .before .before .before .before .before .before .before .before .before .reference2 in
-    record { fits = count-small (loop .work) (loop .macros) (loop .at) (a .w) (loop .n) (loop .end) (loop .inv .2 .ask) _ _ _ (sym (word .ensures) ∙ if1 .taken) (reference .ensures) (reference2 .ensures) (element .ensures) }
+    record { fits = count-small (loop .work) (loop .macros) (loop .at) (a .wrap) (loop .n) (loop .end) (loop .inv .2 .ask) _ _ _ (sym (word .ensures) ∙ if1 .taken) (reference .ensures) (reference2 .ensures) (element .ensures) }
 
 loop-less : tie.Need-loop-less Inv-loop μ-loop
 loop-less c =
@@ -76,14 +76,14 @@ loop-again c =
     let reference2 = c .before .before .before .before .before .before .before .before .before .before .reference2 in
     let one-macro = c .before .before .before .before .before .before .before .one-macro in
     let upper = c .before .upper in
-    (one-macro .kept .0 ∙ loop .inv .0, one-macro .kept .1 .0 ∙ loop .inv .1, reading-more (a .work .now) (a .macros .now) (a .list) (a .w) (a .count) (a .top) (loop .work) (loop .macros) (loop .at) (loop .n) (loop .end) (loop .inv .2) _ _ _ (sym (word .ensures) ∙ if1 .taken) (reference .ensures) (reference2 .ensures) (element .ensures) _ _ _ (one-macro .ensures) _ (upper .given .1) (one-macro .kept .0) (one-macro .kept .1 .0))
+    (one-macro .kept .0 ∙ loop .inv .0, one-macro .kept .1 .0 ∙ loop .inv .1, reading-more (a .work .now) (a .macros .now) (a .list) (a .wrap) (a .count) (a .top) (loop .work) (loop .macros) (loop .at) (loop .n) (loop .end) (loop .inv .2) _ _ _ (sym (word .ensures) ∙ if1 .taken) (reference .ensures) (reference2 .ensures) (element .ensures) _ _ _ (one-macro .ensures) _ (upper .given .1) (one-macro .kept .0) (one-macro .kept .1 .0))
 
 returns-2 : tie.Need-returns-2 Inv-loop μ-loop
 returns-2 c =
     let a = c .before .before .before .before .before .before .args in
     let loop = c .before .before .before .loop in
     let word = c .before .word in
-    reading-ends (a .work .now) (a .macros .now) (a .list) (a .w) (a .count) (a .top) (loop .work) (loop .macros) (loop .at) (loop .n) (loop .end) (loop .inv .2) (λ z. c .if1 .left (word .ensures ∙ z))
+    reading-ends (a .work .now) (a .macros .now) (a .list) (a .wrap) (a .count) (a .top) (loop .work) (loop .macros) (loop .at) (loop .n) (loop .end) (loop .inv .2) (λ z. c .if1 .left (word .ensures ∙ z))
 
 pub all-macros-spec : {M : Type 1} → statement M
 all-macros-spec =

@@ -10,13 +10,13 @@ returns : tie.Need-returns
 returns c =
     let a = c .before .before .before .before .before .before .before .before .before .args in
     let r = c .before .before .before .before .before .rules in
-    one-bad (a .work .now) (a .macros .now) (a .form) (a .w) (a .count) (a .top) (c .before .before .before .before .before .before .before .before .before .pre) (r .last .0) (builtOf (r .result)) (r .ensures) (a .macros .now) (sym (c .before .before .parts .ensures) ∙ c .enum-told .given .1)
+    one-bad (a .work .now) (a .macros .now) (a .form) (a .wrap) (a .count) (a .top) (c .before .before .before .before .before .before .before .before .before .pre) (r .last .0) (builtOf (r .result)) (r .ensures) (a .macros .now) (sym (c .before .before .parts .ensures) ∙ c .enum-told .given .1)
 
 returns-2 : tie.Need-returns-2
 returns-2 c =
     let a = c .before .before .before .before .before .before .before .before .before .before .args in
     let r = c .before .before .before .before .before .before .rules in
-    one-good (a .work .now) (a .macros .now) (a .form) (a .w) (a .count) (a .top) (c .before .before .before .before .before .before .before .before .before .before .pre) (r .last .0) (builtOf (r .result)) (r .ensures) _ _ (sym (c .before .before .before .parts .ensures) ∙ c .before .at .given .1)
+    one-good (a .work .now) (a .macros .now) (a .form) (a .wrap) (a .count) (a .top) (c .before .before .before .before .before .before .before .before .before .before .pre) (r .last .0) (builtOf (r .result)) (r .ensures) _ _ (sym (c .before .before .before .parts .ensures) ∙ c .before .at .given .1)
 
 pub one-macro-spec : {M : Type 1} → statement M
 one-macro-spec =
