@@ -32,7 +32,10 @@ good : (c : tie.Else2 Inv-loop μ-loop) → let a = c .before .before .before .b
 good c = sym (c .before .is-fit .ensures) ∙ not-false _ (c .if2 .left)
 
 slot : (c : tie.After-head2 Inv-loop μ-loop) → c .head2 .result < length (c .before .before .before .before .before .before .before .loop .places)
-slot c = turn-place (c .before .before .before .before .before .before .before .loop .inv) (is-pair (c .before .before .before .before .before)) _ (c .before .before .before .before .head .ensures) (good (c .before .before)) _ (c .head2 .ensures)
+slot c =
+    let at-before = c .before in
+    let at-before′ = at-before .before .before .before in
+    turn-place (at-before′ .before .before .before .loop .inv) (is-pair (at-before′ .before)) _ (at-before′ .head .ensures) (good (at-before .before)) _ (c .head2 .ensures)
 
 loop-holds : tie.Need-loop-holds Inv-loop μ-loop
 loop-holds c =
@@ -62,11 +65,13 @@ same-length-2 c = kept (c .before .before .before .before .before .before)
 
 returns-2 : tie.Need-returns-2 Inv-loop μ-loop
 returns-2 c =
-    (sym (turn-full (c .before .before .before .before .before .before .loop .inv) (is-pair (c .before .before .before .before)) _ (c .before .before .before .head .ensures) (good (c .before)) (c .if3 .taken)), λ q. absurd (false≢true q))
+    let at-before = c .before .before .before in
+    (sym (turn-full (at-before .before .before .before .loop .inv) (is-pair (at-before .before)) _ (at-before .head .ensures) (good (c .before)) (c .if3 .taken)), λ q. absurd (false≢true q))
 
 head-requires-2 : tie.Need-head-requires-2 Inv-loop μ-loop
 head-requires-2 c κs =
-    let inv = c .before .before .before .before .before .before .loop .inv in item-words _ (inv .item .table) (turn-item inv (is-pair (c .before .before .before .before)) _ (c .before .before .before .head .ensures))
+    let at-before = c .before .before .before in
+    let inv = at-before .before .before .before .loop .inv in item-words _ (inv .item .table) (turn-item inv (is-pair (at-before .before)) _ (at-before .head .ensures))
 
 mul-if4 : tie.Need-mul-if4 Inv-loop μ-loop
 mul-if4 c = omega (arith, slot c, c .before .before .before .before .before .before .before .loop .inv .long)
@@ -79,13 +84,21 @@ same-length-3 c = kept (c .before .before .before .before .before .before .befor
 
 returns-3 : tie.Need-returns-3 Inv-loop μ-loop
 returns-3 c =
-    (sym (turn-twice (c .before .before .before .before .before .before .before .before .before .loop .inv) (is-pair (c .before .before .before .before .before .before .before)) _ (c .before .before .before .before .before .before .head .ensures) (good (c .before .before .before .before)) _ (c .before .before .head2 .ensures) (c .if4 .taken)), λ q. absurd (false≢true q))
+    let at-head2 = c .before .before in
+    let at-before = at-head2 .before in
+    let at-before′ = at-before .before .before .before in
+    (sym (turn-twice (at-before′ .before .before .before .loop .inv) (is-pair (at-before′ .before)) _ (at-before′ .head .ensures) (good (at-before .before)) _ (at-head2 .head2 .ensures) (c .if4 .taken)), λ q. absurd (false≢true q))
 
 add-place : tie.Need-add-place Inv-loop μ-loop
-add-place c = omega (arith, c .before .before .before .before .before .before .before .before .before .loop .inv .walked .few, c .before .before .before .before .before .before .before .before .before .before .before .before .pre .1)
+add-place c =
+    let at-loop = c .before .before .before .before .before .before .before .before .before in
+    omega (arith, at-loop .loop .inv .walked .few, at-loop .before .before .before .pre .1)
 
 cast-places : tie.Need-cast-places Inv-loop μ-loop
-cast-places c = omega (arith, c .before .before .before .before .before .before .before .before .before .loop .inv .walked .few, c .before .before .before .before .before .before .before .before .before .before .before .before .pre .1, c .before .before .before .if3 .left)
+cast-places c =
+    let at-if3 = c .before .before .before in
+    let at-loop = at-if3 .before .before .before .before .before .before in
+    omega (arith, at-loop .loop .inv .walked .few, at-loop .before .before .before .pre .1, at-if3 .if3 .left)
 
 mul-places : tie.Need-mul-places Inv-loop μ-loop
 mul-places c = omega (arith, slot (c .before .before), c .before .before .before .before .before .before .before .before .before .loop .inv .long)
@@ -98,20 +111,27 @@ tail-requires c κs = words-here (c .before .before .before .before .before .bef
 
 loop-less : tie.Need-loop-less Inv-loop μ-loop
 loop-less c =
-    let p = pair-here (c .before .before .before .before .before .before .before .before .before .before .loop .inv .item) (is-pair (c .before .before .before .before .before .before .before .before)) in omega (arith, p .tailAbove, p .tailBelow, c .tail .ensures)
+    let at-before = c .before .before .before .before .before .before .before in
+    let p = pair-here (at-before .before .before .before .loop .inv .item) (is-pair (at-before .before)) in omega (arith, p .tailAbove, p .tailBelow, c .tail .ensures)
 
 loop-again : tie.Need-loop-again Inv-loop μ-loop
 loop-again c =
-    let fit = c .before .before .before .before .before in
-    turn-more (c .before .before .before .before .before .before .before .before .before .before .loop .inv) (is-pair (c .before .before .before .before .before .before .before .before)) _ (fit .before .before .head .ensures) (good fit) _ (c .before .before .before .head2 .ensures) (c .tail .result) (c .before .before .before .before .if3 .left) (c .before .if4 .left) (c .tail .ensures)
+    let at-if4 = c .before in
+    let at-head2 = at-if4 .before .before in
+    let at-before = at-head2 .before in
+    let at-before′ = at-before .before .before .before in
+    let fit = at-before .before in
+    turn-more (at-before′ .before .before .before .loop .inv) (is-pair (at-before′ .before)) _ (fit .before .before .head .ensures) (good fit) _ (at-head2 .head2 .ensures) (c .tail .result) (at-before .if3 .left) (at-if4 .if4 .left) (c .tail .ensures)
 
 same-length-4 : tie.Need-same-length-4 Inv-loop μ-loop
 same-length-4 c = kept (c .before .before)
 
 returns-4 : tie.Need-returns-4 Inv-loop μ-loop
 returns-4 c =
-    let end : kindAt (c .before .before .before .before .before .args .table .now) (c .before .before .loop .i) ≡ 4 → ⊥ = λ q. c .if1 .left (c .before .kind .ensures ∙ q) in
-    (sym (walk-end (c .before .before .loop .inv) end), λ q. walk-places (c .before .before .loop .inv) end)
+    let at-kind = c .before in
+    let at-loop = at-kind .before in
+    let end : kindAt (at-loop .before .before .before .args .table .now) (at-loop .loop .i) ≡ 4 → ⊥ = λ q. c .if1 .left (at-kind .kind .ensures ∙ q) in
+    (sym (walk-end (at-loop .loop .inv) end), λ q. walk-places (at-loop .loop .inv) end)
 
 pub distinct-names-spec : {M : Type 1} → statement M
 distinct-names-spec =

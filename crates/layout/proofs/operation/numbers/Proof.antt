@@ -33,7 +33,8 @@ head-requires c κs =
 
 loop-holds : tie.Need-loop-holds Inv-loop μ-loop
 loop-holds c =
-    (refl, listing-start (c .before .before .before .args .list .now) (c .head .result) (layout (c .before .before .before .args .table .now) (c .before .before .before .pre .0)) (c .before .before .before .pre .1) (c .head .ensures) (c .before .before .before .pre .2))
+    let at-args = c .before .before .before in
+    (refl, listing-start (at-args .args .list .now) (c .head .result) (layout (at-args .args .table .now) (at-args .pre .0)) (at-args .pre .1) (c .head .ensures) (at-args .pre .2))
 
 kind-requires : tie.Need-kind-requires Inv-loop μ-loop
 kind-requires c κs =

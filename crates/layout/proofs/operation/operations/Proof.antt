@@ -26,11 +26,13 @@ distinct-names-requires c κs =
 
 returns : tie.Need-returns
 returns c =
-    let start = c .before .before .before .before .before .before .before in
-    let first = c .before .before .before .before .head .ensures in
+    let at-distinct-names = c .before .before in
+    let at-head = at-distinct-names .before .before in
+    let start = at-head .before .before .before in
+    let first = at-head .head .ensures in
     let ws = start .args .table .now in
-    let places = c .before .before .distinct-names .last .1 .1 .1 .1 .0 in
-    let tested = c .before .before .distinct-names .ensures in (
+    let places = at-distinct-names .distinct-names .last .1 .1 .1 .1 .0 in
+    let tested = at-distinct-names .distinct-names .ensures in (
       tested .0 ∙ ap (λ (i : ℕ). areNames (passes 0) operationsMost (treeFrom ws i)) first ∙ sym (by-first (laid start)),
       λ q. places-first (laid start) places (subst (λ (i : ℕ). Places places (numbers (names (treeFrom ws i)))) first (tested .1 q)),
     )
