@@ -23,8 +23,10 @@ same-length c =
 -- src/dispatch.rt:93:1
 returns : tie.Need-returns
 returns c =
-    let a = c .before .before .before .before .before .before .before .args in
-    λ macros placed other operations fuel ready. applied-turned macrosMost operations (a .work .now) (a .core .now) macros fuel (a .list .node) (a .list .tail) (a .list .wrap) (a .reached) placed other ready _ _ _ (c .before .before .before .before .count .ensures) (c .before .before .put-node .ensures)
+    let at-put-node = c .before .before in
+    let at-count = at-put-node .before .before in
+    let a = at-count .before .before .before .args in
+    λ macros placed other operations fuel ready. applied-turned macrosMost operations (a .work .now) (a .core .now) macros fuel (a .list .node) (a .list .tail) (a .list .wrap) (a .reached) placed other ready _ _ _ (at-count .count .ensures) (at-put-node .put-node .ensures)
 
 pub applied-spec : {M : Type 1} → statement M
 applied-spec = tie.close (tie.spec count-requires put-node-requires same-length returns)
