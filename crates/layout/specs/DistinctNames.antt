@@ -1,18 +1,19 @@
 -- A list of at most so many distinct names whose numbers pass a test: what holds on the way through it, and one law for each way
 -- through `distinct_names`. The operations (ground 10) are such a list.
 use mathlib.Core.Path.{_≡_, refl, sym, ap, _∙_}
-use mathlib.Core.Bool.{Bool, true, false, _&&_, _||_, and-false}
+use mathlib.Core.Bool.{Bool, true, false, not, _&&_, _||_, and-false}
 use mathlib.Core.List.{List, [], _∷_, _++_, map, append-nil}
 use Prim.Native.Nat.{ℕ, suc, _+_, _<_, _≤_}
 use native.Mathlib.Omega.{arith}
-use lib.Dec.{ltb, leb}
+use lib.Dec.{eqb, ltb, leb}
 use lib.ListN.{length, getD, set, length-append}
 use lib.Seq.{append-snoc}
-use borrow.Author.Tests.{le-ltb, le-leb, lt-leb}
+use borrow.Author.Tests.{eqb-false, eq-eqb, ne-eqb, ltb-true, ltb-false, le-ltb, le-leb, lt-leb}
 use Rattle.words.specs.Limits.{namesMost, operationsMost}
 use Rattle.words.specs.Lists.{allOf}
+use Rattle.words.specs.ListLaws.{either}
 use Rattle.words.specs.TestLaws.{and-none-right, all-append}
-use Rattle.recipe.specs.Name.{Name, plainName, distinct}
+use Rattle.recipe.specs.Name.{Name, plainName, isEllipsis, isWildcard, isOrdinary, distinct}
 use Rattle.recipe.specs.Tree.{Tree, empty, constant, name, pair, onName, isName, names, elements, element}
 use Rattle.expansion.specs.Run.{operationNumbers, areOperations}
 use Rattle.layout.specs.Places.{Places, plainNames, numbers, numbers-append, numbers-length, plain-append, plain-length, distinct-more, distinct-twice, unplaced, placed-before, places-more}
@@ -28,6 +29,27 @@ areNames fit most e = allOf isName (elements e) && (leb (length (numbers (names 
 -- the tests that code makes: numbers below `low`, and those above 7
 unfoldable pub passes : (low n : ℕ) → Bool
 passes low n = ltb n low || ltb 7 n
+
+-- those below 6 and those above 7 are the ordinary names
+pub passes-ordinary : (x : Name) → passes 6 (x .number) ≡ isOrdinary x
+unfolding passes isOrdinary isEllipsis isWildcard
+passes-ordinary x = either (ltb (x .number) 6) below (λ f. either (ltb 7 (x .number)) (above f) (λ g. between f g))
+  where
+    below : ltb (x .number) 6 ≡ true → (ltb (x .number) 6 || ltb 7 (x .number)) ≡ (not (eqb (x .number) 6) && not (eqb (x .number) 7))
+    below e =
+        let l : x .number < 6 = ltb-true (x .number) 6 e in
+        rw (e, ne-eqb (x .number) 6 (λ z. omega arith), ne-eqb (x .number) 7 (λ z. omega arith))
+
+    above : ltb (x .number) 6 ≡ false → ltb 7 (x .number) ≡ true → (ltb (x .number) 6 || ltb 7 (x .number)) ≡ (not (eqb (x .number) 6) && not (eqb (x .number) 7))
+    above f e =
+        let l : 7 < x .number = ltb-true 7 (x .number) e in
+        rw (f, e, ne-eqb (x .number) 6 (λ z. omega arith), ne-eqb (x .number) 7 (λ z. omega arith))
+
+    between : ltb (x .number) 6 ≡ false → ltb 7 (x .number) ≡ false → (ltb (x .number) 6 || ltb 7 (x .number)) ≡ (not (eqb (x .number) 6) && not (eqb (x .number) 7))
+    between f g =
+        let l : 6 ≤ x .number = ltb-false (x .number) 6 f in
+        let m : x .number ≤ 7 = ltb-false 7 (x .number) g in
+        rw (f, g) (either (eqb (x .number) 6) (λ e. rw e) (λ e. rw (e, eq-eqb (x .number) 7 (let n : x .number ≡ 6 → ⊥ = eqb-false (x .number) 6 e in omega arith))))
 
 -- ground 10 of the first element
 pub areOperations-first : (t : Tree) → areOperations t ≡ areNames (passes 0) operationsMost (element 0 t)

@@ -33,9 +33,10 @@ good c = sym (c .before .is-fit .ensures) ∙ not-false _ (c .if2 .left)
 
 slot : (c : tie.After-head2 Inv-loop μ-loop) → c .head2 .result < length (c .before .before .before .before .before .before .before .loop .places)
 slot c =
-    let at-before = c .before in
-    let at-before′ = at-before .before .before .before in
-    turn-place (at-before′ .before .before .before .loop .inv) (is-pair (at-before′ .before)) _ (at-before′ .head .ensures) (good (at-before .before)) _ (c .head2 .ensures)
+    let fit = c .before .before in
+    let head = fit .before .before in
+    let pair = head .before in
+    turn-place (pair .before .before .loop .inv) (is-pair pair) _ (head .head .ensures) (good fit) _ (c .head2 .ensures)
 
 loop-holds : tie.Need-loop-holds Inv-loop μ-loop
 loop-holds c =
@@ -51,27 +52,35 @@ head-requires c κs = words-here (c .before .before .loop .inv .item)
 
 is-fit-requires : tie.Need-is-fit-requires Inv-loop μ-loop
 is-fit-requires c κs =
-    let inv = c .before .before .before .loop .inv in (inv .item .table, turn-item inv (is-pair (c .before)) _ (c .head .ensures))
+    let pair = c .before in
+    let inv = pair .before .before .loop .inv in
+    (inv .item .table, turn-item inv (is-pair pair) _ (c .head .ensures))
 
 same-length : tie.Need-same-length Inv-loop μ-loop
 same-length c = kept (c .before .before .before .before .before)
 
 returns : tie.Need-returns Inv-loop μ-loop
 returns c =
-    (sym (turn-bad (c .before .before .before .before .before .loop .inv) (is-pair (c .before .before .before)) _ (c .before .before .head .ensures) (sym (c .before .is-fit .ensures) ∙ not-true _ (c .if2 .taken))), λ q. absurd (false≢true q))
+    let fit = c .before in
+    let head = fit .before in
+    let pair = head .before in
+    (sym (turn-bad (pair .before .before .loop .inv) (is-pair pair) _ (head .head .ensures) (sym (fit .is-fit .ensures) ∙ not-true _ (c .if2 .taken))), λ q. absurd (false≢true q))
 
 same-length-2 : tie.Need-same-length-2 Inv-loop μ-loop
 same-length-2 c = kept (c .before .before .before .before .before .before)
 
 returns-2 : tie.Need-returns-2 Inv-loop μ-loop
 returns-2 c =
-    let at-before = c .before .before .before in
-    (sym (turn-full (at-before .before .before .before .loop .inv) (is-pair (at-before .before)) _ (at-before .head .ensures) (good (c .before)) (c .if3 .taken)), λ q. absurd (false≢true q))
+    let head = c .before .before .before in
+    let pair = head .before in
+    (sym (turn-full (pair .before .before .loop .inv) (is-pair pair) _ (head .head .ensures) (good (c .before)) (c .if3 .taken)), λ q. absurd (false≢true q))
 
 head-requires-2 : tie.Need-head-requires-2 Inv-loop μ-loop
 head-requires-2 c κs =
-    let at-before = c .before .before .before in
-    let inv = at-before .before .before .before .loop .inv in item-words _ (inv .item .table) (turn-item inv (is-pair (at-before .before)) _ (at-before .head .ensures))
+    let head = c .before .before .before in
+    let pair = head .before in
+    let inv = pair .before .before .loop .inv in
+    item-words _ (inv .item .table) (turn-item inv (is-pair pair) _ (head .head .ensures))
 
 mul-if4 : tie.Need-mul-if4 Inv-loop μ-loop
 mul-if4 c = omega (arith, slot c, c .before .before .before .before .before .before .before .loop .inv .long)
@@ -84,21 +93,22 @@ same-length-3 c = kept (c .before .before .before .before .before .before .befor
 
 returns-3 : tie.Need-returns-3 Inv-loop μ-loop
 returns-3 c =
-    let at-head2 = c .before .before in
-    let at-before = at-head2 .before in
-    let at-before′ = at-before .before .before .before in
-    (sym (turn-twice (at-before′ .before .before .before .loop .inv) (is-pair (at-before′ .before)) _ (at-before′ .head .ensures) (good (at-before .before)) _ (at-head2 .head2 .ensures) (c .if4 .taken)), λ q. absurd (false≢true q))
+    let number = c .before .before in
+    let fit = number .before .before in
+    let head = fit .before .before in
+    let pair = head .before in
+    (sym (turn-twice (pair .before .before .loop .inv) (is-pair pair) _ (head .head .ensures) (good fit) _ (number .head2 .ensures) (c .if4 .taken)), λ q. absurd (false≢true q))
 
 add-place : tie.Need-add-place Inv-loop μ-loop
 add-place c =
-    let at-loop = c .before .before .before .before .before .before .before .before .before in
-    omega (arith, at-loop .loop .inv .walked .few, at-loop .before .before .before .pre .1)
+    let loop = c .before .before .before .before .before .before .before .before .before in
+    omega (arith, loop .loop .inv .walked .few, loop .before .before .before .pre .1)
 
 cast-places : tie.Need-cast-places Inv-loop μ-loop
 cast-places c =
-    let at-if3 = c .before .before .before in
-    let at-loop = at-if3 .before .before .before .before .before .before in
-    omega (arith, at-loop .loop .inv .walked .few, at-loop .before .before .before .pre .1, at-if3 .if3 .left)
+    let full = c .before .before .before in
+    let loop = full .before .before .before .before .before .before in
+    omega (arith, loop .loop .inv .walked .few, loop .before .before .before .pre .1, full .if3 .left)
 
 mul-places : tie.Need-mul-places Inv-loop μ-loop
 mul-places c = omega (arith, slot (c .before .before), c .before .before .before .before .before .before .before .before .before .loop .inv .long)
@@ -111,17 +121,18 @@ tail-requires c κs = words-here (c .before .before .before .before .before .bef
 
 loop-less : tie.Need-loop-less Inv-loop μ-loop
 loop-less c =
-    let at-before = c .before .before .before .before .before .before .before in
-    let p = pair-here (at-before .before .before .before .loop .inv .item) (is-pair (at-before .before)) in omega (arith, p .tailAbove, p .tailBelow, c .tail .ensures)
+    let pair = c .before .before .before .before .before .before .before .before in
+    let p = pair-here (pair .before .before .loop .inv .item) (is-pair pair) in
+    omega (arith, p .tailAbove, p .tailBelow, c .tail .ensures)
 
 loop-again : tie.Need-loop-again Inv-loop μ-loop
 loop-again c =
-    let at-if4 = c .before in
-    let at-head2 = at-if4 .before .before in
-    let at-before = at-head2 .before in
-    let at-before′ = at-before .before .before .before in
-    let fit = at-before .before in
-    turn-more (at-before′ .before .before .before .loop .inv) (is-pair (at-before′ .before)) _ (fit .before .before .head .ensures) (good fit) _ (at-head2 .head2 .ensures) (c .tail .result) (at-before .if3 .left) (at-if4 .if4 .left) (c .tail .ensures)
+    let number = c .before .before .before in
+    let full = number .before in
+    let fit = full .before in
+    let head = fit .before .before in
+    let pair = head .before in
+    turn-more (pair .before .before .loop .inv) (is-pair pair) _ (head .head .ensures) (good fit) _ (number .head2 .ensures) (c .tail .result) (full .if3 .left) (c .before .if4 .left) (c .tail .ensures)
 
 same-length-4 : tie.Need-same-length-4 Inv-loop μ-loop
 same-length-4 c = kept (c .before .before)
