@@ -4,6 +4,7 @@ use mathlib.Core.List.{List}
 use Prim.Native.Nat.{ℕ, suc, _+_, _-_, _≤_, _<_}
 use native.Mathlib.Omega.{arith}
 use lib.ListN.{length}
+use Rattle.words.specs.Limits.{macrosMost}
 use Rattle.recipe.specs.Tree.{Tree, pair, size, elements}
 use Rattle.arena.specs.Arena.{treeAt, wordAt, referenceAt}
 use Rattle.arena.specs.ArenaLaws.{take-less, referenceAt-falls, referenceAt-below}
@@ -35,11 +36,11 @@ module _ (operations : List ℕ) (fuel : ℕ) where
     pub going-ready : Ready fuel (size tree) r₀ before → Ready fuel (size here) r a
     going-ready x = ready-after fuel (size tree) (size here) 0 r₀ r r before a a x (g .kept)
 
-    module _ (b : Tables) (x : Turn) (turned : Turned operations fuel here r a b x) where
+    module _ (b : Tables) (x : Turn) (turned : Turned macrosMost operations fuel here r a b x) where
       -- another expression follows
       module _ (node′ w′ : ℕ) (q : Reached) (is : x ≡ Again node′ w′ q) where
-        follows : Follows operations fuel here r a b node′ w′ q
-        follows = subst (Turned operations fuel here r a b) is turned
+        follows : Follows macrosMost operations fuel here r a b node′ w′ q
+        follows = subst (Turned macrosMost operations fuel here r a b) is turned
 
         pub again-falls : leftOf fuel (b .work) node′ w′ q < leftOf fuel (a .work) node w r
         again-falls = omega (arith, follows .falls, follows .kept .spent)
@@ -49,8 +50,8 @@ module _ (operations : List ℕ) (fuel : ℕ) where
 
       -- operands are left
       module _ (list w′ : ℕ) (q : Reached) (is : x ≡ Operands list w′ q) where
-        spreads : Spreads operations fuel here r a b list w′ q
-        spreads = subst (Turned operations fuel here r a b) is turned
+        spreads : Spreads macrosMost operations fuel here r a b list w′ q
+        spreads = subst (Turned macrosMost operations fuel here r a b) is turned
 
         pub spread-asks : Ready fuel (size tree) r₀ before
             → (leftOf fuel (b .work) list w′ q ≤ size tree + (fuel - r₀ .sum)) × Placed (b .work) (q .top) list w′ × Ready fuel (size (treeAt (b .work) list w′) - 1) q b
@@ -65,7 +66,7 @@ module _ (operations : List ℕ) (fuel : ℕ) where
 
       -- nothing is left
       pub over-right : (e : Ended) → x ≡ Over e → Expands operations fuel tree r₀ before b e
-      over-right e is = going-over operations fuel tree r₀ before node w r a g b e (subst (Turned operations fuel here r a b) is turned)
+      over-right e is = going-over operations fuel tree r₀ before node w r a g b e (subst (Turned macrosMost operations fuel here r a b) is turned)
 
   -- ---- operands
 

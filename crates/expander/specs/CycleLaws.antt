@@ -80,7 +80,7 @@ module _ (operations : List ℕ) (fuel : ℕ) where
 
   -- with enough gas there is a turn
   pub right-turn : (t : Tree) (r : Reached) (a last : Tables) (e : Ended) → r .sum ≤ fuel
-      → ((gas : ℕ) → size t + fuel ≤ suc gas + r .sum → Left wordsOf r (a .core) last (turnOf operations fuel (expand macrosMost operations fuel gas) t (stateAt a r)) e)
+      → ((gas : ℕ) → size t + fuel ≤ suc gas + r .sum → Left wordsOf r (a .core) last (turnOf macrosMost operations fuel (expand macrosMost operations fuel gas) t (stateAt a r)) e)
       → Right operations fuel t r a last e
   unfolding expandWithin
   right-turn t r a last e h f zero g = absurd (omega (arith, size-positive t))
@@ -96,7 +96,7 @@ module _ (operations : List ℕ) (fuel : ℕ) where
     abbrev here : Tree
     here = treeAt (a .work) node w
 
-    pub going-on : (node′ w′ : ℕ) (q : Reached) (b : Tables) → Follows operations fuel here r a b node′ w′ q → Going operations fuel tree r₀ before node′ w′ q b
+    pub going-on : (node′ w′ : ℕ) (q : Reached) (b : Tables) → Follows macrosMost operations fuel here r a b node′ w′ q → Going operations fuel tree r₀ before node′ w′ q b
     going-on node′ w′ q b f =
         let spent : r .sum ≤ fuel = g .kept .spent in
         record {
@@ -106,7 +106,7 @@ module _ (operations : List ℕ) (fuel : ℕ) where
           means = λ e last h. g .means e last (right-turn here r a last e spent (λ gas l. f .means (expand macrosMost operations fuel gas) e last (h gas (omega (arith, f .falls)))));
         }
 
-    pub going-over : (last : Tables) (e : Ended) → Ends operations fuel here r a last e → Expands operations fuel tree r₀ before last e
+    pub going-over : (last : Tables) (e : Ended) → Ends macrosMost operations fuel here r a last e → Expands operations fuel tree r₀ before last e
     going-over last e f =
         let spent : r .sum ≤ fuel = g .kept .spent in
         record {
@@ -114,7 +114,7 @@ module _ (operations : List ℕ) (fuel : ℕ) where
           means = g .means e last (right-turn here r a last e spent (λ gas l. f .means (expand macrosMost operations fuel gas)));
         }
 
-    pub going-spreads : (list w′ : ℕ) (q : Reached) (b last : Tables) (e : Ended) → Spreads operations fuel here r a b list w′ q
+    pub going-spreads : (list w′ : ℕ) (q : Reached) (b last : Tables) (e : Ended) → Spreads macrosMost operations fuel here r a b list w′ q
         → ExpandsAll operations fuel (treeAt (b .work) list w′) q b last e → Expands operations fuel tree r₀ before last e
     going-spreads list w′ q b last e f x =
         let spent : r .sum ≤ fuel = g .kept .spent in
@@ -169,7 +169,7 @@ module _ (operations : List ℕ) (fuel : ℕ) where
           means = g .means (Done r) a
               (λ gas l.
               subst (λ (e : End (Terms Name)). Left wordsOfAll r (a .core) a e (Done r))
-              (sym (no-operands operations fuel (expand macrosMost operations fuel gas) left none (stateAt a r)))
+              (sym (no-operands macrosMost operations fuel (expand macrosMost operations fuel gas) left none (stateAt a r)))
               (refl, written-none (a .core) (r .at)));
         }
 
@@ -191,7 +191,7 @@ module _ (operations : List ℕ) (fuel : ℕ) where
           head-proper (tidyPair p q l) = p
 
       by-pair : (gas : ℕ) → expandAllBy operations fuel gas left a r
-          ≡ then (λ v u. then (λ b s. finished (moreC v b) s) (operandsOf operations fuel (expand macrosMost operations fuel gas) (treeAt (a .work) rest w) u)) (expandBy operations fuel gas first a r)
+          ≡ then (λ v u. then (λ b s. finished (moreC v b) s) (operandsOf macrosMost operations fuel (expand macrosMost operations fuel gas) (treeAt (a .work) rest w) u)) (expandBy operations fuel gas first a r)
       by-pair gas =
           ap (λ (t : Tree). expandAllBy operations fuel gas t a r) list-is
           ∙ expandAll-pair macrosMost operations fuel (expand macrosMost operations fuel gas) first (treeAt (a .work) rest w) (stateAt a r)

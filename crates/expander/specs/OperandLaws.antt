@@ -2,7 +2,7 @@
 use mathlib.Core.Path.{_≡_, refl}
 use mathlib.Core.List.{List}
 use Prim.Native.Nat.{ℕ, _≤_}
-use Rattle.words.specs.Limits.{coreRate}
+use Rattle.words.specs.Limits.{macrosMost, coreRate}
 use Rattle.datum.specs.Constant.{decimalKind}
 use Rattle.recipe.specs.Tree.{Tree, size}
 use Rattle.expansion.specs.Lookup.{lookup}
@@ -22,7 +22,7 @@ module _ (work core macros : List ℕ) (fuel node w : ℕ) (r : Reached) (placed
   here = treeAt work node w
 
   -- a first turn that is over is the whole expression's
-  over-expands : (operations core′ : List ℕ) (e : Ended) → Ends operations fuel here r (tables work core macros) (tables work core′ macros) e → Expands operations fuel here r (tables work core macros) (tables work core′ macros) e
+  over-expands : (operations core′ : List ℕ) (e : Ended) → Ends macrosMost operations fuel here r (tables work core macros) (tables work core′ macros) e → Expands operations fuel here r (tables work core macros) (tables work core′ macros) e
   over-expands operations core′ e x =
       let a = tables work core macros in
       going-over operations fuel here r a node w r a (going-start operations fuel node w r a ready placed) (tables work core′ macros) e x
@@ -35,10 +35,10 @@ module _ (work core macros : List ℕ) (fuel node w : ℕ) (r : Reached) (placed
         → Expands operations fuel here r (tables work core macros) (tables work core′ macros) e
     name-expands operations is core′ e l =
         over-expands operations core′ e
-        (name-over operations work core macros fuel node w r ready core′ (wordAt work node 2) (referenceAt work node 1) (opens-name work node kind kind-is _ _ is refl refl) e l)
+        (name-over macrosMost operations work core macros fuel node w r ready core′ (wordAt work node 2) (referenceAt work node 1) (opens-name work node kind kind-is _ _ is refl refl) e l)
 
     pub empty-expands : (operations : List ℕ) → kind ≡ 0 → (e : Ended) → Refuses 13 r e → Expands operations fuel here r (tables work core macros) (tables work core macros) e
-    empty-expands operations is e l = over-expands operations core e (empty-over operations work core macros fuel node w r ready (opens-empty work node kind kind-is is) e l)
+    empty-expands operations is e l = over-expands operations core e (empty-over macrosMost operations work core macros fuel node w r ready (opens-empty work node kind kind-is is) e l)
 
     module _ (some : kind ≡ 0 → ⊥) (no-name : kind ≡ 3 → ⊥) (no-pair : kind ≡ 4 → ⊥) (first second : ℕ) (first-is : first ≡ wordAt work node 2) (second-is : second ≡ wordAt work node 1) where
       constant-opens : OpensConstant work node kind first second
@@ -48,4 +48,4 @@ module _ (work core macros : List ℕ) (fuel node w : ℕ) (r : Reached) (placed
       constant-asks = (constant-room work core macros fuel node w r ready placed, constant-kind work (r .top) node w kind first second constant-opens placed)
 
       pub constant-expands : (operations core′ : List ℕ) (e : Ended) → ConstantLeft kind first second r core core′ e → Expands operations fuel here r (tables work core macros) (tables work core′ macros) e
-      constant-expands operations core′ e l = over-expands operations core′ e (constant-over operations work core macros fuel node w r ready core′ kind first second constant-opens e l)
+      constant-expands operations core′ e l = over-expands operations core′ e (constant-over macrosMost operations work core macros fuel node w r ready core′ kind first second constant-opens e l)

@@ -37,7 +37,8 @@ pub fn expand(items: &[u32], fuel: u32, work: &mut [u32], core: &mut [u32]) -> E
     if !layout::fuel_fits(fuel) {
         return refused(8);
     }
-    if !layout::tables_fit(items.len() / 3, fuel, work.len(), core.len()) {
+    let n = items.len() / 3;
+    if !layout::tables_fit(n, n, fuel, work.len(), core.len()) {
         return refused(9);
     }
     let mut operations = [0u16; words::NAMES];

@@ -29,19 +29,19 @@ ordinary-name work node w h =
     (λ t. never h (sym (ordinary-other work node (wordAt work node 3) refl (eqb-false (wordAt work node 3) 3 t) w)))
 
 -- an element that binds as it should has an ordinary name
-pub binds-ordinary : (macros : Bool) (c : Tree) → bindsOne macros c ≡ true → isOrdinaryName (ownName macros c) ≡ true
+pub binds-ordinary : (entries : Bool) (c : Tree) → bindsOne entries c ≡ true → isOrdinaryName (ownName entries c) ≡ true
 unfolding bindsOne ownName isMacro
 binds-ordinary false c h = h
 binds-ordinary true c h = and-right (isListOf 2 c) (isOrdinaryName (element 0 c)) h
 
-module _ (work : List ℕ) (list kind : ℕ) (kind-is : kind ≡ wordAt work list 3) (w : ℕ) (macros : Bool) where
+module _ (work : List ℕ) (list kind : ℕ) (kind-is : kind ≡ wordAt work list 3) (w : ℕ) (entries : Bool) where
   -- the list's tree, and another's under the same wrap
   abbrev at : ℕ → Tree
   at node = treeAt work node w
 
-  pub names-none : (kind ≡ 4 → ⊥) → namesIn macros (at list) ≡ []
+  pub names-none : (kind ≡ 4 → ⊥) → namesIn entries (at list) ≡ []
   unfolding namesIn elements ownNames
-  names-none other = no-pair work list kind kind-is (λ t. namesIn macros t ≡ []) refl (λ x. refl) (λ a. refl) other w
+  names-none other = no-pair work list kind kind-is (λ t. namesIn entries t ≡ []) refl (λ x. refl) (λ a. refl) other w
 
   module _ (a-list : kind ≡ 4) where
     part-falls : (k rest : ℕ) → rest ≡ referenceAt work list k → rest < list
@@ -49,25 +49,25 @@ module _ (work : List ℕ) (list kind : ℕ) (kind-is : kind ≡ wordAt work lis
         let some : 0 < list = wordAt-some work list 3 (omega arith) (λ z. omega (arith, kind-is ∙ z)) in
         rw e (referenceAt-falls work list k some)
 
-    rest-names : AllNames macros (at list) → (rest : ℕ) → rest ≡ referenceAt work list 1 → AllNames macros (at rest)
+    rest-names : AllNames entries (at list) → (rest : ℕ) → rest ≡ referenceAt work list 1 → AllNames entries (at rest)
     unfolding elements
     rest-names h rest e =
-        let g : AllNames macros (pair (at (referenceAt work list 2)) (at (referenceAt work list 1))) = rw (a-pair work list kind kind-is a-list w) at h in
-        rw e (all-parts (bindsOne macros) (at (referenceAt work list 2)) (elements (at (referenceAt work list 1))) g .1)
+        let g : AllNames entries (pair (at (referenceAt work list 2)) (at (referenceAt work list 1))) = rw (a-pair work list kind kind-is a-list w) at h in
+        rw e (all-parts (bindsOne entries) (at (referenceAt work list 2)) (elements (at (referenceAt work list 1))) g .1)
 
-    first-name : AllNames macros (at list) → (first own : ℕ) → first ≡ referenceAt work list 2 → Means work first own (ownName macros) → ownName macros (at first) ≡ name (nameAt work own w)
+    first-name : AllNames entries (at list) → (first own : ℕ) → first ≡ referenceAt work list 2 → Means work first own (ownName entries) → ownName entries (at first) ≡ name (nameAt work own w)
     unfolding elements
     first-name h first own e p =
-        let g : AllNames macros (pair (at (referenceAt work list 2)) (at (referenceAt work list 1))) = rw (a-pair work list kind kind-is a-list w) at h in
-        let b : bindsOne macros (at first) ≡ true = rw e (all-parts (bindsOne macros) (at (referenceAt work list 2)) (elements (at (referenceAt work list 1))) g .0) in
-        sym (p .is w) ∙ ordinary-name work own w (rw (p .is w) (binds-ordinary macros (at first) b))
+        let g : AllNames entries (pair (at (referenceAt work list 2)) (at (referenceAt work list 1))) = rw (a-pair work list kind kind-is a-list w) at h in
+        let b : bindsOne entries (at first) ≡ true = rw e (all-parts (bindsOne entries) (at (referenceAt work list 2)) (elements (at (referenceAt work list 1))) g .0) in
+        sym (p .is w) ∙ ordinary-name work own w (rw (p .is w) (binds-ordinary entries (at first) b))
 
-    names-more : AllNames macros (at list) → (first own rest : ℕ) → first ≡ referenceAt work list 2 → Means work first own (ownName macros) → rest ≡ referenceAt work list 1 → namesIn macros (at list) ≡ nameAt work own w ∷ namesIn macros (at rest)
+    names-more : AllNames entries (at list) → (first own rest : ℕ) → first ≡ referenceAt work list 2 → Means work first own (ownName entries) → rest ≡ referenceAt work list 1 → namesIn entries (at list) ≡ nameAt work own w ∷ namesIn entries (at rest)
     unfolding namesIn elements ownNames names
     names-more h first own rest e p q =
         rw (a-pair work list kind kind-is a-list w, sym e, sym q, first-name h first own e p)
 
-    pub opened : AllNames macros (at list) → (first own rest : ℕ) → first ≡ referenceAt work list 2 → Means work first own (ownName macros) → rest ≡ referenceAt work list 1 → Opened work list w macros own rest
+    pub opened : AllNames entries (at list) → (first own rest : ℕ) → first ≡ referenceAt work list 2 → Means work first own (ownName entries) → rest ≡ referenceAt work list 1 → Opened work list w entries own rest
     opened h first own rest e p q =
         record {
           own-low = omega (arith, p .low, part-falls 2 first e);

@@ -12,22 +12,22 @@ use Rattle.arena.specs.Arena.{wrapAt, nameAt, treeAt}
 use Rattle.forms.specs.Shapes.{ownName, bindsOne}
 
 -- every element binds as it should; shapes tells before
-abbrev pub AllNames : (macros : Bool) → Tree → Type 0
-AllNames macros t = allOf (bindsOne macros) (elements t) ≡ true
+abbrev pub AllNames : (entries : Bool) → Tree → Type 0
+AllNames entries t = allOf (bindsOne entries) (elements t) ≡ true
 
 -- the names that elements bind, from the left
-unfoldable pub ownNames : (macros : Bool) → List Tree → List Name
-ownNames macros [] = []
-ownNames macros (c ∷ cs) = names (ownName macros c) ++ ownNames macros cs
+unfoldable pub ownNames : (entries : Bool) → List Tree → List Name
+ownNames entries [] = []
+ownNames entries (c ∷ cs) = names (ownName entries c) ++ ownNames entries cs
 
-unfoldable pub namesIn : (macros : Bool) → Tree → List Name
-namesIn macros t = ownNames macros (elements t)
+unfoldable pub namesIn : (entries : Bool) → Tree → List Name
+namesIn entries t = ownNames entries (elements t)
 
 -- every tail in it is a list, as in all that a run has at hand
 abbrev pub ListTails : Tree → Type 0
 ListTails = Tidy (λ x. Unit {0}) (λ a. Unit {0})
 
--- a form's kind says what it binds names to
+-- what names are bound to: variables or macros
 unfoldable pub bindsTo : (macros : Bool) → ℕ → Binding
 bindsTo false n = variable n
 bindsTo true n = macro n
@@ -38,11 +38,11 @@ bindNames f k [] x = x
 bindNames f k (y ∷ ys) x = bindNames f (suc k) ys (bindName y (f k) x)
 
 -- what opening a list that binds tells: the name of its first element, and the rest
-pub record Opened (work : List ℕ) (list w : ℕ) (macros : Bool) (own rest : ℕ) : Type 0 where
+pub record Opened (work : List ℕ) (list w : ℕ) (entries : Bool) (own rest : ℕ) : Type 0 where
   pub own-low : own < list
   pub rest-low : rest < list
-  pub names-are : namesIn macros (treeAt work list w) ≡ nameAt work own w ∷ namesIn macros (treeAt work rest w)
-  pub ordinary : AllNames macros (treeAt work rest w)
+  pub names-are : namesIn entries (treeAt work list w) ≡ nameAt work own w ∷ namesIn entries (treeAt work rest w)
+  pub ordinary : AllNames entries (treeAt work rest w)
 
 -- room for binders of names xs: nine words a name, and numbers that fit a word; node and wraps as they should be
 pub record Space (xs : List Name) (work : List ℕ) (node w number parent top : ℕ) : Type 0 where
@@ -61,8 +61,8 @@ pub record Scoped (f : ℕ → Binding) (k : ℕ) (xs : List Name) (parent : ℕ
   pub means : (x : Name) → wrapAt new wrap x ≡ bindNames f k xs (wrapAt old parent x)
 
 -- names are bound up to the node's: where those are bound, all names of the list are
-pub record Scoping (old : List ℕ) (list w : ℕ) (macros : Bool) (number parent top : ℕ) (work : List ℕ) (node n wrap end : ℕ) : Type 0 where
-  pub ordinary : AllNames macros (treeAt work node w)
-  pub space : Space (namesIn macros (treeAt work node w)) work node w n wrap end
-  pub whole : (new : List ℕ) (x y : ℕ) → Scoped (bindsTo macros) n (namesIn macros (treeAt work node w)) wrap work new end x y
-      → Scoped (bindsTo macros) number (namesIn macros (treeAt old list w)) parent old new top x y
+pub record Scoping (old : List ℕ) (list w : ℕ) (entries macros : Bool) (number parent top : ℕ) (work : List ℕ) (node n wrap end : ℕ) : Type 0 where
+  pub ordinary : AllNames entries (treeAt work node w)
+  pub space : Space (namesIn entries (treeAt work node w)) work node w n wrap end
+  pub whole : (new : List ℕ) (x y : ℕ) → Scoped (bindsTo macros) n (namesIn entries (treeAt work node w)) wrap work new end x y
+      → Scoped (bindsTo macros) number (namesIn entries (treeAt old list w)) parent old new top x y

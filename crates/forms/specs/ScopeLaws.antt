@@ -35,9 +35,9 @@ scoped-none f k xs parent old top e h = record { end-is = rw e (omega arith); wr
 
 -- ---- one name more
 
-module _ (old : List ℕ) (list w : ℕ) (macros : Bool) (number parent top own rest : ℕ)
-    (space : Space (namesIn macros (treeAt old list w)) old list w number parent top) (open′ : Opened old list w macros own rest) where
-  count-is : length (namesIn macros (treeAt old list w)) ≡ suc (length (namesIn macros (treeAt old rest w)))
+module _ (old : List ℕ) (list w : ℕ) (entries macros : Bool) (number parent top own rest : ℕ)
+    (space : Space (namesIn entries (treeAt old list w)) old list w number parent top) (open′ : Opened old list w entries own rest) where
+  count-is : length (namesIn entries (treeAt old list w)) ≡ suc (length (namesIn entries (treeAt old rest w)))
   count-is = ap length (open′ .names-are)
 
   pub own-below : own ≤ top
@@ -53,16 +53,16 @@ module _ (old : List ℕ) (list w : ℕ) (macros : Bool) (number parent top own 
     rest-kept : treeAt mid rest w ≡ treeAt old rest w
     rest-kept = tree-kept old mid top rest w (omega (arith, space .node-below, open′ .rest-low)) (space .w-below) (bound .kept)
 
-    more-is : namesIn macros (treeAt old list w) ≡ nameAt old own w ∷ namesIn macros (treeAt mid rest w)
+    more-is : namesIn entries (treeAt old list w) ≡ nameAt old own w ∷ namesIn entries (treeAt mid rest w)
     more-is = rw rest-kept (open′ .names-are)
 
-    more-count : length (namesIn macros (treeAt old list w)) ≡ suc (length (namesIn macros (treeAt mid rest w)))
+    more-count : length (namesIn entries (treeAt old list w)) ≡ suc (length (namesIn entries (treeAt mid rest w)))
     more-count = ap length more-is
 
-    ordinary-next : AllNames macros (treeAt mid rest w)
+    ordinary-next : AllNames entries (treeAt mid rest w)
     ordinary-next = rw rest-kept (open′ .ordinary)
 
-    space-next : length mid ≡ length old → Space (namesIn macros (treeAt mid rest w)) mid rest w (number + 1) next next
+    space-next : length mid ≡ length old → Space (namesIn entries (treeAt mid rest w)) mid rest w (number + 1) next next
     space-next l =
         record {
           fits = omega (arith, space .fits, more-count, bound .end);
@@ -73,8 +73,8 @@ module _ (old : List ℕ) (list w : ℕ) (macros : Bool) (number parent top own 
           parent-below = omega arith;
         }
 
-    scoped-more : (new : List ℕ) (wrap end : ℕ) → Scoped (bindsTo macros) (number + 1) (namesIn macros (treeAt mid rest w)) next mid new next wrap end
-        → Scoped (bindsTo macros) number (namesIn macros (treeAt old list w)) parent old new top wrap end
+    scoped-more : (new : List ℕ) (wrap end : ℕ) → Scoped (bindsTo macros) (number + 1) (namesIn entries (treeAt mid rest w)) next mid new next wrap end
+        → Scoped (bindsTo macros) number (namesIn entries (treeAt old list w)) parent old new top wrap end
     unfolding bindNames
     scoped-more new wrap end s =
         record {
@@ -83,30 +83,30 @@ module _ (old : List ℕ) (list w : ℕ) (macros : Bool) (number parent top own 
           kept = take-less new mid top next (omega (arith, bound .end)) (s .kept) ∙ bound .kept;
           means = λ x.
               s .means x
-              ∙ ap (λ (k : ℕ). bindNames (bindsTo macros) k (namesIn macros (treeAt mid rest w)) (wrapAt mid next x)) (add-one number)
-              ∙ ap (bindNames (bindsTo macros) (suc number) (namesIn macros (treeAt mid rest w))) (bound .means (bindsTo macros number) key-is x)
+              ∙ ap (λ (k : ℕ). bindNames (bindsTo macros) k (namesIn entries (treeAt mid rest w)) (wrapAt mid next x)) (add-one number)
+              ∙ ap (bindNames (bindsTo macros) (suc number) (namesIn entries (treeAt mid rest w))) (bound .means (bindsTo macros number) key-is x)
               ∙ ap (λ (l : List Name). bindNames (bindsTo macros) number l (wrapAt old parent x)) (sym more-is);
         }
 
 -- ---- name after name
 
-module _ (old : List ℕ) (list w : ℕ) (macros : Bool) (number parent top : ℕ) where
-  pub scoping-begins : AllNames macros (treeAt old list w) → Space (namesIn macros (treeAt old list w)) old list w number parent top
-      → Scoping old list w macros number parent top old list number parent top
+module _ (old : List ℕ) (list w : ℕ) (entries macros : Bool) (number parent top : ℕ) where
+  pub scoping-begins : AllNames entries (treeAt old list w) → Space (namesIn entries (treeAt old list w)) old list w number parent top
+      → Scoping old list w entries macros number parent top old list number parent top
   scoping-begins h s = record { ordinary = h; space = s; whole = λ new x y r. r }
 
-  module _ (work : List ℕ) (node n wrap end : ℕ) (inv : Scoping old list w macros number parent top work node n wrap end) where
-    pub scoping-ends : namesIn macros (treeAt work node w) ≡ [] → Scoped (bindsTo macros) number (namesIn macros (treeAt old list w)) parent old work top wrap end
+  module _ (work : List ℕ) (node n wrap end : ℕ) (inv : Scoping old list w entries macros number parent top work node n wrap end) where
+    pub scoping-ends : namesIn entries (treeAt work node w) ≡ [] → Scoped (bindsTo macros) number (namesIn entries (treeAt old list w)) parent old work top wrap end
     scoping-ends e = inv .whole work wrap end (scoped-none (bindsTo macros) n _ wrap work end e (inv .space .parent-below))
 
-    pub scoping-more : (own rest : ℕ) → Opened work node w macros own rest → (key next : ℕ) (mid : List ℕ) → key ≡ bindingKey (some (bindsTo macros n)) → Binds own w key wrap work mid end next → length mid ≡ length work
-        → Scoping old list w macros number parent top mid rest (n + 1) next next
+    pub scoping-more : (own rest : ℕ) → Opened work node w entries own rest → (key next : ℕ) (mid : List ℕ) → key ≡ bindingKey (some (bindsTo macros n)) → Binds own w key wrap work mid end next → length mid ≡ length work
+        → Scoping old list w entries macros number parent top mid rest (n + 1) next next
     scoping-more own rest o key next mid k b l =
         let s = inv .space in
         record {
-          ordinary = ordinary-next work node w macros n wrap end own rest s o key next mid k b;
-          space = space-next work node w macros n wrap end own rest s o key next mid k b l;
-          whole = λ new x y r. inv .whole new x y (scoped-more work node w macros n wrap end own rest s o key next mid k b new x y r);
+          ordinary = ordinary-next work node w entries macros n wrap end own rest s o key next mid k b;
+          space = space-next work node w entries macros n wrap end own rest s o key next mid k b l;
+          whole = λ new x y r. inv .whole new x y (scoped-more work node w entries macros n wrap end own rest s o key next mid k b new x y r);
         }
 
 -- ---- trees
@@ -177,16 +177,16 @@ keywords-are t = first-names (elements (element 1 t))
 
 -- ---- how many they are
 
-own-count : (macros : Bool) (cs : List Tree) → allOf (bindsOne macros) cs ≡ true → length (ownNames macros cs) ≡ length cs
+own-count : (entries : Bool) (cs : List Tree) → allOf (bindsOne entries) cs ≡ true → length (ownNames entries cs) ≡ length cs
 unfolding ownNames
-own-count macros [] h = refl
-own-count macros (c ∷ cs) h =
-    let g = all-parts (bindsOne macros) c cs h in
-    length-append (names (ownName macros c)) (ownNames macros cs) ∙ omega (arith, ordinary-names (ownName macros c) (binds-ordinary macros c (g .0)), own-count macros cs (g .1))
+own-count entries [] h = refl
+own-count entries (c ∷ cs) h =
+    let g = all-parts (bindsOne entries) c cs h in
+    length-append (names (ownName entries c)) (ownNames entries cs) ∙ omega (arith, ordinary-names (ownName entries c) (binds-ordinary entries c (g .0)), own-count entries cs (g .1))
 
-pub names-count : (macros : Bool) (t : Tree) → AllNames macros t → length (namesIn macros t) ≡ length (elements t)
+pub names-count : (entries : Bool) (t : Tree) → AllNames entries t → length (namesIn entries t) ≡ length (elements t)
 unfolding namesIn
-names-count macros t h = own-count macros (elements t) h
+names-count entries t h = own-count entries (elements t) h
 
 module _ (t : Tree) where
   pub formals-count : isLambda t ≡ true → ListTails t → length (formals t) ≡ length (elements (element 1 t))

@@ -17,13 +17,13 @@ use Rattle.forms.specs.Shapes.{ownName, bindsOne, bindsAll}
 
 -- ---- what an element binds
 
-pub own-macro : (work : List ℕ) (node r : ℕ) (macros : Bool) → macros ≡ true → Means work node r (element 0) → Means work node r (ownName macros)
+pub own-macro : (work : List ℕ) (node r : ℕ) (entries : Bool) → entries ≡ true → Means work node r (element 0) → Means work node r (ownName entries)
 unfolding ownName
-own-macro work node r macros e p = rw e (record { low = p .low; is = p .is })
+own-macro work node r entries e p = rw e (record { low = p .low; is = p .is })
 
-pub own-formal : (work : List ℕ) (node : ℕ) (macros : Bool) → macros ≡ false → Means work node node (ownName macros)
+pub own-formal : (work : List ℕ) (node : ℕ) (entries : Bool) → entries ≡ false → Means work node node (ownName entries)
 unfolding ownName
-own-formal work node macros e = rw e (record { low = omega arith; is = λ w. refl })
+own-formal work node entries e = rw e (record { low = omega arith; is = λ w. refl })
 
 module _ (work : List ℕ) (node : ℕ) (listed : Bool) (list-of : Tests (isListOf 2) work node listed) where
   pub macro-shape : listed ≡ false → Tests isMacro work node false
@@ -34,45 +34,45 @@ module _ (work : List ℕ) (node : ℕ) (listed : Bool) (list-of : Tests (isList
   unfolding isMacro
   macro-name e own r p h w = h w ∙ rw (sym (list-of w) ∙ e, p .is w)
 
-pub one-macro : (work : List ℕ) (node : ℕ) (macros r : Bool) → macros ≡ true → Tests isMacro work node r → Tests (bindsOne macros) work node r
+pub one-macro : (work : List ℕ) (node : ℕ) (entries r : Bool) → entries ≡ true → Tests isMacro work node r → Tests (bindsOne entries) work node r
 unfolding bindsOne
-one-macro work node macros r e h = rw e h
+one-macro work node entries r e h = rw e h
 
-pub one-formal : (work : List ℕ) (node : ℕ) (macros r : Bool) → macros ≡ false → Tests isOrdinaryName work node r → Tests (bindsOne macros) work node r
+pub one-formal : (work : List ℕ) (node : ℕ) (entries r : Bool) → entries ≡ false → Tests isOrdinaryName work node r → Tests (bindsOne entries) work node r
 unfolding bindsOne
-one-formal work node macros r e h = rw e h
+one-formal work node entries r e h = rw e h
 
 -- ---- all of a list
 
 -- all of the list bind, at most so many, where all of the node do, at most as many as are left
-abbrev pub AllLeft : (work : List ℕ) (macros : Bool) (list most node left : ℕ) → Type 0
-AllLeft work macros list most node left = (w : ℕ) → bindsAll macros most (treeAt work list w) ≡ bindsAll macros left (treeAt work node w)
+abbrev pub AllLeft : (work : List ℕ) (entries : Bool) (list most node left : ℕ) → Type 0
+AllLeft work entries list most node left = (w : ℕ) → bindsAll entries most (treeAt work list w) ≡ bindsAll entries left (treeAt work node w)
 
-module _ (work : List ℕ) (macros : Bool) (list most node left : ℕ) (inv : AllLeft work macros list most node left) (kind : ℕ) (kind-is : kind ≡ wordAt work node 3) where
-  pub all-none : (kind ≡ 4 → ⊥) → Tests (bindsAll macros most) work list true
+module _ (work : List ℕ) (entries : Bool) (list most node left : ℕ) (inv : AllLeft work entries list most node left) (kind : ℕ) (kind-is : kind ≡ wordAt work node 3) where
+  pub all-none : (kind ≡ 4 → ⊥) → Tests (bindsAll entries most) work list true
   unfolding bindsAll elements allOf
   all-none other w =
       let none : true ≡ leb 0 left = sym (leb·zero left) in
-      no-pair work node kind kind-is (λ t. true ≡ bindsAll macros left t) none (λ x. none) (λ a. none) other w ∙ sym (inv w)
+      no-pair work node kind kind-is (λ t. true ≡ bindsAll entries left t) none (λ x. none) (λ a. none) other w ∙ sym (inv w)
 
   module _ (a-list : kind ≡ 4) where
-    pub all-over : left ≡ 0 → Tests (bindsAll macros most) work list false
+    pub all-over : left ≡ 0 → Tests (bindsAll entries most) work list false
     unfolding bindsAll elements
     all-over z w =
         let h = treeAt work (referenceAt work node 2) w in
         let t = treeAt work (referenceAt work node 1) w in
-        sym (inv w ∙ rw (a-pair work node kind kind-is a-list w, z, leb·suc-zero (length (elements t))) (and-false (allOf (bindsOne macros) (elements (pair h t)))))
+        sym (inv w ∙ rw (a-pair work node kind kind-is a-list w, z, leb·suc-zero (length (elements t))) (and-false (allOf (bindsOne entries) (elements (pair h t)))))
 
-    module _ (first : ℕ) (r : Bool) (first-is : first ≡ referenceAt work node 2) (binds : Tests (bindsOne macros) work first r) where
-      pub all-first : r ≡ false → Tests (bindsAll macros most) work list false
+    module _ (first : ℕ) (r : Bool) (first-is : first ≡ referenceAt work node 2) (binds : Tests (bindsOne entries) work first r) where
+      pub all-first : r ≡ false → Tests (bindsAll entries most) work list false
       unfolding bindsAll elements allOf
       all-first e w = sym (inv w ∙ rw (a-pair work node kind kind-is a-list w, ← first-is, ← binds w, e) refl)
 
-      pub all-later : (rest : ℕ) → r ≡ true → (left ≡ 0 → ⊥) → rest ≡ referenceAt work node 1 → AllLeft work macros list most rest (left - 1)
+      pub all-later : (rest : ℕ) → r ≡ true → (left ≡ 0 → ⊥) → rest ≡ referenceAt work node 1 → AllLeft work entries list most rest (left - 1)
       unfolding bindsAll elements allOf
       all-later rest e z l w =
           let n : ℕ = length (elements (treeAt work rest w)) in
-          inv w ∙ rw (a-pair work node kind kind-is a-list w, ← first-is, ← binds w, e, ← l) (ap (λ (b : Bool). allOf (bindsOne macros) (elements (treeAt work rest w)) && b) (one-less n left z))
+          inv w ∙ rw (a-pair work node kind kind-is a-list w, ← first-is, ← binds w, e, ← l) (ap (λ (b : Bool). allOf (bindsOne entries) (elements (treeAt work rest w)) && b) (one-less n left z))
         where
           one-less : (n k : ℕ) → (k ≡ 0 → ⊥) → leb (suc n) k ≡ leb n (k - 1)
           one-less n zero h = absurd (h refl)

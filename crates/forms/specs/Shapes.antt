@@ -8,13 +8,13 @@ use Rattle.recipe.specs.Tree.{Tree, isOrdinaryName, elements, element}
 use Rattle.expansion.specs.Forms.{isMacro}
 
 -- the name that an element binds
-unfoldable pub ownName : (macros : Bool) → Tree → Tree
+unfoldable pub ownName : (entries : Bool) → Tree → Tree
 ownName false c = c
 ownName true c = element 0 c
 
-unfoldable pub bindsOne : (macros : Bool) → Tree → Bool
+unfoldable pub bindsOne : (entries : Bool) → Tree → Bool
 bindsOne false c = isOrdinaryName c
 bindsOne true c = isMacro c
 
-unfoldable pub bindsAll : (macros : Bool) (most : ℕ) → Tree → Bool
-bindsAll macros most t = allOf (bindsOne macros) (elements t) && leb (length (elements t)) most
+unfoldable pub bindsAll : (entries : Bool) (most : ℕ) → Tree → Bool
+bindsAll entries most t = allOf (bindsOne entries) (elements t) && leb (length (elements t)) most

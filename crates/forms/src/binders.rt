@@ -1,5 +1,5 @@
-// Names that a form binds: whether no two are the same (ground 14), and their binders. `macros` says which kind of form
-// binds, as in shapes.
+// Names that a form binds: whether no two are the same (ground 14), and their binders. `entries` says what the list has, as
+// in shapes; `macros` what the names are bound to, macros or variables.
 
 ghost use mathlib.Core.Path.{_≡_};
 ghost use mathlib.Core.Bool.{true, false};
@@ -20,15 +20,15 @@ use arena::lists;
 use resolution::names;
 
 // Whether a name is the same as one that the list binds.
-fn is_among(work: &[u32], node: u32, list: u32, w: u32, macros: bool) -> bool
-    requires { ⌜ AllNames macros (treeAt (now work) list w) ⌝ }
-    ensures { λ r. ⌜ r ≡ anyOf (same (nameAt (now (work .entry)) node w)) (namesIn macros (treeAt (now (work .entry)) list w)) ⌝ }
+fn is_among(work: &[u32], node: u32, list: u32, wrap: u32, entries: bool) -> bool
+    requires { ⌜ AllNames entries (treeAt (now work) list wrap) ⌝ }
+    ensures { λ r. ⌜ r ≡ anyOf (same (nameAt (now (work .entry)) node wrap)) (namesIn entries (treeAt (now (work .entry)) list wrap)) ⌝ }
 {
     let mut at = list;
     while cells::word(work, at, cells::KIND) == cells::PAIR {
         let first = cells::reference(work, at, cells::HEAD);
-        let own = shapes::own_name(work, first, macros);
-        if names::same_names(work, node, w, own, w) {
+        let own = shapes::own_name(work, first, entries);
+        if names::same_names(work, node, wrap, own, wrap) {
             return true;
         }
         at = cells::reference(work, at, cells::TAIL);
@@ -37,16 +37,16 @@ fn is_among(work: &[u32], node: u32, list: u32, w: u32, macros: bool) -> bool
 }
 
 // Whether no two of the names that a list binds are the same.
-fn are_distinct(work: &[u32], list: u32, w: u32, macros: bool) -> bool
-    requires { ⌜ AllNames macros (treeAt (now work) list w) ⌝ }
-    ensures { λ r. ⌜ r ≡ distinct (namesIn macros (treeAt (now (work .entry)) list w)) ⌝ }
+fn are_distinct(work: &[u32], list: u32, wrap: u32, entries: bool) -> bool
+    requires { ⌜ AllNames entries (treeAt (now work) list wrap) ⌝ }
+    ensures { λ r. ⌜ r ≡ distinct (namesIn entries (treeAt (now (work .entry)) list wrap)) ⌝ }
 {
     let mut at = list;
     while cells::word(work, at, cells::KIND) == cells::PAIR {
         let first = cells::reference(work, at, cells::HEAD);
-        let own = shapes::own_name(work, first, macros);
+        let own = shapes::own_name(work, first, entries);
         at = cells::reference(work, at, cells::TAIL);
-        if is_among(work, own, at, w, macros) {
+        if is_among(work, own, at, wrap, entries) {
             return false;
         }
     }
@@ -54,21 +54,21 @@ fn are_distinct(work: &[u32], list: u32, w: u32, macros: bool) -> bool
 }
 
 // No two names of a lambda are the same.
-pub fn formals_distinct(work: &[u32], node: u32, w: u32) -> bool
-    requires { ⌜ (isLambda (treeAt (now work) node w) ≡ true) × (ListTails (treeAt (now work) node w)) ⌝ }
-    ensures { λ r. ⌜ r ≡ distinct (formals (treeAt (now (work .entry)) node w)) ⌝ }
+pub fn formals_distinct(work: &[u32], node: u32, wrap: u32) -> bool
+    requires { ⌜ (isLambda (treeAt (now work) node wrap) ≡ true) × (ListTails (treeAt (now work) node wrap)) ⌝ }
+    ensures { λ r. ⌜ r ≡ distinct (formals (treeAt (now (work .entry)) node wrap)) ⌝ }
 {
     let list = lists::element(work, node, 1);
-    are_distinct(work, list, w, false)
+    are_distinct(work, list, wrap, false)
 }
 
 // No two names of macros are the same.
-pub fn keywords_distinct(work: &[u32], node: u32, w: u32) -> bool
-    requires { ⌜ AllNames true (element 1 (treeAt (now work) node w)) ⌝ }
-    ensures { λ r. ⌜ r ≡ distinct (keywords (treeAt (now (work .entry)) node w)) ⌝ }
+pub fn keywords_distinct(work: &[u32], node: u32, wrap: u32) -> bool
+    requires { ⌜ AllNames true (element 1 (treeAt (now work) node wrap)) ⌝ }
+    ensures { λ r. ⌜ r ≡ distinct (keywords (treeAt (now (work .entry)) node wrap)) ⌝ }
 {
     let list = lists::element(work, node, 1);
-    are_distinct(work, list, w, true)
+    are_distinct(work, list, wrap, true)
 }
 
 // The key of variable or macro n.
@@ -89,54 +89,55 @@ pub struct Scope {
 }
 
 // A binder for each name that the list binds, numbered from `number`, after what `parent` means. Each own name is resolved
-// under w, the wrap that waits on the form.
+// under `wrap`, which waits on the form.
 fn bind_names(
     work: &mut [u32],
     list: u32,
-    w: u32,
+    wrap: u32,
+    entries: bool,
     macros: bool,
     number: u32,
     parent: u32,
     top: u32,
 ) -> Scope
-    requires { ⌜ (AllNames macros (treeAt (now work) list w)) × (Space (namesIn macros (treeAt (now work) list w)) (now work) list w number parent top) ⌝ }
-    ensures { λ r. ⌜ Scoped (bindsTo macros) number (namesIn macros (treeAt (now (work .entry)) list w)) parent (now (work .entry)) (now (work .exit)) top (r .wrap) (r .top) ⌝ }
+    requires { ⌜ (AllNames entries (treeAt (now work) list wrap)) × (Space (namesIn entries (treeAt (now work) list wrap)) (now work) list wrap number parent top) ⌝ }
+    ensures { λ r. ⌜ Scoped (bindsTo macros) number (namesIn entries (treeAt (now (work .entry)) list wrap)) parent (now (work .entry)) (now (work .exit)) top (r .wrap) (r .top) ⌝ }
 {
     let mut at = list;
     let mut n = number;
-    let mut wrap = parent;
+    let mut scope = parent;
     let mut end = top;
     while cells::word(work, at, cells::KIND) == cells::PAIR {
         let first = cells::reference(work, at, cells::HEAD);
-        let own = shapes::own_name(work, first, macros);
+        let own = shapes::own_name(work, first, entries);
         at = cells::reference(work, at, cells::TAIL);
         let key = key_of(macros, n);
-        wrap = names::bind(work, end, own, w, key, wrap);
-        end = wrap;
+        scope = names::bind(work, end, own, wrap, key, scope);
+        end = scope;
         n += 1;
     }
     Scope {
-        wrap: wrap,
+        wrap: scope,
         top: end,
     }
 }
 
 // Binders for a lambda's names, variables from `first`.
-pub fn bind_formals(work: &mut [u32], node: u32, w: u32, first: u32, top: u32) -> Scope
-    requires { ⌜ (isLambda (treeAt (now work) node w) ≡ true) × (ListTails (treeAt (now work) node w)) × (Space (formals (treeAt (now work) node w)) (now work) node w first w top) ⌝ }
-    ensures { λ r. ⌜ Scoped variable first (formals (treeAt (now (work .entry)) node w)) w (now (work .entry)) (now (work .exit)) top (r .wrap) (r .top) ⌝ }
+pub fn bind_formals(work: &mut [u32], node: u32, wrap: u32, first: u32, top: u32) -> Scope
+    requires { ⌜ (isLambda (treeAt (now work) node wrap) ≡ true) × (ListTails (treeAt (now work) node wrap)) × (Space (formals (treeAt (now work) node wrap)) (now work) node wrap first wrap top) ⌝ }
+    ensures { λ r. ⌜ Scoped variable first (formals (treeAt (now (work .entry)) node wrap)) wrap (now (work .entry)) (now (work .exit)) top (r .wrap) (r .top) ⌝ }
 {
     let list = lists::element(work, node, 1);
-    bind_names(work, list, w, false, first, w, top)
+    bind_names(work, list, wrap, false, false, first, wrap, top)
 }
 
 // Binders for the names of macros, numbered from `first`.
-pub fn bind_macros(work: &mut [u32], node: u32, w: u32, first: u32, top: u32) -> Scope
-    requires { ⌜ (AllNames true (element 1 (treeAt (now work) node w))) × (Space (keywords (treeAt (now work) node w)) (now work) node w first w top) ⌝ }
-    ensures { λ r. ⌜ Scoped macro first (keywords (treeAt (now (work .entry)) node w)) w (now (work .entry)) (now (work .exit)) top (r .wrap) (r .top) ⌝ }
+pub fn bind_macros(work: &mut [u32], node: u32, wrap: u32, first: u32, top: u32) -> Scope
+    requires { ⌜ (AllNames true (element 1 (treeAt (now work) node wrap))) × (Space (keywords (treeAt (now work) node wrap)) (now work) node wrap first wrap top) ⌝ }
+    ensures { λ r. ⌜ Scoped macro first (keywords (treeAt (now (work .entry)) node wrap)) wrap (now (work .entry)) (now (work .exit)) top (r .wrap) (r .top) ⌝ }
 {
     let list = lists::element(work, node, 1);
-    bind_names(work, list, w, true, first, w, top)
+    bind_names(work, list, wrap, true, true, first, wrap, top)
 }
 
 // The numbers of the names that a lambda's list binds, into the core table from `at`; answers where the next word stands.

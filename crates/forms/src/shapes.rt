@@ -1,5 +1,5 @@
-// Shapes of forms (ground 13). `macros` says which kind of form binds: a lambda's list has names, a let-syntax's and a
-// letrec-syntax's has (name rules).
+// Shapes of forms (ground 13). `entries` says what a list that binds has: names, as a lambda's, or (name rules), as a
+// let-syntax's and a letrec-syntax's.
 
 ghost use Rattle.expansion.specs.Forms.{isLambda, isMacro, isMacros};
 ghost use Rattle.arena.specs.Lists.{Means, Tests};
@@ -9,10 +9,10 @@ use arena::lists;
 use resolution::names;
 
 // The node of the name that an element binds.
-pub fn own_name(work: &[u32], node: u32, macros: bool) -> u32
-    ensures { λ r. ⌜ Means (now (work .entry)) node r (ownName macros) ⌝ }
+pub(crate) fn own_name(work: &[u32], node: u32, entries: bool) -> u32
+    ensures { λ r. ⌜ Means (now (work .entry)) node r (ownName entries) ⌝ }
 {
-    if macros {
+    if entries {
         return lists::element(work, node, 0);
     }
     node
@@ -30,18 +30,18 @@ fn is_macro(work: &[u32], node: u32) -> bool
 }
 
 // Whether an element of the list binds as it should.
-fn binds_one(work: &[u32], node: u32, macros: bool) -> bool
-    ensures { λ r. ⌜ Tests (bindsOne macros) (now (work .entry)) node r ⌝ }
+fn binds_one(work: &[u32], node: u32, entries: bool) -> bool
+    ensures { λ r. ⌜ Tests (bindsOne entries) (now (work .entry)) node r ⌝ }
 {
-    if macros {
+    if entries {
         return is_macro(work, node);
     }
     names::is_ordinary(work, node)
 }
 
 // Whether all elements of a list do, and are at most so many.
-fn binds_all(work: &[u32], list: u32, macros: bool, most: u32) -> bool
-    ensures { λ r. ⌜ Tests (bindsAll macros most) (now (work .entry)) list r ⌝ }
+fn binds_all(work: &[u32], list: u32, entries: bool, most: u32) -> bool
+    ensures { λ r. ⌜ Tests (bindsAll entries most) (now (work .entry)) list r ⌝ }
 {
     let mut node = list;
     let mut left = most;
@@ -50,7 +50,7 @@ fn binds_all(work: &[u32], list: u32, macros: bool, most: u32) -> bool
             return false;
         }
         let first = cells::reference(work, node, cells::HEAD);
-        if !binds_one(work, first, macros) {
+        if !binds_one(work, first, entries) {
             return false;
         }
         node = cells::reference(work, node, cells::TAIL);

@@ -4,7 +4,7 @@ pub mod Counts
 pub mod Begins
 pub mod Ground7
 pub mod Places
-pub mod Operations
-pub mod OperationItems
+pub mod DistinctNames
+pub mod NameItems
 pub mod Walk
 pub mod Listing

@@ -1,4 +1,4 @@
--- The walk through the items of the operations: the invariant of `operations`, and one law for each way through its loop.
+-- The walk through the items of a list of distinct names: the invariant of `distinct_names`, and one law for each way through its loop.
 use mathlib.Core.Path.{_≡_, refl, sym, ap, subst, _∙_}
 use mathlib.Core.Bool.{Bool, true, false}
 use mathlib.Core.List.{List, []}
@@ -16,8 +16,8 @@ use Rattle.recipe.specs.Layout.{isListKind, PairItem, Layout, layoutPair, empty
 use Rattle.expansion.specs.Run.{operationNumbers, areOperations}
 use Rattle.layout.specs.Begins.{list-kind}
 use Rattle.layout.specs.Places.{Places, numbers}
-use Rattle.layout.specs.Operations.{operationNumber, areNames, areOperations-first, Walked, walked-start, walked-end, walked-places, walked-bad, walked-full, walked-twice, walked-more}
-use Rattle.layout.specs.OperationItems.{OperationItem, number-item}
+use Rattle.layout.specs.DistinctNames.{isFit, areNames, passes, areOperations-first, Walked, walked-start, walked-end, walked-places, walked-bad, walked-full, walked-twice, walked-more}
+use Rattle.layout.specs.NameItems.{FitItem, fit-item}
 
 -- item i of a table past ground 7 begins a list
 pub record ListItem (ws : List ℕ) (i : ℕ) : Type 0 where
@@ -25,11 +25,11 @@ pub record ListItem (ws : List ℕ) (i : ℕ) : Type 0 where
   pub below : i < itemCount ws
   pub listKind : isListKind (kindAt ws i) ≡ true
 
--- item i begins what is left of the list of operations, of which `place` were passed
-pub record Walking (ws places : List ℕ) (i place : ℕ) : Type 0 where
+-- item i begins what is left of the list that item `first` begins, of which `place` names were passed
+pub record Walking (fit : ℕ → Bool) (most : ℕ) (ws : List ℕ) (first : ℕ) (places : List ℕ) (i place : ℕ) : Type 0 where
   pub item : ListItem ws i
   pub long : length places ≡ namesMost
-  pub walked : Walked (treeFrom ws (headAt ws 0)) (treeFrom ws i) places place
+  pub walked : Walked fit most (treeFrom ws first) (treeFrom ws i) places place
 
 -- an item's three words are in the table
 pub item-words : {ws : List ℕ} (i : ℕ) → Layout ws → i < itemCount ws → 3 * i + 2 < length ws
@@ -39,13 +39,17 @@ item-words i l h = omega (arith, l .long)
 pub first-item : {ws : List ℕ} → Layout ws → ListItem ws (headAt ws 0)
 first-item {ws} l = let r = root ws l in record { table = l; below = r .below; listKind = r .listKind }
 
-pub walk-start : {ws : List ℕ} (places : List ℕ) (i : ℕ) → Layout ws → i ≡ headAt ws 0 → length places ≡ namesMost → Places places [] → Walking ws places i 0
-walk-start {ws} places i l e long h =
-    rw e (record { item = first-item l; long = long; walked = walked-start (treeFrom ws (headAt ws 0)) places h })
+pub walk-start : (fit : ℕ → Bool) (most : ℕ) {ws : List ℕ} {first : ℕ} (places : List ℕ) → ListItem ws first → length places ≡ namesMost → Places places [] → Walking fit most ws first places first 0
+walk-start fit most {ws} {first} places l long h = record { item = l; long = long; walked = walked-start fit most (treeFrom ws first) places h }
 
 -- ground 10 is that of the first element's item
-pub by-first : {ws : List ℕ} → Layout ws → areOperations (treeOf ws) ≡ areNames (treeFrom ws (headAt ws 0))
-by-first {ws} l = areOperations-first (treeOf ws) ∙ ap areNames (root ws l .element0)
+module _ {ws : List ℕ} (l : Layout ws) where
+  pub by-first : areOperations (treeOf ws) ≡ areNames (passes 0) operationsMost (treeFrom ws (headAt ws 0))
+  by-first = areOperations-first (treeOf ws) ∙ ap (areNames (passes 0) operationsMost) (root ws l .element0)
+
+  pub places-first : (places : List ℕ) → Places places (numbers (names (treeFrom ws (headAt ws 0)))) → Places places (operationNumbers (treeOf ws))
+  unfolding operationNumbers numbers
+  places-first places h = subst (λ (t : Tree). Places places (numbers (names t))) (sym (root ws l .element0)) h
 
 -- ---- the test of the loop
 
@@ -71,60 +75,57 @@ module _ {ws : List ℕ} {i : ℕ} (l : ListItem ws i) where
   pub next-item : kindAt ws i ≡ 4 → ListItem ws (tailAt ws i)
   next-item k = let p = pair-here k in record { table = l .table; below = p .tailBelow; listKind = p .tailKind }
 
-module _ {ws places : List ℕ} {i place : ℕ} (w : Walking ws places i place) where
-  pub walk-end : (kindAt ws i ≡ 4 → ⊥) → areOperations (treeOf ws) ≡ true
-  walk-end k = by-first (w .item .table) ∙ walked-end (treeFrom ws (headAt ws 0)) (treeFrom ws i) places place (w .walked) (ends (w .item) k)
+module _ {fit : ℕ → Bool} {most : ℕ} {ws : List ℕ} {first : ℕ} {places : List ℕ} {i place : ℕ} (w : Walking fit most ws first places i place) where
+  abbrev whole : Tree
+  whole = treeFrom ws first
 
-  pub walk-places : (kindAt ws i ≡ 4 → ⊥) → Places places (operationNumbers (treeOf ws))
-  unfolding operationNumbers numbers
-  walk-places k =
-      subst (λ (t : Tree). Places places (numbers (names t))) (sym (root ws (w .item .table) .element0))
-      (walked-places (treeFrom ws (headAt ws 0)) (treeFrom ws i) places place (w .walked) (ends (w .item) k))
+  abbrev rest : Tree
+  rest = treeFrom ws i
 
--- ---- a turn, once the next element's number is known to be n
+  pub walk-end : (kindAt ws i ≡ 4 → ⊥) → areNames fit most whole ≡ true
+  walk-end k = walked-end fit most whole rest places place (w .walked) (ends (w .item) k)
 
-pub record Turn (ws places : List ℕ) (i place n : ℕ) : Type 0 where
-  pub walking : Walking ws places i place
-  pub kind : kindAt ws i ≡ 4
-  pub number : n ≡ operationNumber (treeFrom ws (headAt ws i))
-  pub below : n < namesMost
+  pub walk-places : (kindAt ws i ≡ 4 → ⊥) → Places places (numbers (names whole))
+  walk-places k = walked-places fit most whole rest places place (w .walked) (ends (w .item) k)
 
-module _ {ws places : List ℕ} {i place n : ℕ} (t : Turn ws places i place n) where
-  here : treeFrom ws i ≡ pair (treeFrom ws (headAt ws i)) (treeFrom ws (tailAt ws i))
-  here = tree-here (t .walking .item) (t .kind)
+  -- ---- a turn, by the item of the next element
 
-  pub turn-bad : n ≡ 0 → areOperations (treeOf ws) ≡ false
-  turn-bad z =
-      by-first (t .walking .item .table)
-      ∙ walked-bad (treeFrom ws (headAt ws 0)) (treeFrom ws i) places place (t .walking .walked) (treeFrom ws (headAt ws i)) (treeFrom ws (tailAt ws i)) here (sym (t .number) ∙ z)
+  module _ (kind : kindAt ws i ≡ 4) (item : ℕ) (item-is : item ≡ headAt ws i) where
+    pub turn-item : item < itemCount ws
+    turn-item = omega (arith, item-is, pair-here (w .item) kind .headBelow)
 
-  -- the place of name n is in the table of places
-  pub turn-place : n < length places
-  turn-place = omega (arith, t .below, t .walking .long)
+    here : rest ≡ pair (treeFrom ws item) (treeFrom ws (tailAt ws i))
+    here = rw item-is (tree-here (w .item) kind)
 
-  module _ (z : n ≡ 0 → ⊥) where
-    found : OperationItem ws (headAt ws i) n
-    found = number-item ws (t .walking .item .table) (headAt ws i) (pair-here (t .walking .item) (t .kind) .headBelow) n (t .number) z
+    pub turn-bad : isFit fit (treeFrom ws item) ≡ false → areNames fit most whole ≡ false
+    turn-bad z = walked-bad fit most whole rest places place (w .walked) (treeFrom ws item) (treeFrom ws (tailAt ws i)) here z
 
-    next : treeFrom ws i ≡ pair (name (plainName n (headAt ws i))) (treeFrom ws (tailAt ws i))
-    next = here ∙ ap (λ (x : Tree). pair x (treeFrom ws (tailAt ws i))) (found .tree)
+    module _ (good : isFit fit (treeFrom ws item) ≡ true) where
+      found : FitItem fit ws item
+      found = fit-item ws (w .item .table) item turn-item fit good
 
-    pub turn-full : place ≡ operationsMost → areOperations (treeOf ws) ≡ false
-    turn-full p =
-        by-first (t .walking .item .table)
-        ∙ walked-full (treeFrom ws (headAt ws 0)) (treeFrom ws i) places place (t .walking .walked) n (headAt ws i) (treeFrom ws (tailAt ws i)) next p
+      next : rest ≡ pair (name (plainName (headAt ws item) item)) (treeFrom ws (tailAt ws i))
+      next = here ∙ ap (λ (x : Tree). pair x (treeFrom ws (tailAt ws i))) (found .tree)
 
-    pub turn-twice : (getD places n 0 ≡ 0 → ⊥) → areOperations (treeOf ws) ≡ false
-    turn-twice q =
-        by-first (t .walking .item .table)
-        ∙ walked-twice (treeFrom ws (headAt ws 0)) (treeFrom ws i) places place (t .walking .walked) n (headAt ws i) (treeFrom ws (tailAt ws i)) next (t .below) q
+      pub turn-full : place ≡ most → areNames fit most whole ≡ false
+      turn-full p = walked-full fit most whole rest places place (w .walked) (headAt ws item) item (treeFrom ws (tailAt ws i)) next p
 
-    pub turn-more : (j : ℕ) → (place ≡ operationsMost → ⊥) → getD places n 0 ≡ 0 → j ≡ tailAt ws i → Walking ws (set places n (place + 1)) j (place + 1)
-    turn-more j p q e =
-        let w = t .walking in
-        let few : place < operationsMost = omega (arith, w .walked .few) in
-        rw e (record {
-          item = next-item (w .item) (t .kind);
-          long = length-set places n (place + 1) ∙ w .long;
-          walked = walked-more (treeFrom ws (headAt ws 0)) (treeFrom ws i) places place (w .walked) n (headAt ws i) (treeFrom ws (tailAt ws i)) next (t .below) (found .above) few (w .long) q;
-        })
+      module _ (n : ℕ) (n-is : n ≡ headAt ws item) where
+        -- the place of name n is in the table of places
+        pub turn-place : n < length places
+        turn-place = omega (arith, n-is, found .below, w .long)
+
+        pub turn-twice : (getD places n 0 ≡ 0 → ⊥) → areNames fit most whole ≡ false
+        turn-twice q =
+            walked-twice fit most whole rest places place (w .walked) (headAt ws item) item (treeFrom ws (tailAt ws i)) next (found .below)
+            (λ z. q (ap (λ (m : ℕ). getD places m 0) n-is ∙ z))
+
+        pub turn-more : (j : ℕ) → (place ≡ most → ⊥) → getD places n 0 ≡ 0 → j ≡ tailAt ws i → Walking fit most ws first (set places n (place + 1)) j (place + 1)
+        turn-more j p q e =
+            let few : place < most = omega (arith, w .walked .few) in
+            let z : getD places (headAt ws item) 0 ≡ 0 = ap (λ (m : ℕ). getD places m 0) (sym n-is) ∙ q in
+            rw (e, n-is) (record {
+              item = next-item (w .item) kind;
+              long = length-set places (headAt ws item) (place + 1) ∙ w .long;
+              walked = walked-more fit most whole rest places place (w .walked) (headAt ws item) item (treeFrom ws (tailAt ws i)) next (found .below) (found .good) few (w .long) z;
+            })

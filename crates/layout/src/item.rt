@@ -63,7 +63,7 @@ pub fn is_list_kind(k: u32) -> bool
 }
 
 // A pair's references point to higher items of the n, and its tail is a list.
-pub fn is_pair(table: &[u32], n: usize, i: usize) -> bool
+pub(crate) fn is_pair(table: &[u32], n: usize, i: usize) -> bool
     requires { ⌜ (length (now table) ≡ 3 * n) × (i < n) ⌝ }
     ensures { λ r. ⌜ r ≡ isPairItem (now (table .entry)) n (itemAt (now (table .entry)) i) ⌝ }
 {
@@ -95,7 +95,7 @@ fn are_places(n: usize) -> bool
 }
 
 // Item i, which is no pair, has the words of its kind, unused ones 0.
-pub fn is_leaf(table: &[u32], i: usize) -> bool
+pub(crate) fn is_leaf(table: &[u32], i: usize) -> bool
     requires { ⌜ (3 * i + 2 < length (now table)) × (kindAt (now table) i ≡ 4 → ⊥) ⌝ }
     ensures { λ r. ⌜ ((n : ℕ) → r ≡ isItem (now (table .entry)) n (itemAt (now (table .entry)) i)) ⌝ }
 {

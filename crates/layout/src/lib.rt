@@ -1,5 +1,6 @@
 // The tests that expansion makes before it runs: ground 7 (the layout of the item table), 8 and 9 (fuel and lent
 // tables) and 10 (the operations). None of them reads or writes the lent work and core tables.
+mod distinct;
 pub mod item;
 pub mod operation;
 mod reference;
@@ -73,9 +74,9 @@ fn has_room(rate: usize, n: usize, fuel: u32, length: usize) -> bool
     fuel as usize <= most - n
 }
 
-// Ground 9 of n items and lent tables of these lengths.
-pub fn tables_fit(n: usize, fuel: u32, work: usize, core: usize) -> bool
-    ensures { λ r. ⌜ r ≡ (leb (workRate * (n + fuel)) work && leb (coreRate * (n + fuel)) core) ⌝ }
+// Ground 9: a lent work table for n items, a lent core table for m.
+pub fn tables_fit(n: usize, m: usize, fuel: u32, work: usize, core: usize) -> bool
+    ensures { λ r. ⌜ r ≡ (leb (workRate * (n + fuel)) work && leb (coreRate * (m + fuel)) core) ⌝ }
 {
-    has_room(words::WORK_RATE, n, fuel, work) && has_room(words::CORE_RATE, n, fuel, core)
+    has_room(words::WORK_RATE, n, fuel, work) && has_room(words::CORE_RATE, m, fuel, core)
 }

@@ -37,11 +37,11 @@ pub record FormRoom (work core macros : List ℕ) (node w : ℕ) (r : Reached) :
   pub binds : Roomy work core node w r
   pub reads : MacroRoom work macros node w r
 
--- a turn, whatever the operations and the fuel
-abbrev pub Turns : (tree : Tree) (r : Reached) (before after : Tables) → Turn → Type 0
-Turns tree r before after a = (operations : List ℕ) (fuel : ℕ) → Ready fuel (size tree) r before → Turned operations fuel tree r before after a
+-- a turn, whatever the operations and the fuel; `limit` is that of macros in the form at hand
+abbrev pub Turns : (limit : ℕ) (tree : Tree) (r : Reached) (before after : Tables) → Turn → Type 0
+Turns limit tree r before after a = (operations : List ℕ) (fuel : ℕ) → Ready fuel (size tree) r before → Turned limit operations fuel tree r before after a
 
 -- a turn of an application whose head is no name, whatever waits on it
-abbrev pub Applies : (work : List ℕ) (node tail w : ℕ) (r : Reached) (core core′ : List ℕ) → Turn → Type 0
-Applies work node tail w r core core′ a =
-    (macros : List ℕ) → Placed work (r .top) node w → OtherHead work node tail w → Turns (treeAt work node w) r (tables work core macros) (tables work core′ macros) a
+abbrev pub Applies : (limit : ℕ) (work : List ℕ) (node tail w : ℕ) (r : Reached) (core core′ : List ℕ) → Turn → Type 0
+Applies limit work node tail w r core core′ a =
+    (macros : List ℕ) → Placed work (r .top) node w → OtherHead work node tail w → Turns limit (treeAt work node w) r (tables work core macros) (tables work core′ macros) a

@@ -6,7 +6,7 @@ use Prim.Native.Nat.{ℕ, zero, suc, _*_, _≤_}
 use native.Mathlib.Omega.{arith}
 use lib.ListN.{length}
 use borrow.Author.Tests.{eqb-true}
-use Rattle.words.specs.Limits.{macrosMost, coreRate}
+use Rattle.words.specs.Limits.{coreRate}
 use Rattle.datum.specs.Constant.{Constant, decimalKind}
 use Rattle.datum.specs.ConstantLaws.{kind-most}
 use Rattle.recipe.specs.Name.{Name}
@@ -65,23 +65,23 @@ leaf-more E m n r core core′ (Refused g k s) h l = l
 two-words : (t : Tree) → (2 ≤ coreRate * size t) × (coreRate ≤ coreRate * size t)
 two-words t = (omega (arith, size-positive t), omega (arith, size-positive t))
 
-module _ (operations : List ℕ) (work core macros : List ℕ) (fuel node w : ℕ) (r : Reached) (ready : Ready fuel (size (treeAt work node w)) r (tables work core macros)) where
-  pub empty-over : Opens work node Empty → (a : Ended) → Refuses 13 r a → Ends operations fuel (treeAt work node w) r (tables work core macros) (tables work core macros) a
-  empty-over o a e = refused-ends operations fuel (treeAt work node w) r (tables work core macros) (tables work core macros) 13 (λ expand s. rw (o w) (empty-turn operations fuel expand s)) a e
+module _ (limit : ℕ) (operations : List ℕ) (work core macros : List ℕ) (fuel node w : ℕ) (r : Reached) (ready : Ready fuel (size (treeAt work node w)) r (tables work core macros)) where
+  pub empty-over : Opens work node Empty → (a : Ended) → Refuses 13 r a → Ends limit operations fuel (treeAt work node w) r (tables work core macros) (tables work core macros) a
+  empty-over o a e = refused-ends limit operations fuel (treeAt work node w) r (tables work core macros) (tables work core macros) 13 (λ expand s. rw (o w) (empty-turn limit operations fuel expand s)) a e
 
   pub name-over : (core′ : List ℕ) (item own : ℕ) → OpensName work node item own → (a : Ended) → Leaf (nameEnd (lookup operations (nameAt work node w))) 2 r core core′ a
-      → Ends operations fuel (treeAt work node w) r (tables work core macros) (tables work core′ macros) a
+      → Ends limit operations fuel (treeAt work node w) r (tables work core macros) (tables work core′ macros) a
   name-over core′ item own o a l =
-      leaf-ends operations fuel (treeAt work node w) r work core core′ macros (nameEnd (lookup operations (nameAt work node w)))
-      (λ expand s. rw (o .tree w) (name-turn operations fuel expand s (nameAt work node w))) ready a
+      leaf-ends limit operations fuel (treeAt work node w) r work core core′ macros (nameEnd (lookup operations (nameAt work node w)))
+      (λ expand s. rw (o .tree w) (name-turn limit operations fuel expand s (nameAt work node w))) ready a
       (leaf-more (nameEnd (lookup operations (nameAt work node w))) 2 (coreRate * size (treeAt work node w)) r core core′ a (two-words (treeAt work node w) .0) l)
 
   pub constant-over : (core′ : List ℕ) (kind first second : ℕ) → OpensConstant work node kind first second → (a : Ended) → ConstantLeft kind first second r core core′ a
-      → Ends operations fuel (treeAt work node w) r (tables work core macros) (tables work core′ macros) a
+      → Ends limit operations fuel (treeAt work node w) r (tables work core macros) (tables work core′ macros) a
   unfolding constantEnd
   constant-over core′ kind first second o a l =
       let c : Constant = record { kind = kind; first = first; second = second } in
-      leaf-ends operations fuel (treeAt work node w) r work core core′ macros (constantEnd c) (λ expand s. rw (o .tree w) (constant-turn operations fuel expand s c)) ready a
+      leaf-ends limit operations fuel (treeAt work node w) r work core core′ macros (constantEnd c) (λ expand s. rw (o .tree w) (constant-turn limit operations fuel expand s c)) ready a
       (leaf-more (constantEnd c) coreRate (coreRate * size (treeAt work node w)) r core core′ a (two-words (treeAt work node w) .1) l)
 
 pub constant-kind : (work : List ℕ) (top node w kind first second : ℕ) → OpensConstant work node kind first second → Placed work top node w → kind ≤ decimalKind
@@ -129,13 +129,13 @@ module _ (work core macros : List ℕ) (fuel node w : ℕ) (r : Reached) (ready 
 
 -- ---- an application whose head is no name
 
-module _ (operations : List ℕ) (work core macros : List ℕ) (fuel node tail w : ℕ) (r : Reached) (placed : Placed work (r .top) node w) (o : OtherHead work node tail w)
+module _ (limit : ℕ) (operations : List ℕ) (work core macros : List ℕ) (fuel node tail w : ℕ) (r : Reached) (placed : Placed work (r .top) node w) (o : OtherHead work node tail w)
     (ready : Ready fuel (size (treeAt work node w)) r (tables work core macros)) where
-  pub applied-turned : (core′ : List ℕ) (count : ℕ) (q : Reached) → Counts work tail count → Moved (applicationCode ∷ count ∷ []) r core core′ q → Spreads operations fuel (treeAt work node w) r (tables work core macros) (tables work core′ macros) node w q
+  pub applied-turned : (core′ : List ℕ) (count : ℕ) (q : Reached) → Counts work tail count → Moved (applicationCode ∷ count ∷ []) r core core′ q → Spreads limit operations fuel (treeAt work node w) r (tables work core macros) (tables work core′ macros) node w q
   applied-turned core′ count q n m =
       let t = treeAt work tail w in
-      subst (λ (z : Tree). Spreads operations fuel z r (tables work core macros) (tables work core′ macros) node w q) (sym (o .tree))
-      (spread-other operations fuel (o .head) t r q work core core′ macros node w (subst (λ (z : Tree). Ready fuel (size z) r (tables work core macros)) (o .tree) ready) placed (o .tree)
+      subst (λ (z : Tree). Spreads limit operations fuel z r (tables work core macros) (tables work core′ macros) node w q) (sym (o .tree))
+      (spread-other limit operations fuel (o .head) t r q work core core′ macros node w (subst (λ (z : Tree). Ready fuel (size z) r (tables work core macros)) (o .tree) ready) placed (o .tree)
       (subst (λ (k : ℕ). Moved (applicationCode ∷ k ∷ []) r core core′ q) (n .is w) m) (o .unlike))
 
 -- ---- a list whose head is a name
@@ -145,12 +145,12 @@ unfolding tail onPair
 tail-placed work top node tail w x h placed =
     record { node-below = omega (arith, h .tail-falls, placed .node-below); wrap-below = placed .wrap-below; proper = tidy-tail (subst Proper (h .tree) (placed .proper)) }
 
-module _ (operations : List ℕ) (work core macros : List ℕ) (fuel node list w : ℕ) (r : Reached) (x : Name) (h : Headed work node list w x) (placed : Placed work (r .top) node w)
+module _ (limit : ℕ) (operations : List ℕ) (work core macros : List ℕ) (fuel node list w : ℕ) (r : Reached) (x : Name) (h : Headed work node list w x) (placed : Placed work (r .top) node w)
     (ready : Ready fuel (size (treeAt work node w)) r (tables work core macros)) where
-  pub nothing-turned : (a : Ended) → nothing ≡ lookup operations x → Refuses 11 r a → Ends operations fuel (treeAt work node w) r (tables work core macros) (tables work core macros) a
+  pub nothing-turned : (a : Ended) → nothing ≡ lookup operations x → Refuses 11 r a → Ends limit operations fuel (treeAt work node w) r (tables work core macros) (tables work core macros) a
   nothing-turned a e f =
-      refused-ends operations fuel (treeAt work node w) r (tables work core macros) (tables work core macros) 11
-      (λ expand s. rw (h .tree) (nothing-turn operations fuel expand s x (treeAt work list w) (sym e))) a f
+      refused-ends limit operations fuel (treeAt work node w) r (tables work core macros) (tables work core macros) 11
+      (λ expand s. rw (h .tree) (nothing-turn limit operations fuel expand s x (treeAt work list w) (sym e))) a f
 
   pair-ready : Ready fuel (size (pair (name x) (treeAt work list w))) r (tables work core macros)
   pair-ready = subst (λ (z : Tree). Ready fuel (size z) r (tables work core macros)) (h .tree) ready
@@ -158,32 +158,32 @@ module _ (operations : List ℕ) (work core macros : List ℕ) (fuel node list w
   list-placed : Placed work (r .top) list w
   list-placed = tail-placed work (r .top) node list w x h placed
 
-  of-pair : (core′ : List ℕ) (q : Reached) → Spreads operations fuel (pair (name x) (treeAt work list w)) r (tables work core macros) (tables work core′ macros) list w q
-      → Spreads operations fuel (treeAt work node w) r (tables work core macros) (tables work core′ macros) list w q
-  of-pair core′ q y = subst (λ (z : Tree). Spreads operations fuel z r (tables work core macros) (tables work core′ macros) list w q) (sym (h .tree)) y
+  of-pair : (core′ : List ℕ) (q : Reached) → Spreads limit operations fuel (pair (name x) (treeAt work list w)) r (tables work core macros) (tables work core′ macros) list w q
+      → Spreads limit operations fuel (treeAt work node w) r (tables work core macros) (tables work core′ macros) list w q
+  of-pair core′ q y = subst (λ (z : Tree). Spreads limit operations fuel z r (tables work core macros) (tables work core′ macros) list w q) (sym (h .tree)) y
 
   pub variable-turned : (core′ : List ℕ) (n : ℕ) (q : Reached) → meansOf (Variable n) ≡ lookup operations x → HeaderMoved list 0 n r work core core′ q
-      → Spreads operations fuel (treeAt work node w) r (tables work core macros) (tables work core′ macros) list w q
+      → Spreads limit operations fuel (treeAt work node w) r (tables work core macros) (tables work core′ macros) list w q
   unfolding onFormals encode nodeWords meansOf
   variable-turned core′ n q e m =
       let t = treeAt work list w in
-      of-pair core′ q (spread-named (variableC n) 0 n refl operations fuel x t r q work core core′ macros list w pair-ready list-placed refl (m w) (λ expand s. variable-turn operations fuel expand s x t n (sym e)))
+      of-pair core′ q (spread-named (variableC n) 0 n refl limit operations fuel x t r q work core core′ macros list w pair-ready list-placed refl (m w) (λ expand s. variable-turn limit operations fuel expand s x t n (sym e)))
 
   pub operation-turned : (core′ : List ℕ) (p : ℕ) (q : Reached) → meansOf (Operation p) ≡ lookup operations x → HeaderMoved list 1 p r work core core′ q
-      → Spreads operations fuel (treeAt work node w) r (tables work core macros) (tables work core′ macros) list w q
+      → Spreads limit operations fuel (treeAt work node w) r (tables work core macros) (tables work core′ macros) list w q
   unfolding onFormals encode nodeWords meansOf
   operation-turned core′ p q e m =
       let t = treeAt work list w in
-      of-pair core′ q (spread-named (operationC p) 1 p refl operations fuel x t r q work core core′ macros list w pair-ready list-placed refl (m w) (λ expand s. operation-turn operations fuel expand s x t p (sym e)))
+      of-pair core′ q (spread-named (operationC p) 1 p refl limit operations fuel x t r q work core core′ macros list w pair-ready list-placed refl (m w) (λ expand s. operation-turn limit operations fuel expand s x t p (sym e)))
 
   pub macro-turned : (n : ℕ) (work′ : List ℕ) (a : Turn) → meansOf (Macro n) ≡ lookup operations x → length work′ ≡ length work
-      → UseLeft (outcomeOf (macrosAt work macros (r .macros)) n fuel (treeAt work node w) r) fuel r work work′ a → Turned operations fuel (treeAt work node w) r (tables work core macros) (tables work′ core macros) a
+      → UseLeft (outcomeOf (macrosAt work macros (r .macros)) n fuel (treeAt work node w) r) fuel r work work′ a → Turned limit operations fuel (treeAt work node w) r (tables work core macros) (tables work′ core macros) a
   unfolding meansOf
   macro-turned n work′ (Again k v q) e long u =
-      use-follows operations fuel n (treeAt work node w) r work work′ core macros (λ expand s. rw (h .tree) (macro-turn operations fuel expand s x (treeAt work list w) n (sym e))) ready k v q u (placed .proper) long
+      use-follows limit operations fuel n (treeAt work node w) r work work′ core macros (λ expand s. rw (h .tree) (macro-turn limit operations fuel expand s x (treeAt work list w) n (sym e))) ready k v q u (placed .proper) long
   macro-turned n work′ (Operands l v q) e long u = absurd u
   macro-turned n work′ (Over a) e long u =
-      use-refused operations fuel n (treeAt work node w) r work work′ core macros (λ expand s. rw (h .tree) (macro-turn operations fuel expand s x (treeAt work list w) n (sym e))) ready a u
+      use-refused limit operations fuel n (treeAt work node w) r work work′ core macros (λ expand s. rw (h .tree) (macro-turn limit operations fuel expand s x (treeAt work list w) n (sym e))) ready a u
 
 -- ---- a list whose head finds base form k
 
@@ -200,7 +200,7 @@ formOf-past (suc (suc (suc zero))) a b c d e = absurd (d refl)
 formOf-past (suc (suc (suc (suc zero)))) a b c d e = absurd (e refl)
 formOf-past (suc (suc (suc (suc (suc k))))) a b c d e = refl
 
-module _ (work core macros : List ℕ) (node list w k : ℕ) (r : Reached) (f : FormHead work node list w k) where
+module _ (limit : ℕ) (work core macros : List ℕ) (node list w k : ℕ) (r : Reached) (f : FormHead work node list w k) where
   abbrev tree : Tree
   tree = treeAt work node w
 
@@ -213,61 +213,61 @@ module _ (work core macros : List ℕ) (node list w k : ℕ) (r : Reached) (f : 
   form-is : (operations : List ℕ) (g : U.Form) → formOf k ≡ g → lookup operations (f .head) ≡ form g
   form-is operations g e = sym (f .finds operations) ∙ ap form e
 
-  pub quote-turned : (core′ : List ℕ) (a : Ended) → k ≡ 0 → QuoteLeft work node r core core′ a → Turns tree r (tables work core macros) (tables work core′ macros) (Over a)
+  pub quote-turned : (core′ : List ℕ) (a : Ended) → k ≡ 0 → QuoteLeft work node r core core′ a → Turns limit tree r (tables work core macros) (tables work core′ macros) (Over a)
   unfolding formOf
   quote-turned core′ a e l operations fuel ready =
-      leaf-ends operations fuel tree r work core core′ macros (quoteEnd tree) (λ expand s. rw tree-is (quote-turn operations fuel expand s (f .head) t (form-is operations quote (ap formOf e)))) ready a (l w)
+      leaf-ends limit operations fuel tree r work core core′ macros (quoteEnd tree) (λ expand s. rw tree-is (quote-turn limit operations fuel expand s (f .head) t (form-is operations quote (ap formOf e)))) ready a (l w)
 
-  pub auxiliary-turned : (a : Ended) → (k ≡ 0 → ⊥) → (k ≡ 1 → ⊥) → (k ≡ 2 → ⊥) → (k ≡ 3 → ⊥) → (k ≡ 4 → ⊥) → Refuses 12 r a → Turns tree r (tables work core macros) (tables work core macros) (Over a)
+  pub auxiliary-turned : (a : Ended) → (k ≡ 0 → ⊥) → (k ≡ 1 → ⊥) → (k ≡ 2 → ⊥) → (k ≡ 3 → ⊥) → (k ≡ 4 → ⊥) → Refuses 12 r a → Turns limit tree r (tables work core macros) (tables work core macros) (Over a)
   auxiliary-turned a n0 n1 n2 n3 n4 x operations fuel ready =
-      refused-ends operations fuel tree r (tables work core macros) (tables work core macros) 12
-      (λ expand s. rw tree-is (auxiliary-turn operations fuel expand s (f .head) t (form-is operations auxiliary (formOf-past k n0 n1 n2 n3 n4)))) a x
+      refused-ends limit operations fuel tree r (tables work core macros) (tables work core macros) 12
+      (λ expand s. rw tree-is (auxiliary-turn limit operations fuel expand s (f .head) t (form-is operations auxiliary (formOf-past k n0 n1 n2 n3 n4)))) a x
 
-  if-unshaped : isListOf 4 tree ≡ false → k ≡ 1 → (operations : List ℕ) (fuel : ℕ) (expand : Tree → M (Term Name)) (s : State) → turnOf operations fuel expand tree s ≡ refusedEnd 13 s
+  if-unshaped : isListOf 4 tree ≡ false → k ≡ 1 → (operations : List ℕ) (fuel : ℕ) (expand : Tree → M (Term Name)) (s : State) → turnOf limit operations fuel expand tree s ≡ refusedEnd 13 s
   unfolding formOf expandList needs
   if-unshaped shape e operations fuel expand s =
-      ap (λ (z : Tree). turnOf operations fuel expand z s) tree-is
-      ∙ headed operations fuel (f .head) t (form if) (form-is operations if (ap formOf e)) expand s
-      ∙ if-end macrosMost operations fuel expand (pair (name (f .head)) t) s
+      ap (λ (z : Tree). turnOf limit operations fuel expand z s) tree-is
+      ∙ headed limit operations fuel (f .head) t (form if) (form-is operations if (ap formOf e)) expand s
+      ∙ if-end limit operations fuel expand (pair (name (f .head)) t) s
       ∙ rw (ap (isListOf 4) (sym tree-is) ∙ shape)
 
   macros-turn : (inside : Bool) → formOf k ≡ cond inside letrec-syntax let-syntax → (operations : List ℕ) (fuel : ℕ) (expand : Tree → M (Term Name)) (s : State)
-      → turnOf operations fuel expand tree s ≡ endOf (expandMacros macrosMost operations fuel expand inside (f .head) tree s)
-  macros-turn true e operations fuel expand s = rw tree-is (letrec-syntax-turn operations fuel expand s (f .head) t (form-is operations letrec-syntax e))
-  macros-turn false e operations fuel expand s = rw tree-is (let-syntax-turn operations fuel expand s (f .head) t (form-is operations let-syntax e))
+      → turnOf limit operations fuel expand tree s ≡ endOf (expandMacros limit operations fuel expand inside (f .head) tree s)
+  macros-turn true e operations fuel expand s = rw tree-is (letrec-syntax-turn limit operations fuel expand s (f .head) t (form-is operations letrec-syntax e))
+  macros-turn false e operations fuel expand s = rw tree-is (let-syntax-turn limit operations fuel expand s (f .head) t (form-is operations let-syntax e))
 
   module _ (placed : Placed work (r .top) node w) where
-    pub if-turned : (core′ : List ℕ) (a : Turn) → k ≡ 1 → IfLeft work node list w r core core′ a → Turns tree r (tables work core macros) (tables work core′ macros) a
+    pub if-turned : (core′ : List ℕ) (a : Turn) → k ≡ 1 → IfLeft work node list w r core core′ a → Turns limit tree r (tables work core macros) (tables work core′ macros) a
     unfolding formOf
     if-turned core′ (Again n v q) e x operations fuel ready = absurd x
     if-turned core′ (Operands l v q) e x operations fuel ready =
         rw (x .0, x .1)
-        (subst (λ (z : Tree). Spreads operations fuel z r (tables work core macros) (tables work core′ macros) list w q) (sym tree-is)
-        (spread-if operations fuel (f .head) t r q work core core′ macros list w (subst (λ (z : Tree). Ready fuel (size z) r (tables work core macros)) tree-is ready)
+        (subst (λ (z : Tree). Spreads limit operations fuel z r (tables work core macros) (tables work core′ macros) list w q) (sym tree-is)
+        (spread-if limit operations fuel (f .head) t r q work core core′ macros list w (subst (λ (z : Tree). Ready fuel (size z) r (tables work core macros)) tree-is ready)
         (tail-placed work (r .top) node list w (f .head) (f .headed) placed) refl (x .3) (ap (isListOf 4) (sym tree-is) ∙ x .2 w) (form-is operations if (ap formOf e))))
-    if-turned core′ (Over a) e x operations fuel ready = refused-ends operations fuel tree r (tables work core macros) (tables work core′ macros) 13 (if-unshaped (x .0 w) e operations fuel) a (x .1)
+    if-turned core′ (Over a) e x operations fuel ready = refused-ends limit operations fuel tree r (tables work core macros) (tables work core′ macros) 13 (if-unshaped (x .0 w) e operations fuel) a (x .1)
 
     module _ (work′ : List ℕ) (long : length work′ ≡ length work) where
-      pub lambda-turned : (core′ : List ℕ) (a : Turn) → k ≡ 2 → LambdaLeft tree r work work′ core core′ a → Turns tree r (tables work core macros) (tables work′ core′ macros) a
+      pub lambda-turned : (core′ : List ℕ) (a : Turn) → k ≡ 2 → LambdaLeft tree r work work′ core core′ a → Turns limit tree r (tables work core macros) (tables work′ core′ macros) a
       unfolding formOf
       lambda-turned core′ (Again n v q) e x operations fuel ready =
-          lambda-follows operations fuel tree r work work′ core core′ macros (λ expand s. rw tree-is (lambda-turn operations fuel expand s (f .head) t (form-is operations lambda (ap formOf e)))) n v q x (placed .proper) ready long
+          lambda-follows limit operations fuel tree r work work′ core core′ macros (λ expand s. rw tree-is (lambda-turn limit operations fuel expand s (f .head) t (form-is operations lambda (ap formOf e)))) n v q x (placed .proper) ready long
       lambda-turned core′ (Operands l v q) e x operations fuel ready = absurd x
       lambda-turned core′ (Over a) e x operations fuel ready =
-          lambda-refused operations fuel tree r work work′ core core′ macros (λ expand s. rw tree-is (lambda-turn operations fuel expand s (f .head) t (form-is operations lambda (ap formOf e)))) a x
+          lambda-refused limit operations fuel tree r work work′ core core′ macros (λ expand s. rw tree-is (lambda-turn limit operations fuel expand s (f .head) t (form-is operations lambda (ap formOf e)))) a x
 
       module _ (macros′ : List ℕ) (macros-long : length macros′ ≡ length macros) where
-        macros-turned : (inside : Bool) (a : Turn) → formOf k ≡ cond inside letrec-syntax let-syntax → MacrosLeft tree inside r work work′ macros macros′ a
-            → Turns tree r (tables work core macros) (tables work′ core macros′) a
+        macros-turned : (inside : Bool) (a : Turn) → formOf k ≡ cond inside letrec-syntax let-syntax → MacrosLeft limit tree inside r work work′ macros macros′ a
+            → Turns limit tree r (tables work core macros) (tables work′ core macros′) a
         macros-turned inside (Again n v q) e x operations fuel ready =
-            macros-follows operations fuel tree inside (f .head) r work work′ core macros macros′ (macros-turn inside e operations fuel) n v q x (placed .proper) ready long macros-long
+            macros-follows limit operations fuel tree inside (f .head) r work work′ core macros macros′ (macros-turn inside e operations fuel) n v q x (placed .proper) ready long macros-long
         macros-turned inside (Operands l v q) e x operations fuel ready = absurd x
-        macros-turned inside (Over a) e x operations fuel ready = macros-refused operations fuel tree inside (f .head) r work work′ core macros macros′ (macros-turn inside e operations fuel) a x
+        macros-turned inside (Over a) e x operations fuel ready = macros-refused limit operations fuel tree inside (f .head) r work work′ core macros macros′ (macros-turn inside e operations fuel) a x
 
-        pub let-syntax-turned : (a : Turn) → k ≡ 3 → MacrosLeft tree false r work work′ macros macros′ a → Turns tree r (tables work core macros) (tables work′ core macros′) a
+        pub let-syntax-turned : (a : Turn) → k ≡ 3 → MacrosLeft limit tree false r work work′ macros macros′ a → Turns limit tree r (tables work core macros) (tables work′ core macros′) a
         unfolding formOf
         let-syntax-turned a e x = macros-turned false a (ap formOf e) x
 
-        pub letrec-syntax-turned : (a : Turn) → k ≡ 4 → MacrosLeft tree true r work work′ macros macros′ a → Turns tree r (tables work core macros) (tables work′ core macros′) a
+        pub letrec-syntax-turned : (a : Turn) → k ≡ 4 → MacrosLeft limit tree true r work work′ macros macros′ a → Turns limit tree r (tables work core macros) (tables work′ core macros′) a
         unfolding formOf
         letrec-syntax-turned a e x = macros-turned true a (ap formOf e) x

@@ -5,7 +5,6 @@ use mathlib.Core.List.{List, [], _∷_, map}
 use Prim.Native.Nat.{ℕ, _+_, _*_, _^_, _≤_, _<_}
 use native.Mathlib.Omega.{arith}
 use lib.ListN.{length, length-map}
-use Rattle.words.specs.Limits.{macrosMost}
 use Rattle.words.specs.TestLaws.{and-parts}
 use Rattle.recipe.specs.Name.{variable, Name, distinct}
 use Rattle.recipe.specs.Tree.{Tree, pair, size, isListOf, elements, element, bindAll}
@@ -133,12 +132,12 @@ lambda-prefixed first xs (finished v s) = refl
 lambda-prefixed first xs (refusedEnd k s) = tt
 lambda-prefixed first xs halted = tt
 
-module _ (operations : List ℕ) (fuel : ℕ) (t : Tree) (r : Reached) (work work′ core core′ macros : List ℕ)
-    (turn : (expand : Tree → M (Term Name)) (s : State) → turnOf operations fuel expand t s ≡ endOf (expandLambda macrosMost operations fuel expand t s)) where
-  pub lambda-refused : (a : Ended) → LambdaRefused t r a → Ends operations fuel t r (tables work core macros) (tables work′ core′ macros) a
+module _ (limit : ℕ) (operations : List ℕ) (fuel : ℕ) (t : Tree) (r : Reached) (work work′ core core′ macros : List ℕ)
+    (turn : (expand : Tree → M (Term Name)) (s : State) → turnOf limit operations fuel expand t s ≡ endOf (expandLambda limit operations fuel expand t s)) where
+  pub lambda-refused : (a : Ended) → LambdaRefused t r a → Ends limit operations fuel t r (tables work core macros) (tables work′ core′ macros) a
   lambda-refused a x =
-      refused-ends operations fuel t r (tables work core macros) (tables work′ core′ macros) (x .ground)
-      (λ expand s. turn expand s ∙ lambda-end macrosMost operations fuel expand t s ∙ x .is _ s)
+      refused-ends limit operations fuel t r (tables work core macros) (tables work′ core′ macros) (x .ground)
+      (λ expand s. turn expand s ∙ lambda-end limit operations fuel expand t s ∙ x .is _ s)
       a (x .refuses)
 
   module _ (node w : ℕ) (q : Reached) (x : LambdaBound t r work work′ core core′ node w q) (good : Proper t)
@@ -185,12 +184,12 @@ module _ (operations : List ℕ) (fuel : ℕ) (t : Tree) (r : Reached) (work wor
         ap (stateAt (tables work′ core′ macros)) (b .numbers)
         ∙ rw (macrosAt-settled work work′ macros macros (r .top) (b .kept) (r .macros) refl (ready .macros-are .below))
 
-    lambda-turn : (expand : Tree → M (Term Name)) (s : State) → s .variables ≡ r .variables → turnOf operations fuel expand t s
+    lambda-turn : (expand : Tree → M (Term Name)) (s : State) → s .variables ≡ r .variables → turnOf limit operations fuel expand t s
         ≡ then (λ body u. finished (lambdaC (r .variables) (formals t) body) u) (endOf (expand (bindAll variable (r .variables) (formals t) (element 2 t)) (withVariables (length (formals t)) s)))
     unfolding needs
-    lambda-turn expand s e = turn expand s ∙ lambda-end macrosMost operations fuel expand t s ∙ rw (x .shape, x .apart, e)
+    lambda-turn expand s e = turn expand s ∙ lambda-end limit operations fuel expand t s ∙ rw (x .shape, x .apart, e)
 
-    pub lambda-follows : Follows operations fuel t r (tables work core macros) (tables work′ core′ macros) node w q
+    pub lambda-follows : Follows limit operations fuel t r (tables work core macros) (tables work′ core′ macros) node w q
     unfolding stateAt coreNeed
     lambda-follows =
         let s = stateAt (tables work core macros) r in

@@ -7,7 +7,7 @@ use mathlib.Core.Bool.{Bool, true, false, cond, false≢true}
 use mathlib.Core.Option.{Option, none, some}
 use lib.Dec.{eqb, ltb}
 use lib.ListN.{length, getD}
-use Rattle.words.specs.Limits.{baseNameCount, macrosMost, coreRate}
+use Rattle.words.specs.Limits.{baseNameCount, coreRate}
 use Rattle.words.specs.ListLaws.{either}
 use Rattle.datum.specs.Constant.{constantWords}
 use Rattle.datum.specs.ConstantLaws.{made, words-few}
@@ -134,8 +134,8 @@ constant-made kind first second r core core′ at q e p =
 
 -- ---- a leaf ends the expression
 
-module _ (operations : List ℕ) (fuel : ℕ) (tree : Tree) (r : Reached) (work core core′ macros : List ℕ) (E : State → End (Term Name)) (is : (expand : Tree → M (Term Name)) (s : State) → turnOf operations fuel expand tree s ≡ E s) (ready : Ready fuel (size tree) r (tables work core macros)) where
-  made-ends : (q : Reached) → Makes E (coreRate * size tree) r core core′ q → Ends operations fuel tree r (tables work core macros) (tables work core′ macros) (Done q)
+module _ (limit : ℕ) (operations : List ℕ) (fuel : ℕ) (tree : Tree) (r : Reached) (work core core′ macros : List ℕ) (E : State → End (Term Name)) (is : (expand : Tree → M (Term Name)) (s : State) → turnOf limit operations fuel expand tree s ≡ E s) (ready : Ready fuel (size tree) r (tables work core macros)) where
+  made-ends : (q : Reached) → Makes E (coreRate * size tree) r core core′ q → Ends limit operations fuel tree r (tables work core macros) (tables work core′ macros) (Done q)
   made-ends q m =
       record {
         kept = kept-moved fuel (size tree) 0 r q work core core′ macros (wordsOf (m .term)) ready (m .moves) (omega arith) (omega (arith, m .short));
@@ -145,7 +145,7 @@ module _ (operations : List ℕ) (fuel : ℕ) (tree : Tree) (r : Reached) (work 
             (state-moved r q work core core′ macros (wordsOf (m .term)) (m .moves), m .moves .put);
       }
 
-  stopped-ends : (g n k : ℕ) → Stops E r g n k → Ends operations fuel tree r (tables work core macros) (tables work core′ macros) (Refused g n k)
+  stopped-ends : (g n k : ℕ) → Stops E r g n k → Ends limit operations fuel tree r (tables work core macros) (tables work core′ macros) (Refused g n k)
   unfolding stateAt
   stopped-ends g n k m =
       record {
@@ -156,25 +156,25 @@ module _ (operations : List ℕ) (fuel : ℕ) (tree : Tree) (r : Reached) (work 
             (refl, sym (m .steps-are), sym (m .sum-is));
       }
 
-  pub leaf-ends : (a : Ended) → Leaf E (coreRate * size tree) r core core′ a → Ends operations fuel tree r (tables work core macros) (tables work core′ macros) a
+  pub leaf-ends : (a : Ended) → Leaf E (coreRate * size tree) r core core′ a → Ends limit operations fuel tree r (tables work core macros) (tables work core′ macros) a
   leaf-ends (Done q) m = made-ends q m
   leaf-ends (Refused g n k) m = stopped-ends g n k m
 
 -- ---- a list whose head is a name, by what the name finds
 
-pub headed : (operations : List ℕ) (fuel : ℕ) (x : Name) (t : Tree) (found : Found) → lookup operations x ≡ found → (expand : Tree → M (Term Name)) (s : State)
-    → turnOf operations fuel expand (pair (name x) t) s ≡ endOf (expandList macrosMost operations fuel expand found x (pair (name x) t) s)
-headed operations fuel x t found e expand s =
-    list-end macrosMost operations fuel expand x t s
-    ∙ ap (λ (f : Found). endOf (expandList macrosMost operations fuel expand f x (pair (name x) t) s)) e
+pub headed : (limit : ℕ) (operations : List ℕ) (fuel : ℕ) (x : Name) (t : Tree) (found : Found) → lookup operations x ≡ found → (expand : Tree → M (Term Name)) (s : State)
+    → turnOf limit operations fuel expand (pair (name x) t) s ≡ endOf (expandList limit operations fuel expand found x (pair (name x) t) s)
+headed limit operations fuel x t found e expand s =
+    list-end limit operations fuel expand x t s
+    ∙ ap (λ (f : Found). endOf (expandList limit operations fuel expand f x (pair (name x) t) s)) e
 
 -- ---- a refusal ends the expression
 
-module _ (operations : List ℕ) (fuel : ℕ) (tree : Tree) (r : Reached) (before after : Tables) (g : ℕ) (is : (expand : Tree → M (Term Name)) (s : State) → turnOf operations fuel expand tree s ≡ refusedEnd g s) where
-  pub refused-ends : (a : Ended) → Refuses g r a → Ends operations fuel tree r before after a
+module _ (limit : ℕ) (operations : List ℕ) (fuel : ℕ) (tree : Tree) (r : Reached) (before after : Tables) (g : ℕ) (is : (expand : Tree → M (Term Name)) (s : State) → turnOf limit operations fuel expand tree s ≡ refusedEnd g s) where
+  pub refused-ends : (a : Ended) → Refuses g r a → Ends limit operations fuel tree r before after a
   unfolding stateAt
   refused-ends a e =
-      subst (λ (b : Ended). Ends operations fuel tree r before after b) (sym e)
+      subst (λ (b : Ended). Ends limit operations fuel tree r before after b) (sym e)
       (record {
         kept = tt;
         means = λ expand. subst (λ (z : End (Term Name)). Left wordsOf r (before .core) after z (Refused g (r .steps) (r .sum))) (sym (is expand (stateAt before r))) (refl, refl, refl);

@@ -6,7 +6,6 @@ use mathlib.Core.Option.{some}
 use Prim.Native.Nat.{ℕ, _+_, _*_, _≤_}
 use native.Mathlib.Omega.{arith}
 use lib.ListN.{length}
-use Rattle.words.specs.Limits.{macrosMost}
 use Rattle.words.specs.Each.{Each, each-append, each-map, each-weaken, given-at, given-traverse}
 use Rattle.words.specs.Options.{traverse}
 use Rattle.recipe.specs.Name.{macro, Name, distinct}
@@ -29,11 +28,11 @@ use Rattle.turns.specs.declared.answers.Ended.the-variants.{Refused}
 use Rattle.turns.specs.Ends.{End, endOf, needs, given, withMacros}
 use Rattle.turns.specs.EndLaws.{scope, macros-end}
 use Rattle.turns.specs.Numbers.{grown}
-use Rattle.turns.specs.Memory.{Tables, tables, macrosAt, stateAt, workNeed, coreNeed, variableNeed, macroNeed, Proper, Macros, Ready, Kept}
+use Rattle.turns.specs.Memory.{itemRate, Tables, tables, macrosAt, stateAt, workNeed, coreNeed, variableNeed, macroNeed, Proper, Macros, Ready, Kept}
 use Rattle.turns.specs.MemoryLaws.{macrosAt-length}
 use Rattle.turns.specs.Turns.{Left, turnOf, Ends, Follows}
 use Rattle.turns.specs.UseTurnLaws.{left-same}
-use Rattle.turns.specs.MacroTurns.{formsOf, Known, MacrosKnown, MacrosRefused}
+use Rattle.turns.specs.MacroTurns.{macroWords, formsOf, Known, MacrosKnown, MacrosRefused}
 use Rattle.turns.specs.MacroTurnLaws.{macros-rate, macros-sizes}
 
 -- ---- the rules are proper and sound
@@ -60,8 +59,8 @@ state-grown : (r q : Reached) (a b : Tables) (rules : List (List Rule)) → q .s
 unfolding stateAt withMacros
 state-grown r q a b rules e1 e2 e3 e4 = rw (e1, e2, e3, e4)
 
-module _ (operations : List ℕ) (fuel : ℕ) (t : Tree) (inside : Bool) (head : Name) (r : Reached) (work work′ core macros macros′ : List ℕ)
-    (turn : (expand : Tree → M (Term Name)) (s : State) → turnOf operations fuel expand t s ≡ endOf (expandMacros macrosMost operations fuel expand inside head t s)) where
+module _ (limit : ℕ) (operations : List ℕ) (fuel : ℕ) (t : Tree) (inside : Bool) (head : Name) (r : Reached) (work work′ core macros macros′ : List ℕ)
+    (turn : (expand : Tree → M (Term Name)) (s : State) → turnOf limit operations fuel expand t s ≡ endOf (expandMacros limit operations fuel expand inside head t s)) where
   abbrev state : State
   state = stateAt (tables work core macros) r
 
@@ -69,28 +68,28 @@ module _ (operations : List ℕ) (fuel : ℕ) (t : Tree) (inside : Bool) (head :
   unfolding stateAt
   counted = macrosAt-length work macros (r .macros)
 
-  macros-turn : (expand : Tree → M (Term Name)) (s : State) → length (s .macros) ≡ r .macros → turnOf operations fuel expand t s
-      ≡ needs 13 (isMacros macrosMost t) s (needs 14 (distinct (keywords t)) s
+  macros-turn : (expand : Tree → M (Term Name)) (s : State) → length (s .macros) ≡ r .macros → turnOf limit operations fuel expand t s
+      ≡ needs 13 (isMacros limit t) s (needs 14 (distinct (keywords t)) s
       (given 15 s (λ rules. endOf (expand (bindAll macro (r .macros) (keywords t) (element 2 t)) (withMacros rules s))) (traverse rulesOf (formsOf inside t (r .macros)))))
   unfolding scope formsOf
-  macros-turn expand s e = turn expand s ∙ macros-end macrosMost operations fuel expand inside head t s ∙ rw e
+  macros-turn expand s e = turn expand s ∙ macros-end limit operations fuel expand inside head t s ∙ rw e
 
-  pub macros-refused : (a : Ended) → MacrosRefused t inside r a → Ends operations fuel t r (tables work core macros) (tables work′ core macros′) a
+  pub macros-refused : (a : Ended) → MacrosRefused limit t inside r a → Ends limit operations fuel t r (tables work core macros) (tables work′ core macros′) a
   unfolding stateAt
   macros-refused a x =
-      subst (λ (b : Ended). Ends operations fuel t r (tables work core macros) (tables work′ core macros′) b) (sym (x .refuses))
+      subst (λ (b : Ended). Ends limit operations fuel t r (tables work core macros) (tables work′ core macros′) b) (sym (x .refuses))
       (record {
         kept = tt;
         means = λ expand. subst (λ (z : End (Term Name)). Left wordsOf r core (tables work′ core macros′) z (Refused (x .ground) (r .steps) (r .sum))) (sym (macros-turn expand state counted ∙ x .is _ state)) (refl, refl, refl);
       })
 
-  module _ (node w : ℕ) (q : Reached) (y : MacrosKnown t inside r work work′ macros macros′ node w q) (good : Proper t)
+  module _ (node w : ℕ) (q : Reached) (y : MacrosKnown limit t inside r work work′ macros macros′ node w q) (good : Proper t)
       (ready : Ready fuel (size t) r (tables work core macros)) (long : length work′ ≡ length work) (macros-long : length macros′ ≡ length macros) where
     x : Known t inside r work work′ macros macros′ node w q
     x = y .knows
 
-    sizes : 9 * length (keywords t) + 5 * size (element 1 t) + 9 * size (element 2 t) + 5 ≤ 9 * size t
-    sizes = macros-sizes t (y .shape)
+    sizes : macroWords t + itemRate * size (element 2 t) + 5 ≤ itemRate * size t
+    sizes = macros-sizes limit t (y .shape)
 
     body-size : size (treeAt work′ node w) ≡ size (element 2 t)
     body-size = ap size (x .body-is) ∙ bindAll-size macro (r .macros) (keywords t) (element 2 t)
@@ -125,7 +124,7 @@ module _ (operations : List ℕ) (fuel : ℕ) (t : Tree) (inside : Bool) (head :
           work-spent = rw (sum-is, body-size) (omega (arith, sizes, x .words));
           core-spent = rw (at-is, sum-is, body-size) (omega (arith, sizes));
           variables-spent = rw (variables-are, sum-is, body-size) (omega (arith, sizes));
-          macros-spent = rw (macros-are, sum-is, body-size) (omega (arith, macros-rate t (y .shape)));
+          macros-spent = rw (macros-are, sum-is, body-size) (omega (arith, macros-rate limit t (y .shape)));
           macros-are = known-macros;
         }
 
@@ -137,11 +136,11 @@ module _ (operations : List ℕ) (fuel : ℕ) (t : Tree) (inside : Bool) (head :
         let variables-are : q .variables ≡ r .variables = ap (λ (z : Reached). z .variables) (x .numbers) in
         state-grown r q (tables work core macros) (tables work′ core macros′) (x .rules) steps-are sum-is variables-are (x .means)
 
-    known-turn : (expand : Tree → M (Term Name)) → turnOf operations fuel expand t state ≡ endOf (expand (bindAll macro (r .macros) (keywords t) (element 2 t)) (withMacros (x .rules) state))
+    known-turn : (expand : Tree → M (Term Name)) → turnOf limit operations fuel expand t state ≡ endOf (expand (bindAll macro (r .macros) (keywords t) (element 2 t)) (withMacros (x .rules) state))
     unfolding needs given
     known-turn expand = macros-turn expand state counted ∙ rw (y .shape, y .apart, x .is)
 
-    pub macros-follows : Follows operations fuel t r (tables work core macros) (tables work′ core macros′) node w q
+    pub macros-follows : Follows limit operations fuel t r (tables work core macros) (tables work′ core macros′) node w q
     unfolding grown
     macros-follows =
         let k = known-kept in

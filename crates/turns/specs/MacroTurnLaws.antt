@@ -6,10 +6,9 @@ use mathlib.Core.Option.{none}
 use Prim.Native.Nat.{ℕ, zero, suc, _+_, _*_, _^_, _≤_, _<_}
 use native.Mathlib.Omega.{arith}
 use lib.ListN.{length, getD}
-use Rattle.words.specs.Limits.{macrosMost}
 use Rattle.words.specs.Lists.{allOf}
 use Rattle.words.specs.Options.{traverse}
-use Rattle.words.specs.TestLaws.{and-parts, all-parts}
+use Rattle.words.specs.TestLaws.{and-left, and-right, and-parts, all-parts}
 use Rattle.recipe.specs.Name.{Binding, macro, Name, distinct}
 use Rattle.recipe.specs.Tree.{Tree, empty, constant, name, pair, size, isList, isListOf, elements, element, onNames, bind, bindAll}
 use Rattle.recipe.specs.TreeLaws.{size-positive, bindAll-size}
@@ -20,7 +19,7 @@ use Rattle.arena.specs.ArenaLaws.{take-less}
 use Rattle.arena.specs.CellLaws.{tree-kept}
 use Rattle.arena.specs.Lists.{Means, Counts}
 use Rattle.forms.specs.Binders.{AllNames, Space, Scoped}
-use Rattle.forms.specs.ScopeLaws.{scoped-tree, macros-names, keywords-count, keywords-most}
+use Rattle.forms.specs.ScopeLaws.{scoped-tree, macros-names, keywords-count}
 use Rattle.turns.specs.declared.answers.Reached.{Reached}
 use Rattle.turns.specs.declared.answers.Ended.{Ended}
 use Rattle.turns.specs.declared.answers.Turn.{Turn}
@@ -29,13 +28,13 @@ use Rattle.turns.specs.declared.macros.Read.{Read}
 use Rattle.turns.specs.declared.macros.Read.the-variants.{Good, Bad}
 use Rattle.turns.specs.Ends.{needs, given}
 use Rattle.turns.specs.Numbers.{grown}
-use Rattle.turns.specs.Memory.{macrosAt, macroItems}
+use Rattle.turns.specs.Memory.{itemRate, macroItems, macrosAt}
 use Rattle.turns.specs.MemoryLaws.{macrosAt-settled}
 use Rattle.turns.specs.Leaves.{Refuses}
 use Rattle.turns.specs.SpreadLaws.{listed}
 use Rattle.turns.specs.LambdaLaws.{three-sizes}
 use Rattle.turns.specs.MacroRules.{formsIn, AllAsk, AllRead, AllLeft}
-use Rattle.turns.specs.MacroTurns.{MacroRoom, formsOf, Known, KnownLeft, MacrosRefused, MacrosLeft}
+use Rattle.turns.specs.MacroTurns.{macroWords, MacroSpace, MacroRoom, formsOf, Known, KnownLeft, MacrosRefused, MacrosLeft}
 
 -- ---- forms under a scope
 
@@ -93,44 +92,43 @@ entries-few (pair h t) e =
     let g = all-parts isMacro h (elements t) e in
     omega (arith, entries-few t (g .1), elements-few h, listed 2 h (and-parts (isListOf 2 h) _ (g .0) .0))
 
--- a form has so many items for each macro, besides its body's
-pub macros-rate : (t : Tree) → isMacros macrosMost t ≡ true → macroItems * length (keywords t) + size (element 2 t) ≤ size t
-unfolding isMacros
-macros-rate t e =
-    let a = and-parts (isListOf 3 t) _ e in
-    let b = and-parts (isList (element 1 t)) _ (a .1) in
-    let c = and-parts (allOf isMacro (elements (element 1 t))) _ (b .1) in
-    omega (arith, three-sizes t (a .0), entries-few (element 1 t) (c .0), keywords-count t (macros-names t macrosMost e))
+module _ (limit : ℕ) (t : Tree) (shape : isMacros limit t ≡ true) where
+  macros-three : isListOf 3 t ≡ true
+  unfolding isMacros
+  macros-three = and-left (isListOf 3 t) _ shape
 
-pub macros-sizes : (t : Tree) → isMacros macrosMost t ≡ true → 9 * length (keywords t) + 5 * size (element 1 t) + 9 * size (element 2 t) + 5 ≤ 9 * size t
-unfolding isMacros
-macros-sizes t e =
-    omega (arith, three-sizes t (and-parts (isListOf 3 t) _ e .0), elements-few (element 1 t), keywords-count t (macros-names t macrosMost e), keywords-most t macrosMost e)
+  macros-items : macroItems * length (keywords t) ≤ size (element 1 t)
+  unfolding isMacros
+  macros-items =
+      let entries : allOf isMacro (elements (element 1 t)) ≡ true =
+      and-left (allOf isMacro (elements (element 1 t))) _ (and-right (isList (element 1 t)) _ (and-right (isListOf 3 t) _ shape)) in
+      omega (arith, entries-few (element 1 t) entries, keywords-count t (macros-names t limit shape))
+
+  -- a form has so many items for each macro, besides its body's
+  pub macros-rate : macroItems * length (keywords t) + size (element 2 t) ≤ size t
+  macros-rate = omega (arith, three-sizes t macros-three, macros-items)
+
+  pub macros-sizes : macroWords t + itemRate * size (element 2 t) + 5 ≤ itemRate * size t
+  macros-sizes = omega (arith, three-sizes t macros-three, macros-items)
 
 -- ---- what the code needs, and what it leaves
 
-module _ (work macros : List ℕ) (node w : ℕ) (inside : Bool) (r : Reached) (room : MacroRoom work macros node w r) (shape : isMacros macrosMost (treeAt work node w) ≡ true) where
+module _ (work macros : List ℕ) (node w : ℕ) (inside : Bool) (r : Reached) (room : MacroRoom work macros node w r) (limit : ℕ) (shape : isMacros limit (treeAt work node w) ≡ true) where
   abbrev tree : Tree
   tree = treeAt work node w
 
   pub macros-all-names : AllNames true (element 1 tree)
-  macros-all-names = macros-names tree macrosMost shape
+  macros-all-names = macros-names tree limit shape
 
-  sizes : 9 * length (keywords tree) + 5 * size (element 1 tree) + 9 * size (element 2 tree) + 5 ≤ 9 * size tree
-  sizes = macros-sizes tree shape
-
-  rate : macroItems * length (keywords tree) + size (element 2 tree) ≤ size tree
-  rate = macros-rate tree shape
-
-  count-most : length (keywords tree) ≤ size tree
-  count-most = omega (arith, sizes)
+  space : MacroSpace tree work macros r
+  space = room .space limit shape
 
   pub macros-space : Space (keywords tree) work node w (r .macros) w (r .top)
   macros-space =
       record {
-        fits = omega (arith, sizes, room .fits);
-        small = omega (arith, sizes, room .small);
-        numbers = omega (arith, count-most, room .few);
+        fits = omega (arith, space .fits);
+        small = omega (arith, space .small);
+        numbers = omega (arith, space .few);
         node-below = room .placed .node-below;
         w-below = room .placed .wrap-below;
         parent-below = room .placed .wrap-below;
@@ -141,7 +139,7 @@ module _ (work macros : List ℕ) (node w : ℕ) (inside : Bool) (r : Reached) (
     macros-count = count-is .is w ∙ ap (λ (t : Tree). length (elements t)) (list-is .is w) ∙ sym (keywords-count tree macros-all-names)
 
     pub macros-few : r .macros + count < 2 ^ 32
-    macros-few = omega (arith, macros-count, count-most, room .few)
+    macros-few = omega (arith, macros-count, space .few)
 
     list-below : list ≤ r .top
     list-below = omega (arith, list-is .low, room .placed .node-below)
@@ -199,12 +197,12 @@ module _ (work macros : List ℕ) (node w : ℕ) (inside : Bool) (r : Reached) (
               node-below = omega (arith, list-below, scoped .end-is);
               wrap-below = rules-wrap-low;
               room = record {
-                fits = rw size-same (omega (arith, room .fits, sizes, scoped .end-is));
-                small = rw size-same (omega (arith, room .small, sizes, scoped .end-is));
+                fits = rw size-same (omega (arith, space .fits, scoped .end-is));
+                small = rw size-same (omega (arith, space .small, scoped .end-is));
               };
             };
-            slots = omega (arith, forms-count, room .slots, rate);
-            few = omega (arith, forms-count, room .few, count-most);
+            slots = omega (arith, forms-count, space .slots);
+            few = omega (arith, forms-count, space .few);
             below = λ k h. let g = room .below k h in omega (arith, scoped .end-is);
           }
 
@@ -243,16 +241,16 @@ module _ (work macros : List ℕ) (node w : ℕ) (inside : Bool) (r : Reached) (
 
 -- ---- the tests
 
-module _ (t : Tree) (inside : Bool) (r : Reached) where
-  pub macros-unshaped : (a : Ended) → isMacros macrosMost t ≡ false → Refuses 13 r a → MacrosRefused t inside r a
+module _ (limit : ℕ) (t : Tree) (inside : Bool) (r : Reached) where
+  pub macros-unshaped : (a : Ended) → isMacros limit t ≡ false → Refuses 13 r a → MacrosRefused limit t inside r a
   unfolding needs
   macros-unshaped a shape e = record { ground = 13; is = λ f s. rw shape; refuses = e }
 
-  pub macros-alike : (a : Ended) → isMacros macrosMost t ≡ true → distinct (keywords t) ≡ false → Refuses 14 r a → MacrosRefused t inside r a
+  pub macros-alike : (a : Ended) → isMacros limit t ≡ true → distinct (keywords t) ≡ false → Refuses 14 r a → MacrosRefused limit t inside r a
   unfolding needs
   macros-alike a shape same e = record { ground = 14; is = λ f s. rw (shape, same); refuses = e }
 
-  pub macros-left : (work work′ macros macros′ : List ℕ) (a : Turn) → isMacros macrosMost t ≡ true → distinct (keywords t) ≡ true → KnownLeft t inside r work work′ macros macros′ a → MacrosLeft t inside r work work′ macros macros′ a
+  pub macros-left : (work work′ macros macros′ : List ℕ) (a : Turn) → isMacros limit t ≡ true → distinct (keywords t) ≡ true → KnownLeft t inside r work work′ macros macros′ a → MacrosLeft limit t inside r work work′ macros macros′ a
   unfolding needs given
   macros-left work work′ macros macros′ (Again n w q) shape apart b = record { shape = shape; apart = apart; knows = b }
   macros-left work work′ macros macros′ (Operands l w q) shape apart b = absurd b

@@ -3,9 +3,8 @@ use mathlib.Core.Path.{_≡_}
 use mathlib.Core.Bool.{Bool, true, cond}
 use mathlib.Core.List.{List, _++_, map}
 use mathlib.Core.Option.{none, some}
-use Prim.Native.Nat.{ℕ, _+_, _*_, _≤_}
+use Prim.Native.Nat.{ℕ, _+_, _*_, _≤_, _<_}
 use lib.ListN.{length, take}
-use Rattle.words.specs.Limits.{macrosMost}
 use Rattle.words.specs.Options.{traverse}
 use Rattle.recipe.specs.Name.{macro, Name, distinct}
 use Rattle.recipe.specs.Tree.{Tree, size, element, bindAll}
@@ -20,18 +19,26 @@ use Rattle.turns.specs.declared.answers.Turn.{Turn}
 use Rattle.turns.specs.declared.answers.Turn.the-variants.{Again, Operands, Over}
 use Rattle.turns.specs.Ends.{End, refusedEnd, needs, given}
 use Rattle.turns.specs.Numbers.{grown}
-use Rattle.turns.specs.Memory.{itemRate, macroItems, macrosAt, numberMost, Placed}
+use Rattle.turns.specs.Memory.{itemRate, macrosAt, numberMost, Placed}
 use Rattle.turns.specs.Leaves.{Refuses}
 use Rattle.turns.specs.MacroRules.{Below}
 
--- what is at hand, and room for it
+-- the most words of the work table that the binders and the rules of a form's macros take
+abbrev pub macroWords : Tree → ℕ
+macroWords t = itemRate * length (keywords t) + 5 * size (element 1 t)
+
+-- room for a form's macros: those words and one more, and a word for each macro
+pub record MacroSpace (tree : Tree) (work macros : List ℕ) (r : Reached) : Type 0 where
+  pub fits : r .top + macroWords tree < length work
+  pub small : r .top + macroWords tree < numberMost
+  pub slots : r .macros + length (keywords tree) ≤ length macros
+  pub few : r .macros + length (keywords tree) ≤ numberMost
+
+-- what is at hand, and room for its macros where it has the shape of a form of macros, whatever the limit
 pub record MacroRoom (work macros : List ℕ) (node w : ℕ) (r : Reached) : Type 0 where
   pub placed : Placed work (r .top) node w
-  pub fits : r .top + itemRate * size (treeAt work node w) ≤ length work
-  pub small : r .top + itemRate * size (treeAt work node w) ≤ numberMost
-  pub slots : macroItems * r .macros + size (treeAt work node w) ≤ macroItems * length macros
-  pub few : r .macros + size (treeAt work node w) ≤ numberMost
   pub below : Below macros (r .macros) (r .top)
+  pub space : (limit : ℕ) → isMacros limit (treeAt work node w) ≡ true → MacroSpace (treeAt work node w) work macros r
 
 -- the rules forms of a tree whose names are macros from k on; inside their scope or not
 unfoldable pub formsOf : (inside : Bool) → Tree → ℕ → List Tree
@@ -48,7 +55,7 @@ pub record Known (tree : Tree) (inside : Bool) (r : Reached) (work work′ macro
   pub wrap-below : w ≤ q .top
   pub numbers : q ≡ grown (q .top) (length (keywords tree)) r
   pub up : r .top ≤ q .top
-  pub words : q .top ≤ r .top + itemRate * length (keywords tree) + 5 * size (element 1 tree)
+  pub words : q .top ≤ r .top + macroWords tree
   pub kept : take (r .top) work′ ≡ take (r .top) work
   pub known : take (r .macros) macros′ ≡ take (r .macros) macros
 
@@ -57,18 +64,20 @@ KnownLeft tree inside r work work′ macros macros′ (Again n w q) = Known tree
 KnownLeft tree inside r work work′ macros macros′ (Operands l w q) = ⊥
 KnownLeft tree inside r work work′ macros macros′ (Over a) = (traverse rulesOf (formsOf inside tree (r .macros)) ≡ none) × Refuses 15 r a
 
-pub record MacrosKnown (tree : Tree) (inside : Bool) (r : Reached) (work work′ macros macros′ : List ℕ) (node w : ℕ) (q : Reached) : Type 0 where
-  pub shape : isMacros macrosMost tree ≡ true
+-- ---- with the tests before; `limit` is that of macros in the form
+
+pub record MacrosKnown (limit : ℕ) (tree : Tree) (inside : Bool) (r : Reached) (work work′ macros macros′ : List ℕ) (node w : ℕ) (q : Reached) : Type 0 where
+  pub shape : isMacros limit tree ≡ true
   pub apart : distinct (keywords tree) ≡ true
   pub knows : Known tree inside r work work′ macros macros′ node w q
 
-pub record MacrosRefused (tree : Tree) (inside : Bool) (r : Reached) (a : Ended) : Type 0 where
+pub record MacrosRefused (limit : ℕ) (tree : Tree) (inside : Bool) (r : Reached) (a : Ended) : Type 0 where
   pub ground : ℕ
   pub is : (f : List (List Rule) → End (Term Name)) (s : State)
-      → needs 13 (isMacros macrosMost tree) s (needs 14 (distinct (keywords tree)) s (given 15 s f (traverse rulesOf (formsOf inside tree (r .macros))))) ≡ refusedEnd ground s
+      → needs 13 (isMacros limit tree) s (needs 14 (distinct (keywords tree)) s (given 15 s f (traverse rulesOf (formsOf inside tree (r .macros))))) ≡ refusedEnd ground s
   pub refuses : Refuses ground r a
 
-abbrev pub MacrosLeft : (tree : Tree) (inside : Bool) (r : Reached) (work work′ macros macros′ : List ℕ) → Turn → Type 0
-MacrosLeft tree inside r work work′ macros macros′ (Again n w q) = MacrosKnown tree inside r work work′ macros macros′ n w q
-MacrosLeft tree inside r work work′ macros macros′ (Operands l w q) = ⊥
-MacrosLeft tree inside r work work′ macros macros′ (Over a) = MacrosRefused tree inside r a
+abbrev pub MacrosLeft : (limit : ℕ) (tree : Tree) (inside : Bool) (r : Reached) (work work′ macros macros′ : List ℕ) → Turn → Type 0
+MacrosLeft limit tree inside r work work′ macros macros′ (Again n w q) = MacrosKnown limit tree inside r work work′ macros macros′ n w q
+MacrosLeft limit tree inside r work work′ macros macros′ (Operands l w q) = ⊥
+MacrosLeft limit tree inside r work work′ macros macros′ (Over a) = MacrosRefused limit tree inside r a

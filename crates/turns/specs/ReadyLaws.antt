@@ -14,6 +14,7 @@ use Rattle.turns.specs.Memory.{tables, CoreRoom, workNeed, coreNeed, var
 use Rattle.turns.specs.Scopes.{Roomy, QuoteRoom}
 use Rattle.turns.specs.Uses.{UseRoom}
 use Rattle.turns.specs.MacroTurns.{MacroRoom}
+use Rattle.turns.specs.MacroTurnLaws.{macros-rate, macros-sizes}
 
 module _ (work core macros : List ℕ) (fuel node w : ℕ) (r : Reached)
     (ready : Ready fuel (size (treeAt work node w)) r (tables work core macros)) (placed : Placed work (r .top) node w) where
@@ -61,11 +62,15 @@ module _ (work core macros : List ℕ) (fuel node w : ℕ) (r : Reached)
   pub ready-macros : MacroRoom work macros node w r
   unfolding workNeed macroNeed
   ready-macros =
+      let tree = treeAt work node w in
       record {
         placed = placed;
-        fits = omega (arith, ready .room);
-        small = omega (arith, ready .small);
-        slots = omega (arith, ready .macro-room);
-        few = omega (arith, ready .macros-few);
         below = ready .macros-are .below;
+        space = λ limit shape.
+            record {
+              fits = omega (arith, ready .room, macros-sizes limit tree shape);
+              small = omega (arith, ready .small, macros-sizes limit tree shape);
+              slots = omega (arith, ready .macro-room, macros-rate limit tree shape);
+              few = omega (arith, ready .macros-few, macros-rate limit tree shape);
+            };
       }

@@ -7,7 +7,7 @@ use native.Mathlib.Omega.{arith}
 use lib.Dec.{eqb}
 use lib.ListN.{length}
 use borrow.Author.Tests.{eqb-true}
-use Rattle.words.specs.Limits.{macrosMost, coreRate}
+use Rattle.words.specs.Limits.{coreRate}
 use Rattle.words.specs.TestLaws.{and-parts}
 use Rattle.recipe.specs.Name.{Name}
 use Rattle.recipe.specs.Tree.{Tree, empty, constant, name, pair, size, isList, isListOf, elements, element}
@@ -71,24 +71,24 @@ counts-then n f (finished a u) h = counts-more n a (f u) (h u)
 counts-then n f (refusedEnd k s) h = tt
 counts-then n f halted h = tt
 
-module _ (operations : List ℕ) (fuel : ℕ) (expand : Tree → M (Term Name)) where
-  pub operands-count : (t : Tree) (s : State) → Counts (length (elements t)) (operandsOf operations fuel expand t s)
+module _ (limit : ℕ) (operations : List ℕ) (fuel : ℕ) (expand : Tree → M (Term Name)) where
+  pub operands-count : (t : Tree) (s : State) → Counts (length (elements t)) (operandsOf limit operations fuel expand t s)
   unfolding expandAll elements give endOf count
   operands-count empty s = refl
   operands-count (constant a) s = refl
   operands-count (name x) s = refl
   operands-count (pair h t) s =
-      subst (Counts (suc (length (elements t)))) (sym (expandAll-pair macrosMost operations fuel expand h t s))
-      (counts-then (length (elements t)) (λ u. operandsOf operations fuel expand t u) (endOf (expand h s)) (λ u. operands-count t u))
+      subst (Counts (suc (length (elements t)))) (sym (expandAll-pair limit operations fuel expand h t s))
+      (counts-then (length (elements t)) (λ u. operandsOf limit operations fuel expand t u) (endOf (expand h s)) (λ u. operands-count t u))
 
 -- ---- the turn, given its header
 
-module _ (operations : List ℕ) (fuel : ℕ) (tree : Tree) (r q : Reached) (work core core′ macros header : List ℕ) (list w : ℕ)
+module _ (limit : ℕ) (operations : List ℕ) (fuel : ℕ) (tree : Tree) (r q : Reached) (work core core′ macros header : List ℕ) (list w : ℕ)
     (ready : Ready fuel (size tree) r (tables work core macros)) (m : Moved header r core core′ q) (placed : Placed work (r .top) list w) where
   pub spread-by : (g : Terms Name → Term Name) → size (treeAt work list w) ≤ size tree → length header + coreRate * (size (treeAt work list w) - 1) ≤ coreRate * size tree
-      → ((expand : Tree → M (Term Name)) (s : State) → turnOf operations fuel expand tree s ≡ then (λ v u. finished (g v) u) (operandsOf operations fuel expand (treeAt work list w) s))
-      → ((expand : Tree → M (Term Name)) (s : State) → Prefixed wordsOfAll wordsOf g header (operandsOf operations fuel expand (treeAt work list w) s))
-      → Spreads operations fuel tree r (tables work core macros) (tables work core′ macros) list w q
+      → ((expand : Tree → M (Term Name)) (s : State) → turnOf limit operations fuel expand tree s ≡ then (λ v u. finished (g v) u) (operandsOf limit operations fuel expand (treeAt work list w) s))
+      → ((expand : Tree → M (Term Name)) (s : State) → Prefixed wordsOfAll wordsOf g header (operandsOf limit operations fuel expand (treeAt work list w) s))
+      → Spreads limit operations fuel tree r (tables work core macros) (tables work core′ macros) list w q
   unfolding coreNeed moved
   spread-by g less few turn prefixed =
       let top-is : q .top ≡ r .top = ap (λ (z : Reached). z .top) (m .is) in
@@ -101,9 +101,9 @@ module _ (operations : List ℕ) (fuel : ℕ) (tree : Tree) (r q : Reached) (wor
         falls = omega arith;
         means = λ expand a last l.
             subst (λ (e : End (Term Name)). Left wordsOf r core last e a) (sym (turn expand s))
-            (left-after wordsOfAll wordsOf g header r q core core′ last (operandsOf operations fuel expand (treeAt work list w) s) a (prefixed expand s) (m .put)
+            (left-after wordsOfAll wordsOf g header r q core core′ last (operandsOf limit operations fuel expand (treeAt work list w) s) a (prefixed expand s) (m .put)
             (omega (arith, m .put .end, ready .core-room))
-            (subst (λ (z : State). Left wordsOfAll q core′ last (operandsOf operations fuel expand (treeAt work list w) z) a) (sym same) l));
+            (subst (λ (z : State). Left wordsOfAll q core′ last (operandsOf limit operations fuel expand (treeAt work list w) z) a) (sym same) l));
       }
 
 -- ---- an application whose head is a variable or an operation
@@ -115,18 +115,18 @@ module _ (head : Term Name) (code number : ℕ) (words : wordsOf head ≡ code �
   application-prefixed n (refusedEnd k s) h = tt
   application-prefixed n halted h = tt
 
-  module _ (operations : List ℕ) (fuel : ℕ) (x : Name) (t : Tree) (r q : Reached) (work core core′ macros : List ℕ) (list w : ℕ)
+  module _ (limit : ℕ) (operations : List ℕ) (fuel : ℕ) (x : Name) (t : Tree) (r q : Reached) (work core core′ macros : List ℕ) (list w : ℕ)
       (ready : Ready fuel (size (pair (name x) t)) r (tables work core macros)) (placed : Placed work (r .top) list w) (list-is : treeAt work list w ≡ t)
       (m : Moved (applicationCode ∷ length (elements t) ∷ code ∷ number ∷ []) r core core′ q)
-      (turn : (expand : Tree → M (Term Name)) (s : State) → turnOf operations fuel expand (pair (name x) t) s ≡ endOf (expandOperands macrosMost operations fuel expand head t s)) where
-    pub spread-named : Spreads operations fuel (pair (name x) t) r (tables work core macros) (tables work core′ macros) list w q
+      (turn : (expand : Tree → M (Term Name)) (s : State) → turnOf limit operations fuel expand (pair (name x) t) s ≡ endOf (expandOperands limit operations fuel expand head t s)) where
+    pub spread-named : Spreads limit operations fuel (pair (name x) t) r (tables work core macros) (tables work core′ macros) list w q
     unfolding size
     spread-named =
-        spread-by operations fuel (pair (name x) t) r q work core core′ macros (applicationCode ∷ length (elements t) ∷ code ∷ number ∷ []) list w ready m placed (applicationC head)
+        spread-by limit operations fuel (pair (name x) t) r q work core core′ macros (applicationCode ∷ length (elements t) ∷ code ∷ number ∷ []) list w ready m placed (applicationC head)
         (rw list-is (omega arith))
         (rw list-is (omega (arith, size-positive t)))
-        (λ expand s. rw list-is (turn expand s ∙ operands-end macrosMost operations fuel expand head t s))
-        (λ expand s. rw list-is (application-prefixed (length (elements t)) (operandsOf operations fuel expand t s) (operands-count operations fuel expand t s)))
+        (λ expand s. rw list-is (turn expand s ∙ operands-end limit operations fuel expand head t s))
+        (λ expand s. rw list-is (application-prefixed (length (elements t)) (operandsOf limit operations fuel expand t s) (operands-count limit operations fuel expand t s)))
 
 -- ---- an application with another head: the head is the first of its operands
 
@@ -154,10 +154,10 @@ applied-then f (finished a u) = applied-inner a (f u)
 applied-then f (refusedEnd k s) = refl
 applied-then f halted = refl
 
-module _ (operations : List ℕ) (fuel : ℕ) where
+module _ (limit : ℕ) (operations : List ℕ) (fuel : ℕ) where
   -- the head is no name
   other-head : (h t : Tree) → ((x : Name) → h ≡ name x → ⊥) → (expand : Tree → M (Term Name)) (s : State)
-      → turnOf operations fuel expand (pair h t) s ≡ endOf (expandApplication macrosMost operations fuel expand h t s)
+      → turnOf limit operations fuel expand (pair h t) s ≡ endOf (expandApplication limit operations fuel expand h t s)
   unfolding expandTree expandPair
   other-head empty t unlike expand s = refl
   other-head (constant a) t unlike expand s = refl
@@ -165,24 +165,24 @@ module _ (operations : List ℕ) (fuel : ℕ) where
   other-head (pair a b) t unlike expand s = refl
 
   applied-turn : (h t : Tree) → ((x : Name) → h ≡ name x → ⊥) → (expand : Tree → M (Term Name)) (s : State)
-      → turnOf operations fuel expand (pair h t) s ≡ then (λ v u. finished (applicationOf v) u) (operandsOf operations fuel expand (pair h t) s)
+      → turnOf limit operations fuel expand (pair h t) s ≡ then (λ v u. finished (applicationOf v) u) (operandsOf limit operations fuel expand (pair h t) s)
   applied-turn h t unlike expand s =
       other-head h t unlike expand s
-      ∙ application-end macrosMost operations fuel expand h t s
-      ∙ applied-then (λ u. operandsOf operations fuel expand t u) (endOf (expand h s))
-      ∙ ap (then (λ v u. finished (applicationOf v) u)) (sym (expandAll-pair macrosMost operations fuel expand h t s))
+      ∙ application-end limit operations fuel expand h t s
+      ∙ applied-then (λ u. operandsOf limit operations fuel expand t u) (endOf (expand h s))
+      ∙ ap (then (λ v u. finished (applicationOf v) u)) (sym (expandAll-pair limit operations fuel expand h t s))
 
   module _ (h t : Tree) (r q : Reached) (work core core′ macros : List ℕ) (list w : ℕ)
       (ready : Ready fuel (size (pair h t)) r (tables work core macros)) (placed : Placed work (r .top) list w) (list-is : treeAt work list w ≡ pair h t)
       (m : Moved (applicationCode ∷ length (elements t) ∷ []) r core core′ q) (unlike : (x : Name) → h ≡ name x → ⊥) where
-    pub spread-other : Spreads operations fuel (pair h t) r (tables work core macros) (tables work core′ macros) list w q
+    pub spread-other : Spreads limit operations fuel (pair h t) r (tables work core macros) (tables work core′ macros) list w q
     unfolding size elements
     spread-other =
-        spread-by operations fuel (pair h t) r q work core core′ macros (applicationCode ∷ length (elements t) ∷ []) list w ready m placed applicationOf
+        spread-by limit operations fuel (pair h t) r q work core core′ macros (applicationCode ∷ length (elements t) ∷ []) list w ready m placed applicationOf
         (rw list-is (omega arith))
         (rw list-is (omega arith))
         (λ expand s. rw list-is (applied-turn h t unlike expand s))
-        (λ expand s. rw list-is (applied-prefixed (length (elements t)) (operandsOf operations fuel expand (pair h t) s) (operands-count operations fuel expand (pair h t) s)))
+        (λ expand s. rw list-is (applied-prefixed (length (elements t)) (operandsOf limit operations fuel expand (pair h t) s) (operands-count limit operations fuel expand (pair h t) s)))
 
 -- ---- if: three operands
 
@@ -238,7 +238,7 @@ cons (constant a) n h = absurd (omega arith)
 cons (name x) n h = absurd (omega arith)
 cons (pair f r) n h = record { first = f; rest = r; is = refl; more = omega arith }
 
-module _ (operations : List ℕ) (fuel : ℕ) (expand : Tree → M (Term Name)) where
+module _ (limit : ℕ) (operations : List ℕ) (fuel : ℕ) (expand : Tree → M (Term Name)) where
   -- the end of an operand, and what stands before the later ones
   abbrev on : Tree → State → End (Term Name)
   on t s = endOf (expand t s)
@@ -246,27 +246,27 @@ module _ (operations : List ℕ) (fuel : ℕ) (expand : Tree → M (Term Name)) 
   abbrev before : Term Name → End (Terms Name) → End (Terms Name)
   before a e = then (λ b v. finished (moreC a b) v) e
 
-  pub no-operands : (t : Tree) → length (elements t) ≡ 0 → (s : State) → operandsOf operations fuel expand t s ≡ finished noneC s
+  pub no-operands : (t : Tree) → length (elements t) ≡ 0 → (s : State) → operandsOf limit operations fuel expand t s ≡ finished noneC s
   unfolding expandAll elements give endOf
   no-operands empty h s = refl
   no-operands (constant a) h s = refl
   no-operands (name x) h s = refl
   no-operands (pair f r) h s = absurd (omega arith)
 
-  more-operands : (a t : Tree) (f : State → End (Terms Name)) → ((s : State) → operandsOf operations fuel expand t s ≡ f s) → (s : State) → operandsOf operations fuel expand (pair a t) s ≡ then (λ x u. before x (f u)) (on a s)
+  more-operands : (a t : Tree) (f : State → End (Terms Name)) → ((s : State) → operandsOf limit operations fuel expand t s ≡ f s) → (s : State) → operandsOf limit operations fuel expand (pair a t) s ≡ then (λ x u. before x (f u)) (on a s)
   more-operands a t f e s =
-      expandAll-pair macrosMost operations fuel expand a t s
+      expandAll-pair limit operations fuel expand a t s
       ∙ ap (λ (g : State → End (Terms Name)). then (λ x u. before x (g u)) (on a s)) (λ i. λ u. e u i)
 
   three-operands : (a b c d : Tree) → length (elements d) ≡ 0 → (s : State)
-      → then (λ x u. then (λ y v. then (λ z w. finished (ifC x y z) w) (on c v)) (on b u)) (on a s) ≡ then (λ v u. finished (ifOf v) u) (operandsOf operations fuel expand (pair a (pair b (pair c d))) s)
+      → then (λ x u. then (λ y v. then (λ z w. finished (ifC x y z) w) (on c v)) (on b u)) (on a s) ≡ then (λ v u. finished (ifOf v) u) (operandsOf limit operations fuel expand (pair a (pair b (pair c d))) s)
   three-operands a b c d h s =
       if-first (on c) (on b) (on a s)
       ∙ ap (then (λ v u. finished (ifOf v) u)) (sym (more-operands a (pair b (pair c d)) _ (more-operands b (pair c d) _ (more-operands c d _ (no-operands d h))) s))
 
   pub if-operands : (x : Name) (t : Tree) → length (elements t) ≡ 3 → (s : State)
       → then (λ a u. then (λ b v. then (λ c w. finished (ifC a b c) w) (on (element 3 (pair (name x) t)) v)) (on (element 2 (pair (name x) t)) u)) (on (element 1 (pair (name x) t)) s)
-      ≡ then (λ v u. finished (ifOf v) u) (operandsOf operations fuel expand t s)
+      ≡ then (λ v u. finished (ifOf v) u) (operandsOf limit operations fuel expand t s)
   unfolding element elements
   if-operands x t h s =
       let c1 = cons t 2 h in
@@ -279,25 +279,25 @@ pub listed : (n : ℕ) (t : Tree) → isListOf n t ≡ true → length (elements
 unfolding isListOf
 listed n t e = eqb-true (length (elements t)) n (and-parts (isList t) (eqb (length (elements t)) n) e .1)
 
-module _ (operations : List ℕ) (fuel : ℕ) (x : Name) (t : Tree) (r q : Reached) (work core core′ macros : List ℕ) (list w : ℕ)
+module _ (limit : ℕ) (operations : List ℕ) (fuel : ℕ) (x : Name) (t : Tree) (r q : Reached) (work core core′ macros : List ℕ) (list w : ℕ)
     (ready : Ready fuel (size (pair (name x) t)) r (tables work core macros)) (placed : Placed work (r .top) list w) (list-is : treeAt work list w ≡ t)
     (m : Moved (ifCode ∷ []) r core core′ q) (shape : isListOf 4 (pair (name x) t) ≡ true) (found : lookup operations x ≡ form if) where
   three : length (elements t) ≡ 3
   unfolding elements
   three = let e : suc (length (elements t)) ≡ 4 = listed 4 (pair (name x) t) shape in omega arith
 
-  if-turn : (expand : Tree → M (Term Name)) (s : State) → turnOf operations fuel expand (pair (name x) t) s ≡ then (λ v u. finished (ifOf v) u) (operandsOf operations fuel expand t s)
+  if-turn : (expand : Tree → M (Term Name)) (s : State) → turnOf limit operations fuel expand (pair (name x) t) s ≡ then (λ v u. finished (ifOf v) u) (operandsOf limit operations fuel expand t s)
   unfolding expandList needs
   if-turn expand s =
-      headed operations fuel x t (form if) found expand s
-      ∙ if-end macrosMost operations fuel expand (pair (name x) t) s
-      ∙ rw shape (if-operands operations fuel expand x t three s)
+      headed limit operations fuel x t (form if) found expand s
+      ∙ if-end limit operations fuel expand (pair (name x) t) s
+      ∙ rw shape (if-operands limit operations fuel expand x t three s)
 
-  pub spread-if : Spreads operations fuel (pair (name x) t) r (tables work core macros) (tables work core′ macros) list w q
+  pub spread-if : Spreads limit operations fuel (pair (name x) t) r (tables work core macros) (tables work core′ macros) list w q
   unfolding size
   spread-if =
-      spread-by operations fuel (pair (name x) t) r q work core core′ macros (ifCode ∷ []) list w ready m placed ifOf
+      spread-by limit operations fuel (pair (name x) t) r q work core core′ macros (ifCode ∷ []) list w ready m placed ifOf
       (rw list-is (omega arith))
       (rw list-is (omega (arith, size-positive t)))
       (λ expand s. rw list-is (if-turn expand s))
-      (λ expand s. rw list-is (if-prefixed (operandsOf operations fuel expand t s) (subst (λ (n : ℕ). Counts n (operandsOf operations fuel expand t s)) three (operands-count operations fuel expand t s))))
+      (λ expand s. rw list-is (if-prefixed (operandsOf limit operations fuel expand t s) (subst (λ (n : ℕ). Counts n (operandsOf limit operations fuel expand t s)) three (operands-count limit operations fuel expand t s))))

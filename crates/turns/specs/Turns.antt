@@ -41,15 +41,15 @@ abbrev pub KeptBy : (fuel n : ℕ) (r : Reached) (before after : Tables) → End
 KeptBy fuel n r before after (Done q) = Kept fuel n 0 r q before after
 KeptBy fuel n r before after (Refused g s m) = Unit {0}
 
--- ---- one turn, whatever expands the expressions in it
+-- ---- one turn, whatever expands the expressions in it; `limit` is that of macros in the form at hand
 
-module _ (operations : List ℕ) (fuel : ℕ) where
+module _ (limit : ℕ) (operations : List ℕ) (fuel : ℕ) where
   -- the end of an expression, and of operands
   abbrev pub turnOf : (Tree → M (Term Name)) → Tree → State → End (Term Name)
-  turnOf expand t s = endOf (expandTree macrosMost operations fuel expand t s)
+  turnOf expand t s = endOf (expandTree limit operations fuel expand t s)
 
   abbrev pub operandsOf : (Tree → M (Term Name)) → Tree → State → End (Terms Name)
-  operandsOf expand t s = endOf (expandAll macrosMost operations fuel expand t s)
+  operandsOf expand t s = endOf (expandAll limit operations fuel expand t s)
 
   module _ (tree : Tree) (r : Reached) (before after : Tables) where
     -- the whole expression is expanded
@@ -80,7 +80,7 @@ module _ (operations : List ℕ) (fuel : ℕ) where
     Turned (Operands list w q) = Spreads list w q
     Turned (Over a) = Ends a
 
--- ---- whole expressions and operands: enough gas is as much as there are items and fuel
+-- ---- whole expressions and operands, under the limit of a recipe: enough gas is as much as there are items and fuel
 
 module _ (operations : List ℕ) (fuel : ℕ) (tree : Tree) (r : Reached) (before after : Tables) where
   pub record Expands (a : Ended) : Type 0 where
@@ -96,7 +96,7 @@ module _ (operations : List ℕ) (fuel : ℕ) (tree : Tree) (r : Reached) (befor
 
 module _ (places : List ℕ) (fuel : ℕ) (tree : Tree) (r : Reached) (before after : Tables) where
   abbrev pub TurnedBy : Turn → Type 0
-  TurnedBy a = (operations : List ℕ) → Lent operations places → Turned operations fuel tree r before after a
+  TurnedBy a = (operations : List ℕ) → Lent operations places → Turned macrosMost operations fuel tree r before after a
 
   abbrev pub ExpandsBy : Ended → Type 0
   ExpandsBy a = (operations : List ℕ) → Lent operations places → Expands operations fuel tree r before after a

@@ -8,7 +8,6 @@ use native.Mathlib.Omega.{arith}
 use lib.Dec.{leb}
 use lib.ListN.{length, getD}
 use borrow.Author.Tests.{le-leb, lt-leb, leb-true, leb-false}
-use Rattle.words.specs.Limits.{macrosMost}
 use Rattle.words.specs.Each.{noneOf, each-getD, Given, missing, given}
 use Rattle.recipe.specs.Name.{Name}
 use Rattle.recipe.specs.Tree.{Tree, size, tail, mark, produce}
@@ -58,11 +57,11 @@ tests-end expand s t true true = refl
 tests-end expand s t true false = refl
 tests-end expand s t false c = refl
 
-module _ (operations : List ℕ) (fuel : ℕ) (expand : Tree → M (Term Name)) (t : Tree) (s : State) (spent : s .sum ≤ fuel) where
+module _ (limit : ℕ) (operations : List ℕ) (fuel : ℕ) (expand : Tree → M (Term Name)) (t : Tree) (s : State) (spent : s .sum ≤ fuel) where
   rule-outcome : (o : Option Rule)
-      → E.given 16 s (λ r. needs 17 (equalLengths (r .pattern) (L.marked macrosMost operations fuel expand t s) [] (r .template)) s
-      (needs 18 (leb (s .sum + size (L.result macrosMost operations fuel expand t s r)) fuel) s
-      (endOf (expand (produce (mark (suc (s .steps)) (L.result macrosMost operations fuel expand t s r))) (withStep (size (L.result macrosMost operations fuel expand t s r)) s))))) o
+      → E.given 16 s (λ r. needs 17 (equalLengths (r .pattern) (L.marked limit operations fuel expand t s) [] (r .template)) s
+      (needs 18 (leb (s .sum + size (L.result limit operations fuel expand t s r)) fuel) s
+      (endOf (expand (produce (mark (suc (s .steps)) (L.result limit operations fuel expand t s r))) (withStep (size (L.result limit operations fuel expand t s r)) s))))) o
       ≡ outcomeEnd expand s (stepOf (fuel - s .sum) (tail (mark (suc (s .steps)) t)) o)
   unfolding E.given stepOf applied L.marked L.result outcomeEnd
   rule-outcome none = refl
@@ -72,10 +71,10 @@ module _ (operations : List ℕ) (fuel : ℕ) (expand : Tree → M (Term Name)) 
       tests-end expand s made (equalLengths (r .pattern) used [] (r .template)) (leb (s .sum + size made) fuel)
       ∙ ap (λ (c : Bool). outcomeEnd expand s (cond (equalLengths (r .pattern) used [] (r .template)) (cond c (result made) (refused 18)) (refused 17))) (leb-left (size made) (s .sum) fuel spent)
 
-  pub use-outcome : (n : ℕ) → endOf (expandUse macrosMost operations fuel expand n t s)
+  pub use-outcome : (n : ℕ) → endOf (expandUse limit operations fuel expand n t s)
       ≡ outcomeEnd expand s (stepOf (fuel - s .sum) (tail (mark (suc (s .steps)) t)) (firstFit (getD (s .macros) n []) (tail (mark (suc (s .steps)) t)) .1))
   unfolding L.marked
-  use-outcome n = L.use-end macrosMost operations fuel expand n t s ∙ rule-outcome (firstFit (getD (s .macros) n []) (tail (mark (suc (s .steps)) t)) .1)
+  use-outcome n = L.use-end limit operations fuel expand n t s ∙ rule-outcome (firstFit (getD (s .macros) n []) (tail (mark (suc (s .steps)) t)) .1)
 
 -- ---- a result is proper
 
@@ -106,8 +105,8 @@ left-same r q core last halted a h l = l
 
 -- ---- the turn
 
-module _ (operations : List ℕ) (fuel n : ℕ) (t : Tree) (r : Reached) (work work′ core macros : List ℕ)
-    (turn : (expand : Tree → M (Term Name)) (s : State) → turnOf operations fuel expand t s ≡ endOf (expandUse macrosMost operations fuel expand n t s))
+module _ (limit : ℕ) (operations : List ℕ) (fuel n : ℕ) (t : Tree) (r : Reached) (work work′ core macros : List ℕ)
+    (turn : (expand : Tree → M (Term Name)) (s : State) → turnOf limit operations fuel expand t s ≡ endOf (expandUse limit operations fuel expand n t s))
     (ready : Ready fuel (size t) r (tables work core macros)) where
   abbrev outcome : Outcome
   outcome = outcomeOf (macrosAt work macros (r .macros)) n fuel t r
@@ -115,14 +114,14 @@ module _ (operations : List ℕ) (fuel n : ℕ) (t : Tree) (r : Reached) (work w
   abbrev state : State
   state = stateAt (tables work core macros) r
 
-  turn-outcome : (expand : Tree → M (Term Name)) → turnOf operations fuel expand t state ≡ outcomeEnd expand state outcome
+  turn-outcome : (expand : Tree → M (Term Name)) → turnOf limit operations fuel expand t state ≡ outcomeEnd expand state outcome
   unfolding stateAt outcomeOf usedOf
-  turn-outcome expand = turn expand state ∙ use-outcome operations fuel expand t state (ready .spent) n
+  turn-outcome expand = turn expand state ∙ use-outcome limit operations fuel expand t state (ready .spent) n
 
-  pub use-refused : (a : Ended) → Unused outcome r a → Ends operations fuel t r (tables work core macros) (tables work′ core macros) a
+  pub use-refused : (a : Ended) → Unused outcome r a → Ends limit operations fuel t r (tables work core macros) (tables work′ core macros) a
   unfolding stateAt outcomeEnd
   use-refused a x =
-      subst (λ (b : Ended). Ends operations fuel t r (tables work core macros) (tables work′ core macros) b) (sym (x .refuses))
+      subst (λ (b : Ended). Ends limit operations fuel t r (tables work core macros) (tables work′ core macros) b) (sym (x .refuses))
       (record {
         kept = tt;
         means = λ expand.
@@ -176,7 +175,7 @@ module _ (operations : List ℕ) (fuel n : ℕ) (t : Tree) (r : Reached) (work w
         ap (stateAt (tables work′ core macros)) (x .numbers)
         ∙ rw (macrosAt-settled work work′ macros macros (r .top) (x .kept) (r .macros) refl (ready .macros-are .below))
 
-    pub use-follows : Follows operations fuel t r (tables work core macros) (tables work′ core macros) node w q
+    pub use-follows : Follows limit operations fuel t r (tables work core macros) (tables work′ core macros) node w q
     unfolding stateAt outcomeEnd stepped
     use-follows =
         let top-is : q .top ≡ w = ap (λ (z : Reached). z .top) (x .numbers) in

@@ -11,8 +11,10 @@ use Rattle.layout.specs.Begins.{list-kind, pairAt, none, one, three, two
 
 returns : tie.Need-returns
 returns c =
-    let a = c .before .before .before .args in let k : kindAt (a .table .now) 0 ≡ 4 → ⊥ = λ q. c .if1 .taken (c .before .kind .ensures ∙ q) in
-    sym (none (a .table .now) (a .n) (c .before .before .before .pre .0) (c .before .before .before .pre .2) (c .before .before .before .pre .1) k)
+    let at-kind = c .before in
+    let at-args = at-kind .before .before in
+    let a = at-args .args in let k : kindAt (a .table .now) 0 ≡ 4 → ⊥ = λ q. c .if1 .taken (at-kind .kind .ensures ∙ q) in
+    sym (none (a .table .now) (a .n) (at-args .pre .0) (at-args .pre .2) (at-args .pre .1) k)
 
 -- item 0, once it is known to be a pair
 kind0 : (c : tie.After-tail) → kindAt (c .before .before .before .before .args .table .now) 0 ≡ 4
@@ -27,9 +29,12 @@ kind-requires-2 c κs =
 
 returns-2 : tie.Need-returns-2
 returns-2 c =
-    let a = c .before .before .before .before .before .before .args in let ws = a .table .now in let t = (c .before .before) in
-    let k : kindAt ws (tailAt ws 0) ≡ 4 → ⊥ = λ q. c .if2 .taken (c .before .kind2 .ensures ∙ (ap (kindAt ws) (c .before .before .tail .ensures) ∙ q)) in
-    sym (one ws (a .n) (c .before .before .before .before .before .before .pre .0) (c .before .before .before .before .before .before .pre .2) (c .before .before .before .before .before .before .pre .1) (kind0 t) (pair0 t .tailBelow) k)
+    let at-before = c .before in
+    let at-tail = at-before .before in
+    let at-args = at-tail .before .before .before .before in
+    let a = at-args .args in let ws = a .table .now in let t = (at-before .before) in
+    let k : kindAt ws (tailAt ws 0) ≡ 4 → ⊥ = λ q. c .if2 .taken (at-before .kind2 .ensures ∙ (ap (kindAt ws) (at-tail .tail .ensures) ∙ q)) in
+    sym (one ws (a .n) (at-args .pre .0) (at-args .pre .2) (at-args .pre .1) (kind0 t) (pair0 t .tailBelow) k)
 
 tail-requires-2 : tie.Need-tail-requires-2
 tail-requires-2 c κs =
@@ -37,7 +42,11 @@ tail-requires-2 c κs =
 
 -- its tail, once that is known to be a pair too
 kind1 : (c : tie.After-tail2) → kindAt (c .before .before .before .before .before .before .before .args .table .now) (tailAt (c .before .before .before .before .before .before .before .args .table .now) 0) ≡ 4
-kind1 c = sym (c .before .before .kind2 .ensures ∙ ap (kindAt (c .before .before .before .before .before .before .before .args .table .now)) (c .before .before .before .tail .ensures)) ∙ c .before .if2 .left
+kind1 c =
+    let at-if2 = c .before in
+    let at-kind2 = at-if2 .before in
+    let at-tail = at-kind2 .before in
+    sym (at-kind2 .kind2 .ensures ∙ ap (kindAt (at-tail .before .before .before .before .args .table .now)) (at-tail .tail .ensures)) ∙ at-if2 .if2 .left
 
 pair1 : (c : tie.After-tail2) → PairItem (c .before .before .before .before .before .before .before .args .table .now) (c .before .before .before .before .before .before .before .args .n) (tailAt (c .before .before .before .before .before .before .before .args .table .now) 0)
 pair1 c =
@@ -53,9 +62,12 @@ kind-requires-3 c κs =
 
 returns-3 : tie.Need-returns-3
 returns-3 c =
-    let a = c .before .before .before .before .before .before .before .before .before .args in let ws = a .table .now in let t = (c .before .before .before .before .before) in let u = (c .before .before) in
-    let k = list-kind (kindAt ws (tailAt ws (tailAt ws 0))) (pair1 u .tailKind) (λ q. c .if3 .taken (c .before .kind3 .ensures ∙ (ap (kindAt ws) (end u) ∙ q))) in
-    sym (three ws (a .n) (c .before .before .before .before .before .before .before .before .before .pre .0) (c .before .before .before .before .before .before .before .before .before .pre .2) (c .before .before .before .before .before .before .before .before .before .pre .1) (kind0 t) (pair0 t .tailBelow) (kind1 u) (pair1 u .tailBelow) k)
+    let at-before = c .before in
+    let at-before′ = at-before .before .before .before in
+    let at-args = at-before′ .before .before .before .before .before in
+    let a = at-args .args in let ws = a .table .now in let t = (at-before′ .before) in let u = (at-before .before) in
+    let k = list-kind (kindAt ws (tailAt ws (tailAt ws 0))) (pair1 u .tailKind) (λ q. c .if3 .taken (at-before .kind3 .ensures ∙ (ap (kindAt ws) (end u) ∙ q))) in
+    sym (three ws (a .n) (at-args .pre .0) (at-args .pre .2) (at-args .pre .1) (kind0 t) (pair0 t .tailBelow) (kind1 u) (pair1 u .tailBelow) k)
 
 kind-requires-4 : tie.Need-kind-requires-4
 kind-requires-4 c κs =
@@ -63,10 +75,16 @@ kind-requires-4 c κs =
 
 returns-4 : tie.Need-returns-4
 returns-4 c =
-    let a = c .before .before .before .before .before .before .before .before .before .before .before .before .args in let ws = a .table .now in let t = (c .before .before .before .before .before .before .before .before) in let u = (c .before .before .before .before .before) in
-    let k : kindAt ws (tailAt ws (tailAt ws 0)) ≡ 0 = sym (c .before .before .before .before .kind3 .ensures ∙ ap (kindAt ws) (end u)) ∙ c .before .before .before .if3 .left in
-    c .is-list-kind .ensures ∙ ap isListKind (c .before .kind4 .ensures ∙ ap (kindAt ws) (c .before .before .head .ensures))
-    ∙ sym (two ws (a .n) (c .before .before .before .before .before .before .before .before .before .before .before .before .pre .0) (c .before .before .before .before .before .before .before .before .before .before .before .before .pre .2) (c .before .before .before .before .before .before .before .before .before .before .before .before .pre .1) (kind0 t) (pair0 t .tailBelow) (kind1 u) (pair1 u .tailBelow) k (pair0 t .headBelow))
+    let at-kind4 = c .before in
+    let at-head = at-kind4 .before in
+    let at-if3 = at-head .before in
+    let at-before = at-if3 .before in
+    let at-before′ = at-before .before .before .before in
+    let at-args = at-before′ .before .before .before .before .before in
+    let a = at-args .args in let ws = a .table .now in let t = (at-before′ .before) in let u = (at-before .before) in
+    let k : kindAt ws (tailAt ws (tailAt ws 0)) ≡ 0 = sym (at-before .kind3 .ensures ∙ ap (kindAt ws) (end u)) ∙ at-if3 .if3 .left in
+    c .is-list-kind .ensures ∙ ap isListKind (at-kind4 .kind4 .ensures ∙ ap (kindAt ws) (at-head .head .ensures))
+    ∙ sym (two ws (a .n) (at-args .pre .0) (at-args .pre .2) (at-args .pre .1) (kind0 t) (pair0 t .tailBelow) (kind1 u) (pair1 u .tailBelow) k (pair0 t .headBelow))
 
 pub begins-two-spec : {M : Type 1} → statement M
 begins-two-spec =

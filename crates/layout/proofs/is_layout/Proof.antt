@@ -39,8 +39,11 @@ begins-two-requires c κs =
 returns-5 : tie.Need-returns-5
 unfolding itemCount
 returns-5 c =
-    let ws = c .before .before .before .before .before .before .before .args .table .now in let every = c .before .before .every-item in
-    c .begins-two .ensures ∙ sym (by-item-0 ws (c .before .before .before .before .before .if1 .left) (omega arith) (omega arith) (sym (every .ensures) ∙ not-false (every .result) (c .before .if4 .left)))
+    let at-if4 = c .before in
+    let at-every-item = at-if4 .before in
+    let at-if1 = at-every-item .before .before .before in
+    let ws = at-if1 .before .before .args .table .now in let every = at-every-item .every-item in
+    c .begins-two .ensures ∙ sym (by-item-0 ws (at-if1 .if1 .left) (omega arith) (omega arith) (sym (every .ensures) ∙ not-false (every .result) (at-if4 .if4 .left)))
 
 pub is-layout-spec : {M : Type 1} → statement M
 is-layout-spec =

@@ -19,33 +19,45 @@ abbrev μ-loop : tie.MeasureT-loop
 
 print-line-requires : tie.Need-print-line-requires Inv-loop μ-loop
 print-line-requires c κs =
-    let skip = c .before .skip in
-    let if1 = c .before .before .if1 in
-    let past = c .before .before .before .past in
-    let token-from = c .before .before .before .before .token-from in
-    let loop = c .before .before .before .before .before .loop in
-    let args = c .before .before .before .before .before .before .before .args in
+    let at-skip = c .before in
+    let at-if1 = at-skip .before in
+    let at-past = at-if1 .before in
+    let at-token-from = at-past .before in
+    let at-loop = at-token-from .before in
+    let skip = at-skip .skip in
+    let if1 = at-if1 .if1 in
+    let past = at-past .past in
+    let token-from = at-token-from .token-from in
+    let loop = at-loop .loop in
+    let args = at-loop .before .before .args in
     let p = answered-past (args .text .now) (loop .at) (token-from .result) (token-from .ensures) (loop .inv) in
     let later = p .1 (λ e. if1 .left (past .ensures ∙ e)) in
     (omega (arith, skip .ensures .start, past .ensures, later), omega (arith, past .ensures, p .0))
 
 loop-less : tie.Need-loop-less Inv-loop μ-loop
 loop-less c =
-    let if1 = c .before .before .before .if1 in
-    let past = c .before .before .before .before .past in
-    let token-from = c .before .before .before .before .before .token-from in
-    let loop = c .before .before .before .before .before .before .loop in
-    let args = c .before .before .before .before .before .before .before .before .args in
+    let at-if1 = c .before .before .before in
+    let at-past = at-if1 .before in
+    let at-token-from = at-past .before in
+    let at-loop = at-token-from .before in
+    let if1 = at-if1 .if1 in
+    let past = at-past .past in
+    let token-from = at-token-from .token-from in
+    let loop = at-loop .loop in
+    let args = at-loop .before .before .args in
     let p = answered-past (args .text .now) (loop .at) (token-from .result) (token-from .ensures) (loop .inv) in
     let later = p .1 (λ e. if1 .left (past .ensures ∙ e)) in
     omega (arith, start-low (args .text .now) (loop .at), past .ensures, later, p .0)
 
 loop-again : tie.Need-loop-again Inv-loop μ-loop
 loop-again c =
-    let past = c .before .before .before .before .past in
-    let token-from = c .before .before .before .before .before .token-from in
-    let loop = c .before .before .before .before .before .before .loop in
-    let args = c .before .before .before .before .before .before .before .before .args in
+    let at-past = c .before .before .before .before in
+    let at-token-from = at-past .before in
+    let at-loop = at-token-from .before in
+    let past = at-past .past in
+    let token-from = at-token-from .token-from in
+    let loop = at-loop .loop in
+    let args = at-loop .before .before .args in
     let p = answered-past (args .text .now) (loop .at) (token-from .result) (token-from .ensures) (loop .inv) in
     omega (arith, past .ensures, p .0)
 

@@ -15,11 +15,13 @@ element-requires c κs = search needs
 
 bind-names-requires : tie.Need-bind-names-requires
 bind-names-requires c κs =
-    let a = c .before .before .before .before .args in
-    let t : Tree = treeAt (a .work .now) (a .node) (a .w) in
-    let same = c .before .element .ensures .is (a .w) in (
-      subst (AllNames false) (sym same) (lambda-names t (c .before .before .before .before .pre .0)),
-      space-list _ (formals t) (a .work .now) (a .node) (a .w) (a .first) (a .w) (a .top) _ (ap (namesIn false) same ∙ formals-are t (c .before .before .before .before .pre .0) (c .before .before .before .before .pre .1)) (c .before .element .ensures .low) (c .before .before .before .before .pre .2),
+    let at-element = c .before in
+    let at-args = at-element .before .before .before in
+    let a = at-args .args in
+    let t : Tree = treeAt (a .work .now) (a .node) (a .wrap) in
+    let same = at-element .element .ensures .is (a .wrap) in (
+      subst (AllNames false) (sym same) (lambda-names t (at-args .pre .0)),
+      space-list _ (formals t) (a .work .now) (a .node) (a .wrap) (a .first) (a .wrap) (a .top) _ (ap (namesIn false) same ∙ formals-are t (at-args .pre .0) (at-args .pre .1)) (at-element .element .ensures .low) (at-args .pre .2),
     )
 
 same-length : tie.Need-same-length
@@ -27,10 +29,13 @@ same-length c = search needs
 
 returns : tie.Need-returns
 returns c =
-    let a = c .before .before .before .before .before .before .before .args in
-    let t : Tree = treeAt (a .work .now) (a .node) (a .w) in
-    let same = c .before .before .before .before .element .ensures .is (a .w) in
-    scoped-names _ _ (a .first) _ (formals t) (a .w) (a .work .now) _ (a .top) _ _ to-variables (ap (namesIn false) same ∙ formals-are t (c .before .before .before .before .before .before .before .pre .0) (c .before .before .before .before .before .before .before .pre .1)) (c .before .before .bind-names .ensures)
+    let at-bind-names = c .before .before in
+    let at-element = at-bind-names .before .before in
+    let at-args = at-element .before .before .before in
+    let a = at-args .args in
+    let t : Tree = treeAt (a .work .now) (a .node) (a .wrap) in
+    let same = at-element .element .ensures .is (a .wrap) in
+    scoped-names _ _ (a .first) _ (formals t) (a .wrap) (a .work .now) _ (a .top) _ _ to-variables (ap (namesIn false) same ∙ formals-are t (at-args .pre .0) (at-args .pre .1)) (at-bind-names .bind-names .ensures)
 
 pub bind-formals-spec : {M : Type 1} → statement M
 bind-formals-spec = tie.close (tie.spec element-requires bind-names-requires same-length returns)

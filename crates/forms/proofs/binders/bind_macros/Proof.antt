@@ -15,11 +15,13 @@ element-requires c κs = search needs
 
 bind-names-requires : tie.Need-bind-names-requires
 bind-names-requires c κs =
-    let a = c .before .before .before .before .args in
-    let t : Tree = treeAt (a .work .now) (a .node) (a .w) in
-    let same = c .before .element .ensures .is (a .w) in (
-      subst (AllNames true) (sym same) (c .before .before .before .before .pre .0),
-      space-list _ (keywords t) (a .work .now) (a .node) (a .w) (a .first) (a .w) (a .top) _ (ap (namesIn true) same ∙ keywords-are t) (c .before .element .ensures .low) (c .before .before .before .before .pre .1),
+    let at-element = c .before in
+    let at-args = at-element .before .before .before in
+    let a = at-args .args in
+    let t : Tree = treeAt (a .work .now) (a .node) (a .wrap) in
+    let same = at-element .element .ensures .is (a .wrap) in (
+      subst (AllNames true) (sym same) (at-args .pre .0),
+      space-list _ (keywords t) (a .work .now) (a .node) (a .wrap) (a .first) (a .wrap) (a .top) _ (ap (namesIn true) same ∙ keywords-are t) (at-element .element .ensures .low) (at-args .pre .1),
     )
 
 same-length : tie.Need-same-length
@@ -27,10 +29,12 @@ same-length c = search needs
 
 returns : tie.Need-returns
 returns c =
-    let a = c .before .before .before .before .before .before .before .args in
-    let t : Tree = treeAt (a .work .now) (a .node) (a .w) in
-    let same = c .before .before .before .before .element .ensures .is (a .w) in
-    scoped-names _ _ (a .first) _ (keywords t) (a .w) (a .work .now) _ (a .top) _ _ to-macros (ap (namesIn true) same ∙ keywords-are t) (c .before .before .bind-names .ensures)
+    let at-bind-names = c .before .before in
+    let at-element = at-bind-names .before .before in
+    let a = at-element .before .before .before .args in
+    let t : Tree = treeAt (a .work .now) (a .node) (a .wrap) in
+    let same = at-element .element .ensures .is (a .wrap) in
+    scoped-names _ _ (a .first) _ (keywords t) (a .wrap) (a .work .now) _ (a .top) _ _ to-macros (ap (namesIn true) same ∙ keywords-are t) (at-bind-names .bind-names .ensures)
 
 pub bind-macros-spec : {M : Type 1} → statement M
 bind-macros-spec = tie.close (tie.spec element-requires bind-names-requires same-length returns)

@@ -16,13 +16,13 @@ element-requires c κs = search needs
 are-distinct-requires : tie.Need-are-distinct-requires
 are-distinct-requires c κs =
     let a = c .before .before .args in
-    subst (AllNames true) (sym (c .element .ensures .is (a .w))) (c .before .before .pre)
+    subst (AllNames true) (sym (c .element .ensures .is (a .wrap))) (c .before .before .pre)
 
 returns : tie.Need-returns
 returns c =
     let a = c .before .before .before .args in
-    let t : Tree = treeAt (a .work .now) (a .node) (a .w) in
-    c .are-distinct .ensures ∙ ap (λ (u : Tree). distinct (namesIn true u)) (c .before .element .ensures .is (a .w)) ∙ ap distinct (keywords-are t)
+    let t : Tree = treeAt (a .work .now) (a .node) (a .wrap) in
+    c .are-distinct .ensures ∙ ap (λ (u : Tree). distinct (namesIn true u)) (c .before .element .ensures .is (a .wrap)) ∙ ap distinct (keywords-are t)
 
 pub keywords-distinct-spec : {M : Type 1} → statement M
 keywords-distinct-spec = tie.close (tie.spec element-requires are-distinct-requires returns)

@@ -25,7 +25,8 @@ abbrev μ-loop : tie.MeasureT-loop
 
 loop-holds : tie.Need-loop-holds Inv-loop μ-loop
 loop-holds c =
-    (c .before .before .pre .0, putting-begins (c .before .before .args .work .now) (c .before .before .args .list) (c .before .before .pre .0) (c .before .before .args .at) (c .before .before .args .core .now) (c .before .before .pre .1) (c .before .before .pre .2))
+    let at-args = c .before .before in
+    (at-args .pre .0, putting-begins (at-args .args .work .now) (at-args .args .list) (at-args .pre .0) (at-args .args .at) (at-args .args .core .now) (at-args .pre .1) (at-args .pre .2))
 
 word-requires : tie.Need-word-requires Inv-loop μ-loop
 word-requires c κs =
@@ -45,11 +46,25 @@ number-of-requires c κs =
 
 mul-core : tie.Need-mul-core Inv-loop μ-loop
 mul-core c =
-    omega (arith, putting-room (c .before .before .before .before .before .before .before .before .args .work .now) (c .before .before .before .before .before .before .before .before .args .list) (c .before .before .before .before .before .loop .inv .0) (c .before .before .before .before .before .before .before .before .args .at) (c .before .before .before .before .before .before .before .before .args .core .now) (c .before .before .before .before .before .loop .node) (c .before .before .before .before .before .loop .n) (c .before .before .before .before .before .loop .core) (c .before .before .before .before .before .loop .inv .1) _ (c .before .before .before .before .word .ensures) (c .before .before .before .if1 .taken) _ _ (referenceAt (c .before .before .before .before .before .before .before .before .args .work .now) (c .before .before .before .before .before .loop .node) 1) _ (c .before .before .reference .ensures) (c .before .own-name .ensures) refl (c .number-of .ensures), c .before .before .before .before .before .loop .inv .1 .same, c .before .before .before .before .before .before .before .before .good .1 .1 .0 .1)
+    let at-own-name = c .before in
+    let at-reference = at-own-name .before in
+    let at-if1 = at-reference .before in
+    let at-word = at-if1 .before in
+    let at-loop = at-word .before in
+    let at-args = at-loop .before .before .before in
+    let a = at-args .args in
+    let loop = at-loop .loop in
+    omega (arith, putting-room (a .work .now) (a .list) (loop .inv .0) (a .at) (a .core .now) (loop .node) (loop .n) (loop .core) (loop .inv .1) _ (at-word .word .ensures) (at-if1 .if1 .taken) _ _ (referenceAt (a .work .now) (loop .node) 1) _ (at-reference .reference .ensures) (at-own-name .own-name .ensures) refl (c .number-of .ensures), at-loop .loop .inv .1 .same, at-args .good .1 .1 .0 .1)
 
 slice-write-core : tie.Need-slice-write-core Inv-loop μ-loop
 slice-write-core c =
-    putting-room (c .before .before .before .before .before .before .before .before .args .work .now) (c .before .before .before .before .before .before .before .before .args .list) (c .before .before .before .before .before .loop .inv .0) (c .before .before .before .before .before .before .before .before .args .at) (c .before .before .before .before .before .before .before .before .args .core .now) (c .before .before .before .before .before .loop .node) (c .before .before .before .before .before .loop .n) (c .before .before .before .before .before .loop .core) (c .before .before .before .before .before .loop .inv .1) _ (c .before .before .before .before .word .ensures) (c .before .before .before .if1 .taken) _ _ (referenceAt (c .before .before .before .before .before .before .before .before .args .work .now) (c .before .before .before .before .before .loop .node) 1) _ (c .before .before .reference .ensures) (c .before .own-name .ensures) refl (c .number-of .ensures)
+    let at-own-name = c .before in
+    let at-reference = at-own-name .before in
+    let at-if1 = at-reference .before in
+    let at-word = at-if1 .before in
+    let at-loop = at-word .before in
+    let args′ = at-loop .before .before .before .args in
+    putting-room (args′ .work .now) (args′ .list) (at-loop .loop .inv .0) (args′ .at) (args′ .core .now) (at-loop .loop .node) (at-loop .loop .n) (at-loop .loop .core) (at-loop .loop .inv .1) _ (at-word .word .ensures) (at-if1 .if1 .taken) _ _ (referenceAt (args′ .work .now) (at-loop .loop .node) 1) _ (at-reference .reference .ensures) (at-own-name .own-name .ensures) refl (c .number-of .ensures)
 
 reference-requires-2 : tie.Need-reference-requires-2 Inv-loop μ-loop
 reference-requires-2 c κs =
@@ -57,15 +72,36 @@ reference-requires-2 c κs =
 
 add-n : tie.Need-add-n Inv-loop μ-loop
 add-n c =
-    omega (arith, putting-room (c .before .before .before .before .before .before .before .before .before .args .work .now) (c .before .before .before .before .before .before .before .before .before .args .list) (c .before .before .before .before .before .before .loop .inv .0) (c .before .before .before .before .before .before .before .before .before .args .at) (c .before .before .before .before .before .before .before .before .before .args .core .now) (c .before .before .before .before .before .before .loop .node) (c .before .before .before .before .before .before .loop .n) (c .before .before .before .before .before .before .loop .core) (c .before .before .before .before .before .before .loop .inv .1) _ (c .before .before .before .before .before .word .ensures) (c .before .before .before .before .if1 .taken) _ _ _ _ (c .before .before .before .reference .ensures) (c .before .before .own-name .ensures) (c .reference2 .ensures) (c .before .number-of .ensures), c .before .before .before .before .before .before .loop .inv .1 .same, c .before .before .before .before .before .before .before .before .before .good .1 .1 .0 .1)
+    let at-number-of = c .before in
+    let at-own-name = at-number-of .before in
+    let at-reference = at-own-name .before in
+    let at-if1 = at-reference .before in
+    let at-word = at-if1 .before in
+    let at-loop = at-word .before in
+    let at-args = at-loop .before .before .before in
+    omega (arith, putting-room (at-args .args .work .now) (at-args .args .list) (at-loop .loop .inv .0) (at-args .args .at) (at-args .args .core .now) (at-loop .loop .node) (at-loop .loop .n) (at-loop .loop .core) (at-loop .loop .inv .1) _ (at-word .word .ensures) (at-if1 .if1 .taken) _ _ _ _ (at-reference .reference .ensures) (at-own-name .own-name .ensures) (c .reference2 .ensures) (at-number-of .number-of .ensures), at-loop .loop .inv .1 .same, at-args .good .1 .1 .0 .1)
 
 loop-less : tie.Need-loop-less Inv-loop μ-loop
 loop-less c =
-    putting-falls (c .before .before .before .before .before .before .before .before .before .args .work .now) (c .before .before .before .before .before .before .before .before .before .args .list) (c .before .before .before .before .before .before .loop .inv .0) (c .before .before .before .before .before .before .before .before .before .args .at) (c .before .before .before .before .before .before .before .before .before .args .core .now) (c .before .before .before .before .before .before .loop .node) (c .before .before .before .before .before .before .loop .n) (c .before .before .before .before .before .before .loop .core) (c .before .before .before .before .before .before .loop .inv .1) _ (c .before .before .before .before .before .word .ensures) (c .before .before .before .before .if1 .taken) _ _ _ _ (c .before .before .before .reference .ensures) (c .before .before .own-name .ensures) (c .reference2 .ensures) (c .before .number-of .ensures)
+    let at-number-of = c .before in
+    let at-own-name = at-number-of .before in
+    let at-reference = at-own-name .before in
+    let at-if1 = at-reference .before in
+    let at-word = at-if1 .before in
+    let at-loop = at-word .before in
+    let args′ = at-loop .before .before .before .args in
+    putting-falls (args′ .work .now) (args′ .list) (at-loop .loop .inv .0) (args′ .at) (args′ .core .now) (at-loop .loop .node) (at-loop .loop .n) (at-loop .loop .core) (at-loop .loop .inv .1) _ (at-word .word .ensures) (at-if1 .if1 .taken) _ _ _ _ (at-reference .reference .ensures) (at-own-name .own-name .ensures) (c .reference2 .ensures) (at-number-of .number-of .ensures)
 
 loop-again : tie.Need-loop-again Inv-loop μ-loop
 loop-again c =
-    (c .before .before .before .before .before .before .loop .inv .0, putting-more (c .before .before .before .before .before .before .before .before .before .args .work .now) (c .before .before .before .before .before .before .before .before .before .args .list) (c .before .before .before .before .before .before .loop .inv .0) (c .before .before .before .before .before .before .before .before .before .args .at) (c .before .before .before .before .before .before .before .before .before .args .core .now) (c .before .before .before .before .before .before .loop .node) (c .before .before .before .before .before .before .loop .n) (c .before .before .before .before .before .before .loop .core) (c .before .before .before .before .before .before .loop .inv .1) _ (c .before .before .before .before .before .word .ensures) (c .before .before .before .before .if1 .taken) _ _ _ _ (c .before .before .before .reference .ensures) (c .before .before .own-name .ensures) (c .reference2 .ensures) (c .before .number-of .ensures))
+    let at-number-of = c .before in
+    let at-own-name = at-number-of .before in
+    let at-reference = at-own-name .before in
+    let at-if1 = at-reference .before in
+    let at-word = at-if1 .before in
+    let at-loop = at-word .before in
+    let args′ = at-loop .before .before .before .args in
+    (at-loop .loop .inv .0, putting-more (args′ .work .now) (args′ .list) (at-loop .loop .inv .0) (args′ .at) (args′ .core .now) (at-loop .loop .node) (at-loop .loop .n) (at-loop .loop .core) (at-loop .loop .inv .1) _ (at-word .word .ensures) (at-if1 .if1 .taken) _ _ _ _ (at-reference .reference .ensures) (at-own-name .own-name .ensures) (c .reference2 .ensures) (at-number-of .number-of .ensures))
 
 same-length : tie.Need-same-length Inv-loop μ-loop
 same-length c =
@@ -73,7 +109,10 @@ same-length c =
 
 returns : tie.Need-returns Inv-loop μ-loop
 returns c =
-    λ w h. putting-ends (c .before .before .before .before .before .args .work .now) (c .before .before .before .before .before .args .list) (c .before .before .loop .inv .0) (c .before .before .before .before .before .args .at) (c .before .before .before .before .before .args .core .now) (c .before .before .loop .node) (c .before .before .loop .n) (c .before .before .loop .core) (c .before .before .loop .inv .1) _ (c .before .word .ensures) (c .if1 .left) w h
+    let at-word = c .before in
+    let at-loop = at-word .before in
+    let args′ = at-loop .before .before .before .args in
+    λ w h. putting-ends (args′ .work .now) (args′ .list) (at-loop .loop .inv .0) (args′ .at) (args′ .core .now) (at-loop .loop .node) (at-loop .loop .n) (at-loop .loop .core) (at-loop .loop .inv .1) _ (at-word .word .ensures) (c .if1 .left) w h
 
 pub put-numbers-spec : {M : Type 1} → statement M
 put-numbers-spec =

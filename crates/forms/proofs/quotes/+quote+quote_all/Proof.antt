@@ -54,13 +54,22 @@ quote-all-claims t =
 
 quote-put-two-requires : (t : ℕ) → quote-lts.Need-put-two-requires (quote-claims t) (quote-at t) quote.Post
 quote-put-two-requires t c κs =
-    let a = c .before .before .before .before .before .before .args in
-    omega (arith, c .before .before .before .before .before .before .pre .1 .0, ap length (quoted-pair (a .work .now) (a .node) _ (c .before .before .before .word .ensures) (c .before .before .if1 .taken) _ (c .before .count .ensures)))
+    let at-count = c .before in
+    let at-if1 = at-count .before in
+    let at-word = at-if1 .before in
+    let at-args = at-word .before .before .before in
+    let a = at-args .args in
+    omega (arith, at-args .pre .1 .0, ap length (quoted-pair (a .work .now) (a .node) _ (at-word .word .ensures) (at-if1 .if1 .taken) _ (at-count .count .ensures)))
 
 quote-quote-all-requires : (t : ℕ) → quote-lts.Need-quote-all-requires (quote-claims t) (quote-at t) quote.Post
 quote-quote-all-requires t c κs =
-    let a = c .before .before .before .before .before .before .before .before .before .before .args in
-    (omega (arith, c .before .before .before .before .before .before .before .before .before .before .pre .0), (omega (arith, c .before .before .before .before .before .before .before .before .before .before .pre .1 .0, ap length (quoted-pair (a .work .now) (a .node) _ (c .before .before .before .before .before .before .before .word .ensures) (c .before .before .before .before .before .before .if1 .taken) _ (c .before .before .before .before .before .count .ensures)), c .before .before .before .put-two .ensures .end, c .before .before .before .put-two .kept .0), c .before .before .before .before .before .before .before .before .before .before .pre .1 .1))
+    let at-put-two = c .before .before .before in
+    let at-count = at-put-two .before .before in
+    let at-if1 = at-count .before in
+    let at-word = at-if1 .before in
+    let at-args = at-word .before .before .before in
+    let a = at-args .args in
+    (omega (arith, at-args .pre .0), (omega (arith, at-args .pre .1 .0, ap length (quoted-pair (a .work .now) (a .node) _ (at-word .word .ensures) (at-if1 .if1 .taken) _ (at-count .count .ensures)), at-put-two .put-two .ensures .end, at-put-two .put-two .kept .0), at-args .pre .1 .1))
 
 quote-same-length : (t : ℕ) → quote-lts.Need-same-length (quote-claims t) (quote-at t) quote.Post
 quote-same-length t c =
@@ -68,13 +77,23 @@ quote-same-length t c =
 
 quote-returns : (t : ℕ) → quote-lts.Need-returns (quote-claims t) (quote-at t) quote.Post
 quote-returns t c =
-    let a = c .before .before .before .before .before .before .before .before .before .before .before .before .before .args in
-    quoted-list (a .work .now) (a .node) _ (c .before .before .before .before .before .before .before .before .before .before .word .ensures) (c .before .before .before .before .before .before .before .before .before .if1 .taken) _ (c .before .before .before .before .before .before .before .before .count .ensures) (a .core .now) _ _ (a .at) _ _ (c .before .before .before .before .before .before .before .before .before .before .before .before .before .pre .1 .0) (c .before .before .before .before .before .before .put-two .ensures) (c .before .before .quote-all .ensures)
+    let at-quote-all = c .before .before in
+    let at-put-two = at-quote-all .before .before .before .before in
+    let at-count = at-put-two .before .before in
+    let at-if1 = at-count .before in
+    let at-word = at-if1 .before in
+    let at-args = at-word .before .before .before in
+    let a = at-args .args in
+    quoted-list (a .work .now) (a .node) _ (at-word .word .ensures) (at-if1 .if1 .taken) _ (at-count .count .ensures) (a .core .now) _ _ (a .at) _ _ (at-args .pre .1 .0) (at-put-two .put-two .ensures) (at-quote-all .quote-all .ensures)
 
 quote-put-two-requires-2 : (t : ℕ) → quote-lts.Need-put-two-requires-2 (quote-claims t) (quote-at t) quote.Post
 quote-put-two-requires-2 t c κs =
-    let a = c .before .before .before .before .before .before .before .args in
-    omega (arith, c .before .before .before .before .before .before .before .pre .1 .0, ap length (quoted-name (a .work .now) (a .node) _ (c .before .before .before .before .word .ensures) (c .before .before .if2 .taken) _ (c .before .number-of .ensures)))
+    let at-number-of = c .before in
+    let at-if2 = at-number-of .before in
+    let at-word = at-if2 .before .before in
+    let at-args = at-word .before .before .before in
+    let a = at-args .args in
+    omega (arith, at-args .pre .1 .0, ap length (quoted-name (a .work .now) (a .node) _ (at-word .word .ensures) (at-if2 .if2 .taken) _ (at-number-of .number-of .ensures)))
 
 quote-same-length-2 : (t : ℕ) → quote-lts.Need-same-length-2 (quote-claims t) (quote-at t) quote.Post
 quote-same-length-2 t c =
@@ -82,13 +101,20 @@ quote-same-length-2 t c =
 
 quote-returns-2 : (t : ℕ) → quote-lts.Need-returns-2 (quote-claims t) (quote-at t) quote.Post
 quote-returns-2 t c =
-    let a = c .before .before .before .before .before .before .before .before .before .before .args in
-    written-as _ _ (a .core .now) _ (a .at) _ (quoted-name (a .work .now) (a .node) _ (c .before .before .before .before .before .before .before .word .ensures) (c .before .before .before .before .before .if2 .taken) _ (c .before .before .before .before .number-of .ensures)) (c .before .before .put-two2 .ensures)
+    let at-put-two2 = c .before .before in
+    let at-number-of = at-put-two2 .before .before in
+    let at-if2 = at-number-of .before in
+    let at-word = at-if2 .before .before in
+    let a = at-word .before .before .before .args in
+    written-as _ _ (a .core .now) _ (a .at) _ (quoted-name (a .work .now) (a .node) _ (at-word .word .ensures) (at-if2 .if2 .taken) _ (at-number-of .number-of .ensures)) (at-put-two2 .put-two2 .ensures)
 
 quote-put-two-requires-3 : (t : ℕ) → quote-lts.Need-put-two-requires-3 (quote-claims t) (quote-at t) quote.Post
 quote-put-two-requires-3 t c κs =
-    let a = c .before .before .before .before .before .before .before .args in
-    omega (arith, c .before .before .before .before .before .before .before .pre .1 .0, ap length (quoted-empty (a .work .now) (a .node) _ (c .before .before .before .before .word .ensures) (c .before .if3 .taken)))
+    let at-if3 = c .before in
+    let at-word = at-if3 .before .before .before in
+    let at-args = at-word .before .before .before in
+    let a = at-args .args in
+    omega (arith, at-args .pre .1 .0, ap length (quoted-empty (a .work .now) (a .node) _ (at-word .word .ensures) (at-if3 .if3 .taken)))
 
 quote-same-length-3 : (t : ℕ) → quote-lts.Need-same-length-3 (quote-claims t) (quote-at t) quote.Post
 quote-same-length-3 t c =
@@ -96,18 +122,27 @@ quote-same-length-3 t c =
 
 quote-returns-3 : (t : ℕ) → quote-lts.Need-returns-3 (quote-claims t) (quote-at t) quote.Post
 quote-returns-3 t c =
-    let a = c .before .before .before .before .before .before .before .before .before .before .args in
-    written-as _ _ (a .core .now) _ (a .at) _ (quoted-empty (a .work .now) (a .node) _ (c .before .before .before .before .before .before .before .word .ensures) (c .before .before .before .before .if3 .taken)) (c .before .before .put-two3 .ensures)
+    let at-put-two3 = c .before .before in
+    let at-if3 = at-put-two3 .before .before in
+    let at-word = at-if3 .before .before .before in
+    let a = at-word .before .before .before .args in
+    written-as _ _ (a .core .now) _ (a .at) _ (quoted-empty (a .work .now) (a .node) _ (at-word .word .ensures) (at-if3 .if3 .taken)) (at-put-two3 .put-two3 .ensures)
 
 quote-put-constant-requires : (t : ℕ) → quote-lts.Need-put-constant-requires (quote-claims t) (quote-at t) quote.Post
 quote-put-constant-requires t c κs =
-    let s = c .before .before .before .before .before .before .before .before .before in
+    let at-word3 = c .before in
+    let at-word2 = at-word3 .before in
+    let at-if3 = at-word2 .before in
+    let at-if2 = at-if3 .before in
+    let at-if1 = at-if2 .before in
+    let at-word = at-if1 .before in
+    let s = at-word .before .before .before in
     let a = s .args in
-    let w = c .before .before .before .before .before .before .word .ensures in
-    let x = c .before .before .before .if3 .left in
-    let y = c .before .before .before .before .if2 .left in
-    let z = c .before .before .before .before .before .if1 .left in
-    (omega (arith, s .pre .1 .0, ap length (quoted-constant (a .work .now) (a .node) _ w x y z _ _ (c .before .before .word2 .ensures) (c .before .word3 .ensures))), constant-small (a .work .now) (a .node) _ w x y z (s .pre .1 .1))
+    let w = at-word .word .ensures in
+    let x = at-if3 .if3 .left in
+    let y = at-if2 .if2 .left in
+    let z = at-if1 .if1 .left in
+    (omega (arith, s .pre .1 .0, ap length (quoted-constant (a .work .now) (a .node) _ w x y z _ _ (at-word2 .word2 .ensures) (at-word3 .word3 .ensures))), constant-small (a .work .now) (a .node) _ w x y z (s .pre .1 .1))
 
 quote-same-length-4 : (t : ℕ) → quote-lts.Need-same-length-4 (quote-claims t) (quote-at t) quote.Post
 quote-same-length-4 t c =
@@ -115,8 +150,15 @@ quote-same-length-4 t c =
 
 quote-returns-4 : (t : ℕ) → quote-lts.Need-returns-4 (quote-claims t) (quote-at t) quote.Post
 quote-returns-4 t c =
-    let a = c .before .before .before .before .before .before .before .before .before .before .before .before .args in
-    written-as _ _ (a .core .now) _ (a .at) _ (quoted-constant (a .work .now) (a .node) _ (c .before .before .before .before .before .before .before .before .before .word .ensures) (c .before .before .before .before .before .before .if3 .left) (c .before .before .before .before .before .before .before .if2 .left) (c .before .before .before .before .before .before .before .before .if1 .left) _ _ (c .before .before .before .before .before .word2 .ensures) (c .before .before .before .before .word3 .ensures)) (c .before .before .put-constant .ensures)
+    let at-put-constant = c .before .before in
+    let at-word3 = at-put-constant .before .before in
+    let at-word2 = at-word3 .before in
+    let at-if3 = at-word2 .before in
+    let at-if2 = at-if3 .before in
+    let at-if1 = at-if2 .before in
+    let at-word = at-if1 .before in
+    let a = at-word .before .before .before .args in
+    written-as _ _ (a .core .now) _ (a .at) _ (quoted-constant (a .work .now) (a .node) _ (at-word .word .ensures) (at-if3 .if3 .left) (at-if2 .if2 .left) (at-if1 .if1 .left) _ _ (at-word2 .word2 .ensures) (at-word3 .word3 .ensures)) (at-put-constant .put-constant .ensures)
 
 abbrev quote-all-Inv-loop : quote-all-lts.InvT-loop
 quote-all-Inv-loop work list core₀ at rest₀ n₀ core rest n =
@@ -133,18 +175,38 @@ quote-all-loop-holds t c =
 
 quote-all-quote-requires : (t : ℕ) → quote-all-lts.Need-quote-requires (quote-all-claims t) (quote-all-at t) quote-all.Post quote-all-Inv-loop quote-all-μ-loop
 quote-all-quote-requires t c κs =
-    let a = c .before .before .before .before .before .before .before .args in
-    (omega (arith, c .before .before .before .before .before .before .before .pre .0, first-low (a .work .now) (a .list) (a .at) (a .core .now) _ _ _ (c .before .before .before .before .loop .inv) _ (c .before .before .before .word .ensures) (c .before .before .if1 .taken) _ (c .before .reference .ensures)), (walked-room (a .work .now) (a .list) (a .at) (a .core .now) _ _ _ (c .before .before .before .before .loop .inv) _ (c .before .before .before .word .ensures) (c .before .before .if1 .taken) _ (c .before .reference .ensures) (c .before .before .before .before .before .before .before .pre .1 .0), first-quotable (a .work .now) (a .list) (a .at) (a .core .now) _ _ _ (c .before .before .before .before .loop .inv) _ (c .before .before .before .word .ensures) (c .before .before .if1 .taken) _ (c .before .reference .ensures)))
+    let at-reference = c .before in
+    let at-if1 = at-reference .before in
+    let at-word = at-if1 .before in
+    let at-loop = at-word .before in
+    let at-args = at-loop .before .before .before in
+    let a = at-args .args in (
+      omega (arith, at-args .pre .0, first-low (a .work .now) (a .list) (a .at) (a .core .now) _ _ _ (at-loop .loop .inv) _ (at-word .word .ensures) (at-if1 .if1 .taken) _ (at-reference .reference .ensures)),
+      (
+        walked-room (a .work .now) (a .list) (a .at) (a .core .now) _ _ _ (at-loop .loop .inv) _ (at-word .word .ensures) (at-if1 .if1 .taken) _ (at-reference .reference .ensures) (at-args .pre .1 .0),
+        first-quotable (a .work .now) (a .list) (a .at) (a .core .now) _ _ _ (at-loop .loop .inv) _ (at-word .word .ensures) (at-if1 .if1 .taken) _ (at-reference .reference .ensures),
+      ),
+    )
 
 quote-all-loop-less : (t : ℕ) → quote-all-lts.Need-loop-less (quote-all-claims t) (quote-all-at t) quote-all.Post quote-all-Inv-loop quote-all-μ-loop
 quote-all-loop-less t c =
-    let a = c .before .before .before .before .before .before .before .before .before .before .before .args in
-    after-falls (a .work .now) (a .list) (a .at) (a .core .now) _ _ _ (c .before .before .before .before .before .before .before .before .loop .inv) _ (c .before .before .before .before .before .before .before .word .ensures) (c .before .before .before .before .before .before .if1 .taken) _ (c .before .before .before .before .before .reference .ensures) _ (c .reference2 .ensures)
+    let at-reference = c .before .before .before .before .before in
+    let at-if1 = at-reference .before in
+    let at-word = at-if1 .before in
+    let at-loop = at-word .before in
+    let a = at-loop .before .before .before .args in
+    after-falls (a .work .now) (a .list) (a .at) (a .core .now) _ _ _ (at-loop .loop .inv) _ (at-word .word .ensures) (at-if1 .if1 .taken) _ (at-reference .reference .ensures) _ (c .reference2 .ensures)
 
 quote-all-loop-again : (t : ℕ) → quote-all-lts.Need-loop-again (quote-all-claims t) (quote-all-at t) quote-all.Post quote-all-Inv-loop quote-all-μ-loop
 quote-all-loop-again t c =
-    let a = c .before .before .before .before .before .before .before .before .before .before .before .args in
-    walked-more (a .work .now) (a .list) (a .at) (a .core .now) _ _ _ (c .before .before .before .before .before .before .before .before .loop .inv) _ (c .before .before .before .before .before .before .before .word .ensures) (c .before .before .before .before .before .before .if1 .taken) _ (c .before .before .before .before .before .reference .ensures) (c .before .before .before .before .before .before .before .before .before .before .before .pre .1 .0) _ (c .reference2 .ensures) _ _ (c .before .before .before .quote .kept .1 .1 .0) (c .before .before .before .quote .ensures)
+    let at-quote = c .before .before .before in
+    let at-reference = at-quote .before .before in
+    let at-if1 = at-reference .before in
+    let at-word = at-if1 .before in
+    let at-loop = at-word .before in
+    let at-args = at-loop .before .before .before in
+    let a = at-args .args in
+    walked-more (a .work .now) (a .list) (a .at) (a .core .now) _ _ _ (at-loop .loop .inv) _ (at-word .word .ensures) (at-if1 .if1 .taken) _ (at-reference .reference .ensures) (at-args .pre .1 .0) _ (c .reference2 .ensures) _ _ (at-quote .quote .kept .1 .1 .0) (at-quote .quote .ensures)
 
 quote-all-same-length : (t : ℕ) → quote-all-lts.Need-same-length (quote-all-claims t) (quote-all-at t) quote-all.Post quote-all-Inv-loop quote-all-μ-loop
 quote-all-same-length t c =

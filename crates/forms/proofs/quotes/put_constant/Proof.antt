@@ -13,7 +13,10 @@ put-two-requires c κs =
 
 returns : tie.Need-returns
 returns c =
-    let a = c .before .before .before .before .before .before .args in written-other (a .core .now) (a .at) (a .kind) (a .first) (a .second) (c .before .before .before .before .before .before .pre .0) (c .before .before .before .before .if1 .taken) _ _ (c .before .before .put-two .ensures)
+    let at-put-two = c .before .before in
+    let at-if1 = at-put-two .before .before in
+    let at-args = at-if1 .before .before in
+    let a = at-args .args in written-other (a .core .now) (a .at) (a .kind) (a .first) (a .second) (at-args .pre .0) (at-if1 .if1 .taken) _ _ (at-put-two .put-two .ensures)
 
 slice-write-core : tie.Need-slice-write-core
 slice-write-core c =

@@ -11,7 +11,7 @@ is-macro-requires c κs =
 returns : tie.Need-returns
 returns c =
     let a = c .before .before .before .args in
-    one-macro (a .work .now) (a .node) (a .macros) _ (c .before .if1 .taken) (c .is-macro .ensures)
+    one-macro (a .work .now) (a .node) (a .entries) _ (c .before .if1 .taken) (c .is-macro .ensures)
 
 is-ordinary-requires : tie.Need-is-ordinary-requires
 is-ordinary-requires c κs =
@@ -20,7 +20,7 @@ is-ordinary-requires c κs =
 returns-2 : tie.Need-returns-2
 returns-2 c =
     let a = c .before .before .before .args in
-    one-formal (a .work .now) (a .node) (a .macros) _ (c .before .if1 .left) (c .is-ordinary .ensures)
+    one-formal (a .work .now) (a .node) (a .entries) _ (c .before .if1 .left) (c .is-ordinary .ensures)
 
 pub binds-one-spec : {M : Type 1} → statement M
 binds-one-spec = tie.close (tie.spec is-macro-requires returns is-ordinary-requires returns-2)

@@ -12,13 +12,21 @@ returns c =
 
 returns-2 : tie.Need-returns-2
 returns-2 c =
-    let a = c .before .before .before .before .before .before .args in
-    lambda-list (a .work .now) (a .node) _ (c .before .before .before .before .is-list-of .ensures) _ (c .before .before .element .ensures) _ (c .before .is-list .ensures) (not-true _ (c .if2 .taken))
+    let at-is-list = c .before in
+    let at-element = at-is-list .before in
+    let at-is-list-of = at-element .before .before in
+    let a = at-is-list-of .before .before .args in
+    lambda-list (a .work .now) (a .node) _ (at-is-list-of .is-list-of .ensures) _ (at-element .element .ensures) _ (at-is-list .is-list .ensures) (not-true _ (c .if2 .taken))
 
 returns-3 : tie.Need-returns-3
 returns-3 c =
-    let a = c .before .before .before .before .before .before .before .args in
-    lambda-all (a .work .now) (a .node) _ (c .before .before .before .before .before .is-list-of .ensures) _ (c .before .before .before .element .ensures) (not-false _ (c .before .before .before .before .if1 .left)) _ _ (c .before .before .is-list .ensures) (not-false _ (c .before .if2 .left)) (c .binds-all .ensures)
+    let at-if2 = c .before in
+    let at-is-list = at-if2 .before in
+    let at-element = at-is-list .before in
+    let at-if1 = at-element .before in
+    let at-is-list-of = at-if1 .before in
+    let a = at-is-list-of .before .before .args in
+    lambda-all (a .work .now) (a .node) _ (at-is-list-of .is-list-of .ensures) _ (at-element .element .ensures) (not-false _ (at-if1 .if1 .left)) _ _ (at-is-list .is-list .ensures) (not-false _ (at-if2 .if2 .left)) (c .binds-all .ensures)
 
 pub is-lambda-spec : {M : Type 1} → statement M
 is-lambda-spec =

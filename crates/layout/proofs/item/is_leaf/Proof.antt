@@ -23,9 +23,13 @@ returns c =
 
 returns-2 : tie.Need-returns-2
 returns-2 c =
-    let a = c .before .before .before .before .before .args in let ws = a .table .now in
-    let t : tailAt ws (a .i) ≡ 0 → ⊥ = λ e. c .if2 .taken (c .before .before .tail .ensures ∙ e) in
-    λ n. sym (item-unused ws n (a .i) (c .before .before .before .before .before .pre .1) (λ e. c .before .if1 .left (c .before .before .before .kind .ensures ∙ e)) t)
+    let at-if1 = c .before in
+    let at-tail = at-if1 .before in
+    let at-kind = at-tail .before in
+    let at-args = at-kind .before .before in
+    let a = at-args .args in let ws = a .table .now in
+    let t : tailAt ws (a .i) ≡ 0 → ⊥ = λ e. c .if2 .taken (at-tail .tail .ensures ∙ e) in
+    λ n. sym (item-unused ws n (a .i) (at-args .pre .1) (λ e. at-if1 .if1 .left (at-kind .kind .ensures ∙ e)) t)
 
 returns-3 : tie.Need-returns-3
 returns-3 c =
@@ -39,13 +43,15 @@ returns-4 c =
 
 returns-5 : tie.Need-returns-5
 returns-5 c =
-    let a = c .before .before .before .before .before .before .before .before .before .args in let ws = a .table .now in
-    λ n. ap (λ w. ltb w 2) (c .before .before .before .head .ensures) ∙ sym (item-boolean ws n (a .i) (omega arith) (omega arith))
+    let at-head = c .before .before .before in
+    let a = at-head .before .before .before .before .before .before .args in let ws = a .table .now in
+    λ n. ap (λ w. ltb w 2) (at-head .head .ensures) ∙ sym (item-boolean ws n (a .i) (omega arith) (omega arith))
 
 returns-6 : tie.Need-returns-6
 returns-6 c =
-    let a = c .before .before .before .before .before .before .before .before .before .before .args in let ws = a .table .now in
-    λ n. ap (λ w. ltb w namesMost) (c .before .before .before .before .head .ensures) ∙ sym (item-name ws n (a .i) (omega arith) (omega arith))
+    let at-head = c .before .before .before .before in
+    let a = at-head .before .before .before .before .before .before .args in let ws = a .table .now in
+    λ n. ap (λ w. ltb w namesMost) (at-head .head .ensures) ∙ sym (item-name ws n (a .i) (omega arith) (omega arith))
 
 returns-7 : tie.Need-returns-7
 returns-7 c =

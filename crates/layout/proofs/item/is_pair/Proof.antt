@@ -30,8 +30,10 @@ returns-4 c =
 
 returns-5 : tie.Need-returns-5
 returns-5 c =
-    let a = c .before .before .before .before .before .before .before .before .before .args in let ws = a .table .now in
-    c .is-list-kind .ensures ∙ ap isListKind (c .before .kind .ensures ∙ ap (kindAt ws) (c .before .before .before .before .before .before .tail .ensures))
+    let at-kind = c .before in
+    let at-tail = at-kind .before .before .before .before .before in
+    let a = at-tail .before .before .before .args in let ws = a .table .now in
+    c .is-list-kind .ensures ∙ ap isListKind (at-kind .kind .ensures ∙ ap (kindAt ws) (at-tail .tail .ensures))
     ∙ sym (references-good ws (a .n) (a .i) (omega arith) (omega arith) (omega arith) (omega arith))
 
 pub is-pair-spec : {M : Type 1} → statement M

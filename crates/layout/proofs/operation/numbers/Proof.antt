@@ -1,17 +1,16 @@
 -- `numbers` lists the operations in the order of their places. Invariant: `Listing`. Measure: the items above item i.
 use Rattle.layout.proofs.operation.numbers.Statement.{statement}
 use Rattle.layout.proofs.operation.numbers.Tie as tie
-use mathlib.Core.Path.{_≡_, refl, ap, sym, subst, _∙_}
+use mathlib.Core.Path.{_≡_, refl, ap, sym, _∙_}
 use Prim.Native.Nat.{_<_, _-_}
 use lib.ListN.{length, length-set}
 use native.Mathlib.Omega.{arith}
 use Rattle.words.specs.Limits.{operationsMost}
 use Rattle.recipe.specs.Table.{kindAt, itemCount}
-use Rattle.recipe.specs.TreeFrom.{treeFrom}
+use Rattle.recipe.specs.TreeFrom.{headAt}
 use Rattle.recipe.specs.Layout.{layout}
-use Rattle.layout.specs.Operations.{operationNumber}
 use Rattle.layout.specs.Walk.{item-words, words-here, pair-here}
-use Rattle.layout.specs.Listing.{Listing, listing-start, listing-end, listing-room, listing-more}
+use Rattle.layout.specs.Listing.{Listing, listing-start, listing-end, listing-item, listing-room, listing-more}
 
 abbrev Inv-loop : tie.InvT-loop
 Inv-loop table list₀ i₀ n₀ list i n =
@@ -34,7 +33,8 @@ head-requires c κs =
 
 loop-holds : tie.Need-loop-holds Inv-loop μ-loop
 loop-holds c =
-    (refl, listing-start (c .before .before .before .args .list .now) (c .head .result) (layout (c .before .before .before .args .table .now) (c .before .before .before .pre .0)) (c .before .before .before .pre .1) (c .head .ensures) (c .before .before .before .pre .2))
+    let at-args = c .before .before .before in
+    (refl, listing-start (at-args .args .list .now) (c .head .result) (layout (at-args .args .table .now) (at-args .pre .0)) (at-args .pre .1) (c .head .ensures) (at-args .pre .2))
 
 kind-requires : tie.Need-kind-requires Inv-loop μ-loop
 kind-requires c κs =
@@ -44,14 +44,18 @@ head-requires-2 : tie.Need-head-requires-2 Inv-loop μ-loop
 head-requires-2 c κs =
     words-here (c .before .before .loop .inv .1 .item)
 
-operation-number-requires : tie.Need-operation-number-requires Inv-loop μ-loop
-operation-number-requires c κs =
-    let p = pair-here (c .before .before .before .loop .inv .1 .item) (is-pair (c .before)) in
-    (c .before .before .before .before .before .before .before .pre .0, subst (λ j. j < itemCount (c .before .before .before .before .before .before .before .args .table .now)) (sym (c .head2 .ensures)) (p .headBelow))
+head-requires-3 : tie.Need-head-requires-3 Inv-loop μ-loop
+head-requires-3 c κs =
+    let item = c .before .before .before .loop .inv .1 .item in
+    let p = pair-here item (is-pair (c .before)) in
+    item-words _ (item .table) (omega (arith, p .headBelow, c .head2 .ensures))
+
+-- the number of the next name
+number : (c : tie.After-head3 Inv-loop μ-loop) → let ws = c .before .before .before .before .before .before .before .before .args .table .now in c .head3 .result ≡ headAt ws (headAt ws (c .before .before .before .before .loop .i))
+number c = c .head3 .ensures ∙ ap (headAt (c .before .before .before .before .before .before .before .before .args .table .now)) (c .before .head2 .ensures)
 
 cast-list : tie.Need-cast-list Inv-loop μ-loop
-cast-list c =
-    omega (arith, c .operation-number .ensures .1)
+cast-list c = omega (arith, number c, listing-item (c .before .before .before .before .loop .inv .1) (is-pair (c .before .before)) .below)
 
 mul-list : tie.Need-mul-list Inv-loop μ-loop
 mul-list c = omega (arith, room (c .before .before))
@@ -73,10 +77,7 @@ loop-less c =
 loop-again : tie.Need-loop-again Inv-loop μ-loop
 loop-again c =
     let loop = c .before .before .before .before .before .loop in
-    let e = ap (λ j. operationNumber (treeFrom (c .before .before .before .before .before .before .before .before .before .args .table .now) j)) (c .before .before .head2 .ensures) in (
-      length-set (loop .list) (loop .n) _ ∙ loop .inv .0,
-      listing-more (loop .inv .1) (is-pair (c .before .before .before)) (c .before .operation-number .result) (c .tail .result) (c .before .operation-number .ensures .0 ∙ e) (c .tail .ensures),
-    )
+    (length-set (loop .list) (loop .n) _ ∙ loop .inv .0, listing-more (loop .inv .1) (is-pair (c .before .before .before)) (c .before .head3 .result) (c .tail .result) (number (c .before)) (c .tail .ensures))
 
 same-length : tie.Need-same-length Inv-loop μ-loop
 same-length c =
@@ -96,7 +97,7 @@ numbers-spec =
     loop-holds
     kind-requires
     head-requires-2
-    operation-number-requires
+    head-requires-3
     cast-list
     mul-list
     slice-write-list

@@ -28,8 +28,10 @@ loop-holds c =
 
 takes-item-requires : tie.Need-takes-item-requires Inv-loop μ-loop
 takes-item-requires c κs =
-    let loop = c .before .before .loop in let most = counting-most (c .before .before .before .before .before .args .table .now) (c .before .before .before .before .before .args .n) (c .before .before .before .before .before .pre .0) (loop .i) (loop .counts) (loop .inv .3) in
-    (c .before .before .before .before .before .pre .0, omega arith, omega (arith, loop .inv .0), λ k h. omega (arith, most k h))
+    let at-loop = c .before .before in
+    let at-args = at-loop .before .before .before in
+    let loop = at-loop .loop in let most = counting-most (at-args .args .table .now) (at-args .args .n) (at-args .pre .0) (loop .i) (loop .counts) (loop .inv .3) in
+    (at-args .pre .0, omega arith, omega (arith, loop .inv .0), λ k h. omega (arith, most k h))
 
 same-length : tie.Need-same-length Inv-loop μ-loop
 same-length c =
@@ -37,14 +39,20 @@ same-length c =
 
 returns : tie.Need-returns Inv-loop μ-loop
 returns c =
-    let ws = c .before .before .before .before .before .before .before .before .before .args .table .now in let n = c .before .before .before .before .before .before .before .before .before .args .n in let loop = c .before .before .before .before .before .before .loop in
-    let item = c .before .before .before .takes-item in
-    (sym (loop .inv .2 ∙ all-misfit (isItem ws n) ws n (c .before .before .before .before .before .before .before .before .before .pre .0) (loop .i) (omega arith) (sym (item .ensures .0) ∙ not-true (item .result) (c .if1 .taken))), λ q. absurd (false≢true q))
+    let at-takes-item = c .before .before .before in
+    let at-loop = at-takes-item .before .before .before in
+    let at-args = at-loop .before .before .before in
+    let ws = at-args .args .table .now in let n = at-args .args .n in let loop = at-loop .loop in
+    let item = at-takes-item .takes-item in
+    (sym (loop .inv .2 ∙ all-misfit (isItem ws n) ws n (at-args .pre .0) (loop .i) (omega arith) (sym (item .ensures .0) ∙ not-true (item .result) (c .if1 .taken))), λ q. absurd (false≢true q))
 
 loop-again : tie.Need-loop-again Inv-loop μ-loop
 loop-again c =
-    let ws = c .before .before .before .before .before .before .before .before .before .args .table .now in let n = c .before .before .before .before .before .before .before .before .before .args .n in let e = c .before .before .before .before .before .before .before .before .before .pre .0 in
-    let loop = c .before .before .before .before .before .before .loop in let item = c .before .before .before .takes-item in
+    let at-takes-item = c .before .before .before in
+    let at-loop = at-takes-item .before .before .before in
+    let at-args = at-loop .before .before .before in
+    let ws = at-args .args .table .now in let n = at-args .args .n in let e = at-args .pre .0 in
+    let loop = at-loop .loop in let item = at-takes-item .takes-item in
     let t = not-false (item .result) (c .if1 .left) in (
       item .kept .1 .1 .1 .0 ∙ loop .inv .0,
       omega arith,
@@ -58,9 +66,11 @@ same-length-2 c =
 
 returns-2 : tie.Need-returns-2 Inv-loop μ-loop
 returns-2 c =
-    let ws = c .before .before .before .before .args .table .now in let n = c .before .before .before .before .args .n in let loop = c .before .loop in
+    let at-loop = c .before in
+    let at-args = at-loop .before .before .before in
+    let ws = at-args .args .table .now in let n = at-args .args .n in let loop = at-loop .loop in
     let e : loop .i ≡ n = omega arith in
-    (sym (loop .inv .2 ∙ rw e (all-end (isItem ws n) ws n (c .before .before .before .before .pre .0))), λ q. counting-end ws n (c .before .before .before .before .pre .0) (loop .counts) (subst (λ i. Counting ws i (loop .counts)) e (loop .inv .3)))
+    (sym (loop .inv .2 ∙ rw e (all-end (isItem ws n) ws n (at-args .pre .0))), λ q. counting-end ws n (at-args .pre .0) (loop .counts) (subst (λ i. Counting ws i (loop .counts)) e (loop .inv .3)))
 
 pub items-fit-spec : {M : Type 1} → statement M
 items-fit-spec =

@@ -13,7 +13,8 @@ use Rattle.layout.specs.Counts.{once-each}
 
 items-fit-requires : tie.Need-items-fit-requires
 items-fit-requires c κs =
-    (c .before .before .before .pre .0, c .before .before .before .pre .2, c .before .before .before .pre .3, c .before .before .before .pre .4)
+    let pre′ = c .before .before .before .pre in
+    (pre′ .0, pre′ .2, pre′ .3, pre′ .4)
 
 same-length : tie.Need-same-length
 same-length c =
@@ -25,7 +26,8 @@ returns c =
 
 ones-requires : tie.Need-ones-requires
 ones-requires c κs =
-    (c .before .before .before .before .before .before .before .before .pre .1, omega (arith, c .before .before .before .before .items-fit .kept .1 .1 .0))
+    let at-items-fit = c .before .before .before .before in
+    (at-items-fit .before .before .before .before .pre .1, omega (arith, at-items-fit .items-fit .kept .1 .1 .0))
 
 same-length-2 : tie.Need-same-length-2
 same-length-2 c =
@@ -33,10 +35,13 @@ same-length-2 c =
 
 returns-2 : tie.Need-returns-2
 returns-2 c =
-    let ws = c .before .before .before .before .before .before .before .before .before .args .table .now in let n = c .before .before .before .before .before .before .before .before .before .args .n in let fit = c .before .before .before .before .before .items-fit in
-    let t = not-false (fit .result) (c .before .before .if1 .left) in
+    let at-if1 = c .before .before in
+    let at-items-fit = at-if1 .before .before .before in
+    let at-args = at-items-fit .before .before .before .before in
+    let ws = at-args .args .table .now in let n = at-args .args .n in let fit = at-items-fit .items-fit in
+    let t = not-false (fit .result) (at-if1 .if1 .left) in
     let f : allOf (isItem ws n) (items 0 ws) ≡ true = sym (fit .ensures .0) ∙ t in
-    rw f (c .ones .ensures ∙ sym (once-each ws n (c .before .before .before .before .before .before .before .before .before .pre .0) (fit .last .1 .1 .0) (fit .ensures .1 t) (omega (arith, fit .kept .1 .1 .0))))
+    rw f (c .ones .ensures ∙ sym (once-each ws n (at-args .pre .0) (fit .last .1 .1 .0) (fit .ensures .1 t) (omega (arith, fit .kept .1 .1 .0))))
 
 pub items-good-spec : {M : Type 1} → statement M
 items-good-spec =

@@ -49,20 +49,28 @@ count-requires c κs =
 
 count-requires-2 : tie.Need-count-requires-2
 count-requires-2 c κs =
-    let entry = c .before .before .before .before .before .before .before .before .before .before .before .before .before in let first = c .before .before .before .before .count in (
-      omega (arith, pair (c .before .before .before .before .before .before) .tailBelow, c .tail .ensures, first .kept .0),
-      most-one (entry .args .counts .now) (first .last .0) (c .before .before .before .before .before .head .result) 65533 (first .kept .0) (first .ensures) (entry .pre .3),
+    let at-count = c .before .before .before .before in
+    let at-before = at-count .before in
+    let entry = at-before .before .before .before .before .before .before .before .before in let first = at-count .count in (
+      omega (arith, pair (at-before .before) .tailBelow, c .tail .ensures, first .kept .0),
+      most-one (entry .args .counts .now) (first .last .0) (at-before .head .result) 65533 (first .kept .0) (first .ensures) (entry .pre .3),
     )
 
 returns-3 : tie.Need-returns-3
 returns-3 c =
-    let a = c .before .before .before .before .before .before .before .before .before .before .before .before .before .before .before .before .args in let ws = a .table .now in
+    let at-count2 = c .before .before in
+    let at-tail = at-count2 .before in
+    let at-count = at-tail .before .before .before .before in
+    let at-head = at-count .before in
+    let at-before = at-head .before .before in
+    let at-is-pair = at-before .before in
+    let a = at-is-pair .before .before .before .before .before .args in let ws = a .table .now in
     let k : kindAt ws (a .i) ≡ 4 = omega arith in
-    let head = c .before .before .before .before .before .before .before .before .head in let tail = c .before .before .before .tail in
-    let first = c .before .before .before .before .before .before .before .count in let second = c .before .before .count2 in
+    let head = at-head .head in let tail = at-tail .tail in
+    let first = at-count .count in let second = at-count2 .count2 in
     let e : references (itemAt ws (a .i) ∷ []) ≡ head .result ∷ tail .result ∷ [] =
     references-pair ws (a .i) k ∙ ap₂ (λ (x y : ℕ). x ∷ y ∷ []) (sym (head .ensures)) (sym (tail .ensures)) in (
-      sym (tested (c .before .before .before .before .before .before .before .before .before .before .before) ∙ not-false (c .before .before .before .before .before .before .before .before .before .before .before .is-pair .result) (c .before .before .before .before .before .before .before .before .before .before .if2 .left)),
+      sym (tested (at-before .before) ∙ not-false (at-is-pair .is-pair .result) (at-before .if2 .left)),
       λ q. subst (Counted (a .counts .now) (second .last .0)) (sym e)
           (counted-two (a .counts .now) (first .last .0) (second .last .0) (head .result) (tail .result) (first .kept .0) (first .ensures) (second .ensures)),
     )

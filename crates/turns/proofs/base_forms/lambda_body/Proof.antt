@@ -28,7 +28,8 @@ element-requires-2 c κs =
 
 put-three-requires : tie.Need-put-three-requires
 put-three-requires c κs =
-    lambda-core (c .before .before .before .before .before .before .before .before .before .args .work .now) (c .before .before .before .before .before .before .before .before .before .args .core .now) (c .before .before .before .before .before .before .before .before .before .args .node) (c .before .before .before .before .before .before .before .before .before .args .wrap) (c .before .before .before .before .before .before .before .before .before .args .reached) (c .before .before .before .before .before .before .before .before .before .pre .0) (c .before .before .before .before .before .before .before .before .before .pre .1)
+    let at-args = c .before .before .before .before .before .before .before .before .before in
+    lambda-core (at-args .args .work .now) (at-args .args .core .now) (at-args .args .node) (at-args .args .wrap) (at-args .args .reached) (at-args .pre .0) (at-args .pre .1)
 
 cast-put-numbers : tie.Need-cast-put-numbers
 cast-put-numbers c =
@@ -36,19 +37,32 @@ cast-put-numbers c =
 
 put-numbers-requires : tie.Need-put-numbers-requires
 put-numbers-requires c κs =
-    numbers-room (c .before .before .before .before .before .before .before .before .before .before .before .before .before .before .args .work .now) (c .before .before .before .before .before .before .before .before .before .before .before .before .before .before .args .core .now) (c .before .before .before .before .before .before .before .before .before .before .before .before .before .before .args .node) (c .before .before .before .before .before .before .before .before .before .before .before .before .before .before .args .wrap) (c .before .before .before .before .before .before .before .before .before .before .before .before .before .before .args .reached) (c .before .before .before .before .before .before .before .before .before .before .before .before .before .before .pre .0) (c .before .before .before .before .before .before .before .before .before .before .before .before .before .before .pre .1) _ _ (c .before .before .before .before .before .before .before .before .before .before .element .ensures) (c .before .before .before .before .before .before .before .before .count .ensures) _ _ (c .before .before .before .before .put-three .ensures) (c .before .before .before .before .put-three .kept .0)
+    let at-put-three = c .before .before .before .before in
+    let at-count = at-put-three .before .before .before .before in
+    let at-element = at-count .before .before in
+    let at-args = at-element .before .before .before .before in
+    numbers-room (at-args .args .work .now) (at-args .args .core .now) (at-args .args .node) (at-args .args .wrap) (at-args .args .reached) (at-args .pre .0) (at-args .pre .1) _ _ (at-element .element .ensures) (at-count .count .ensures) _ _ (at-put-three .put-three .ensures) (at-put-three .put-three .kept .0)
 
 bind-formals-requires : tie.Need-bind-formals-requires
 bind-formals-requires c κs =
-    (c .before .before .before .before .before .before .before .before .before .before .before .before .before .before .before .before .before .before .pre .1, lambda-proper (c .before .before .before .before .before .before .before .before .before .before .before .before .before .before .before .before .before .before .args .work .now) (c .before .before .before .before .before .before .before .before .before .before .before .before .before .before .before .before .before .before .args .core .now) (c .before .before .before .before .before .before .before .before .before .before .before .before .before .before .before .before .before .before .args .node) (c .before .before .before .before .before .before .before .before .before .before .before .before .before .before .before .before .before .before .args .wrap) (c .before .before .before .before .before .before .before .before .before .before .before .before .before .before .before .before .before .before .args .reached) (c .before .before .before .before .before .before .before .before .before .before .before .before .before .before .before .before .before .before .pre .0) (c .before .before .before .before .before .before .before .before .before .before .before .before .before .before .before .before .before .before .pre .1), lambda-space (c .before .before .before .before .before .before .before .before .before .before .before .before .before .before .before .before .before .before .args .work .now) (c .before .before .before .before .before .before .before .before .before .before .before .before .before .before .before .before .before .before .args .core .now) (c .before .before .before .before .before .before .before .before .before .before .before .before .before .before .before .before .before .before .args .node) (c .before .before .before .before .before .before .before .before .before .before .before .before .before .before .before .before .before .before .args .wrap) (c .before .before .before .before .before .before .before .before .before .before .before .before .before .before .before .before .before .before .args .reached) (c .before .before .before .before .before .before .before .before .before .before .before .before .before .before .before .before .before .before .pre .0) (c .before .before .before .before .before .before .before .before .before .before .before .before .before .before .before .before .before .before .pre .1))
+    let at-args = c .before .before .before .before .before .before .before .before .before .before .before .before .before .before .before .before .before .before in
+    (at-args .pre .1, lambda-proper (at-args .args .work .now) (at-args .args .core .now) (at-args .args .node) (at-args .args .wrap) (at-args .args .reached) (at-args .pre .0) (at-args .pre .1), lambda-space (at-args .args .work .now) (at-args .args .core .now) (at-args .args .node) (at-args .args .wrap) (at-args .args .reached) (at-args .pre .0) (at-args .pre .1))
 
 cast-widened : tie.Need-cast-widened
 cast-widened c =
-    record { fits = numbers-small (c .before .before .before .before .before .before .before .before .before .before .before .before .before .before .before .before .before .before .before .before .before .args .work .now) (c .before .before .before .before .before .before .before .before .before .before .before .before .before .before .before .before .before .before .before .before .before .args .core .now) (c .before .before .before .before .before .before .before .before .before .before .before .before .before .before .before .before .before .before .before .before .before .args .node) (c .before .before .before .before .before .before .before .before .before .before .before .before .before .before .before .before .before .before .before .before .before .args .wrap) (c .before .before .before .before .before .before .before .before .before .before .before .before .before .before .before .before .before .before .before .before .before .args .reached) (c .before .before .before .before .before .before .before .before .before .before .before .before .before .before .before .before .before .before .before .before .before .pre .0) (c .before .before .before .before .before .before .before .before .before .before .before .before .before .before .before .before .before .before .before .before .before .pre .1) _ _ (c .before .before .before .before .before .before .before .before .before .before .before .before .before .before .before .before .before .element .ensures) (c .before .before .before .before .before .before .before .before .before .before .before .before .before .before .before .count .ensures) _ _ (c .before .before .before .before .before .before .before .before .before .before .before .put-three .ensures) _ _ (c .before .before .before .before .before .before .put-numbers .ensures) }
+    let at-put-numbers = c .before .before .before .before .before .before in
+    let at-put-three = at-put-numbers .before .before .before .before .before in
+    let at-count = at-put-three .before .before .before .before in
+    let at-element = at-count .before .before in
+    let at-args = at-element .before .before .before .before in
+    record { fits = numbers-small (at-args .args .work .now) (at-args .args .core .now) (at-args .args .node) (at-args .args .wrap) (at-args .args .reached) (at-args .pre .0) (at-args .pre .1) _ _ (at-element .element .ensures) (at-count .count .ensures) _ _ (at-put-three .put-three .ensures) _ _ (at-put-numbers .put-numbers .ensures) }
 
 widened-requires : tie.Need-widened-requires
 widened-requires c κs =
-    lambda-few (c .before .before .before .before .before .before .before .before .before .before .before .before .before .before .before .before .before .before .before .before .before .args .work .now) (c .before .before .before .before .before .before .before .before .before .before .before .before .before .before .before .before .before .before .before .before .before .args .core .now) (c .before .before .before .before .before .before .before .before .before .before .before .before .before .before .before .before .before .before .before .before .before .args .node) (c .before .before .before .before .before .before .before .before .before .before .before .before .before .before .before .before .before .before .before .before .before .args .wrap) (c .before .before .before .before .before .before .before .before .before .before .before .before .before .before .before .before .before .before .before .before .before .args .reached) (c .before .before .before .before .before .before .before .before .before .before .before .before .before .before .before .before .before .before .before .before .before .pre .0) (c .before .before .before .before .before .before .before .before .before .before .before .before .before .before .before .before .before .before .before .before .before .pre .1) _ _ (c .before .before .before .before .before .before .before .before .before .before .before .before .before .before .before .before .before .element .ensures) (c .before .before .before .before .before .before .before .before .before .before .before .before .before .before .before .count .ensures)
+    let at-count = c .before .before .before .before .before .before .before .before .before .before .before .before .before .before .before in
+    let at-element = at-count .before .before in
+    let at-args = at-element .before .before .before .before in
+    lambda-few (at-args .args .work .now) (at-args .args .core .now) (at-args .args .node) (at-args .args .wrap) (at-args .args .reached) (at-args .pre .0) (at-args .pre .1) _ _ (at-element .element .ensures) (at-count .count .ensures)
 
 same-length : tie.Need-same-length
 same-length c =
@@ -56,11 +70,19 @@ same-length c =
 
 same-length-2 : tie.Need-same-length-2
 same-length-2 c =
-    c .before .before .before .before .before .before .before .put-numbers .kept .1 .1 .0 ∙ c .before .before .before .before .before .before .before .before .before .before .before .before .put-three .kept .0
+    let at-put-numbers = c .before .before .before .before .before .before .before in
+    at-put-numbers .put-numbers .kept .1 .1 .0 ∙ at-put-numbers .before .before .before .before .before .put-three .kept .0
 
 returns : tie.Need-returns
 returns c =
-    bound-by (c .before .before .before .before .before .before .before .before .before .before .before .before .before .before .before .before .before .before .before .before .before .before .args .work .now) (c .before .before .before .before .before .before .before .before .before .before .before .before .before .before .before .before .before .before .before .before .before .before .args .core .now) (c .before .before .before .before .before .before .before .before .before .before .before .before .before .before .before .before .before .before .before .before .before .before .args .node) (c .before .before .before .before .before .before .before .before .before .before .before .before .before .before .before .before .before .before .before .before .before .before .args .wrap) (c .before .before .before .before .before .before .before .before .before .before .before .before .before .before .before .before .before .before .before .before .before .before .args .reached) (c .before .before .before .before .before .before .before .before .before .before .before .before .before .before .before .before .before .before .before .before .before .before .pre .0) (c .before .before .before .before .before .before .before .before .before .before .before .before .before .before .before .before .before .before .before .before .before .before .pre .1) _ _ (c .before .before .before .before .before .before .before .before .before .before .before .before .before .before .before .before .before .before .element .ensures) (c .before .before .before .before .before .before .before .before .before .before .before .before .before .before .before .before .count .ensures) _ _ (c .before .before .before .before .before .before .before .before .before .before .before .before .put-three .ensures) _ _ (c .before .before .before .before .before .before .before .put-numbers .ensures) _ _ _ _ (c .before .before .before .before .before .before .before .before .before .before .before .before .before .before .element2 .ensures) (c .before .before .before .bind-formals .ensures) _ (c .widened .ensures)
+    let at-bind-formals = c .before .before .before in
+    let at-put-numbers = at-bind-formals .before .before .before .before in
+    let at-put-three = at-put-numbers .before .before .before .before .before in
+    let at-element2 = at-put-three .before .before in
+    let at-count = at-element2 .before .before in
+    let at-element = at-count .before .before in
+    let at-args = at-element .before .before .before .before in
+    bound-by (at-args .args .work .now) (at-args .args .core .now) (at-args .args .node) (at-args .args .wrap) (at-args .args .reached) (at-args .pre .0) (at-args .pre .1) _ _ (at-element .element .ensures) (at-count .count .ensures) _ _ (at-put-three .put-three .ensures) _ _ (at-put-numbers .put-numbers .ensures) _ _ _ _ (at-element2 .element2 .ensures) (at-bind-formals .bind-formals .ensures) _ (c .widened .ensures)
 
 pub lambda-body-spec : {M : Type 1} → statement M
 lambda-body-spec =

@@ -19,15 +19,19 @@ quote-requires c κs =
 
 cast-moved : tie.Need-cast-moved
 cast-moved c =
-    let entry = c .before .before .before .before .before .before .before .before .before .before in
+    let at-quote = c .before .before in
+    let at-element = at-quote .before .before .before in
+    let entry = at-element .before .before .before .before .before in
     let a = entry .args in
-    record { fits = quote-small (a .work .now) (a .core .now) (a .node) (a .reached) _ (c .before .before .before .before .before .element .ensures) (entry .pre) _ (c .before .before .quote .ensures .end) }
+    record { fits = quote-small (a .work .now) (a .core .now) (a .node) (a .reached) _ (at-element .element .ensures) (entry .pre) _ (at-quote .quote .ensures .end) }
 
 returns-2 : tie.Need-returns-2
 returns-2 c =
-    let a = c .before .before .before .before .before .before .before .before .before .before .before .args in
-    let shaped = c .before .before .before .before .before .before .before in
-    quote-made (a .work .now) (a .core .now) (a .node) (a .reached) _ (c .before .before .before .before .before .before .element .ensures) _ _ (λ w. sym (shaped .before .is-list-of .ensures w) ∙ not-false _ (shaped .if1 .left)) (c .before .before .before .quote .ensures) _ (c .moved .ensures)
+    let at-quote = c .before .before .before in
+    let at-before = at-quote .before .before .before in
+    let a = at-before .before .before .before .before .before .args in
+    let shaped = at-before .before in
+    quote-made (a .work .now) (a .core .now) (a .node) (a .reached) _ (at-before .element .ensures) _ _ (λ w. sym (shaped .before .is-list-of .ensures w) ∙ not-false _ (shaped .if1 .left)) (at-quote .quote .ensures) _ (c .moved .ensures)
 
 pub quoted-spec : {M : Type 1} → statement M
 quoted-spec =

@@ -6,16 +6,24 @@ use Rattle.turns.specs.DispatchLaws.{name-heads, other-heads, leaf-room}
 
 named-requires : tie.Need-named-requires
 named-requires c κs =
-    let a = c .before .before .before .before .before .before .before .before .before .before .args in (c .before .before .before .before .before .before .before .before .before .before .pre .0, c .before .before .before .before .before .before .before .before .before .before .pre .1, name-heads (a .work .now) _ _ (c .before .before .before .before .is-name .ensures) (a .node) _ (a .wrap) (c .before .before .before .before .before .before .before .before .before .before .pre .2) (c .before .before .before .if1 .taken))
+    let at-if1 = c .before .before .before in
+    let at-is-name = at-if1 .before in
+    let at-args = at-is-name .before .before .before .before .before .before in
+    let a = at-args .args in (at-args .pre .0, at-args .pre .1, name-heads (a .work .now) _ _ (at-is-name .is-name .ensures) (a .list .node) _ (a .list .wrap) (at-args .pre .2) (at-if1 .if1 .taken))
 
 applied-requires : tie.Need-applied-requires
 applied-requires c κs =
-    let a = c .before .before .before .before .before .before .before .before .before .args in leaf-room (a .work .now) (a .core .now) (a .known .now) (a .fuel) (a .node) (a .wrap) (a .reached) (c .before .before .before .before .before .before .before .before .before .pre .1) (c .before .before .before .before .before .before .before .before .before .pre .0)
+    let at-args = c .before .before .before .before .before .before .before .before .before in
+    let a = at-args .args in leaf-room (a .work .now) (a .core .now) (a .macros .now) (a .fuel) (a .list .node) (a .list .wrap) (a .reached) (at-args .pre .1) (at-args .pre .0)
 
 returns-2 : tie.Need-returns-2
 returns-2 c =
-    let a = c .before .before .before .before .before .before .before .before .before .before .before .before .args in
-    λ operations lent. c .before .before .applied .ensures (a .known .now) (c .before .before .before .before .before .before .before .before .before .before .before .before .pre .0) (other-heads (a .work .now) _ _ (c .before .before .before .before .before .before .is-name .ensures) (a .node) _ (a .wrap) (c .before .before .before .before .before .before .before .before .before .before .before .before .pre .2) (c .before .before .before .before .before .if1 .left)) operations (a .fuel) (c .before .before .before .before .before .before .before .before .before .before .before .before .pre .1)
+    let at-applied = c .before .before in
+    let at-if1 = at-applied .before .before .before in
+    let at-is-name = at-if1 .before in
+    let at-args = at-is-name .before .before .before .before .before .before in
+    let a = at-args .args in
+    λ operations lent. at-applied .applied .ensures (a .macros .now) (at-args .pre .0) (other-heads (a .work .now) _ _ (at-is-name .is-name .ensures) (a .list .node) _ (a .list .wrap) (at-args .pre .2) (at-if1 .if1 .left)) operations (a .fuel) (at-args .pre .1)
 
 pub list-spec : {M : Type 1} → statement M
 list-spec =

@@ -12,7 +12,9 @@ put-constant-requires c κs =
 
 cast-moved : tie.Need-cast-moved
 cast-moved c =
-    let a = c .before .before .before .before .before .before .args in record { fits = constant-below (a .kind) (a .first) (a .second) (a .reached) (a .core .now) (c .before .before .before .before .before .before .pre .0) _ (c .before .before .put-constant .ensures .end) }
+    let at-put-constant = c .before .before in
+    let at-args = at-put-constant .before .before .before .before in
+    let a = at-args .args in record { fits = constant-below (a .kind) (a .first) (a .second) (a .reached) (a .core .now) (at-args .pre .0) _ (at-put-constant .put-constant .ensures .end) }
 
 returns : tie.Need-returns
 returns c =

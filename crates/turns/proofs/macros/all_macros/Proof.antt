@@ -21,69 +21,99 @@ loop-holds : tie.Need-loop-holds Inv-loop μ-loop
 loop-holds c =
     let a = c .before .before .args in
     let pre = c .before .before .pre in
-    (refl, refl, reading-begins (a .work .now) (a .macros .now) (a .list) (a .w) (a .count) (a .top) pre)
+    (refl, refl, reading-begins (a .work .now) (a .macros .now) (a .list) (a .wrap) (a .count) (a .top) pre)
 
 one-macro-requires : tie.Need-one-macro-requires Inv-loop μ-loop
 one-macro-requires c κs =
-    let a = c .before .before .before .before .before .before .before .before .before .before .before .before .before .before .args in
-    let loop = c .before .before .before .before .before .before .before .before .before .before .before .loop in
-    let word = c .before .before .before .before .before .before .before .before .before .word in
-    let if1 = c .before .before .before .before .before .before .before .before .if1 in
-    let reference = c .before .before .before .before .before .before .reference in
-    let element = c .before .before .before .before .element in
-    let reference2 = c .before .before .reference2 in
-    one-ask (loop .work) (loop .macros) (loop .at) (a .w) (loop .n) (loop .end) (loop .inv .2 .ask) _ _ _ (sym (word .ensures) ∙ if1 .taken) (reference .ensures) (reference2 .ensures) (element .ensures)
+    let at-reference2 = c .before .before in
+    let at-element = at-reference2 .before .before in
+    let at-reference = at-element .before .before in
+    let at-if1 = at-reference .before .before in
+    let at-word = at-if1 .before in
+    let at-loop = at-word .before .before in
+    let a = at-loop .before .before .before .args in
+    let loop = at-loop .loop in
+    let word = at-word .word in
+    let if1 = at-if1 .if1 in
+    let reference = at-reference .reference in
+    let element = at-element .element in
+    let reference2 = at-reference2 .reference2 in
+    one-ask (loop .work) (loop .macros) (loop .at) (a .wrap) (loop .n) (loop .end) (loop .inv .2 .ask) _ _ _ (sym (word .ensures) ∙ if1 .taken) (reference .ensures) (reference2 .ensures) (element .ensures)
 
 returns : tie.Need-returns Inv-loop μ-loop
 returns c =
-    let a = c .before .before .before .before .before .before .before .before .before .before .before .before .before .before .before .before .before .before .before .before .before .args in
-    let loop = c .before .before .before .before .before .before .before .before .before .before .before .before .before .before .before .before .before .before .loop in
-    let word = c .before .before .before .before .before .before .before .before .before .before .before .before .before .before .before .before .word in
-    let if1 = c .before .before .before .before .before .before .before .before .before .before .before .before .before .before .before .if1 in
-    let reference = c .before .before .before .before .before .before .before .before .before .before .before .before .before .reference in
-    let element = c .before .before .before .before .before .before .before .before .before .before .before .element in
-    let reference2 = c .before .before .before .before .before .before .before .before .before .reference2 in
-    let one-macro = c .before .before .before .before .before .before .one-macro in
-    reading-bad (a .work .now) (a .macros .now) (a .list) (a .w) (a .count) (a .top) (loop .work) (loop .macros) (loop .at) (loop .n) (loop .end) (loop .inv .2) _ _ _ (sym (word .ensures) ∙ if1 .taken) (reference .ensures) (reference2 .ensures) (element .ensures) _ _ _ (one-macro .ensures) (c .enum-told .given .1)
+    let at-one-macro = c .before .before .before .before .before .before in
+    let at-reference2 = at-one-macro .before .before .before in
+    let at-element = at-reference2 .before .before in
+    let at-reference = at-element .before .before in
+    let at-if1 = at-reference .before .before in
+    let at-word = at-if1 .before in
+    let at-loop = at-word .before .before in
+    let a = at-loop .before .before .before .args in
+    let loop = at-loop .loop in
+    let word = at-word .word in
+    let if1 = at-if1 .if1 in
+    let reference = at-reference .reference in
+    let element = at-element .element in
+    let reference2 = at-reference2 .reference2 in
+    let one-macro = at-one-macro .one-macro in
+    reading-bad (a .work .now) (a .macros .now) (a .list) (a .wrap) (a .count) (a .top) (loop .work) (loop .macros) (loop .at) (loop .n) (loop .end) (loop .inv .2) _ _ _ (sym (word .ensures) ∙ if1 .taken) (reference .ensures) (reference2 .ensures) (element .ensures) _ _ _ (one-macro .ensures) (c .enum-told .given .1)
 
 add-n : tie.Need-add-n Inv-loop μ-loop
 add-n c =
-    let a = c .before .before .before .before .before .before .before .before .before .before .before .before .before .before .before .before .before .before .before .before .before .before .args in
-    let loop = c .before .before .before .before .before .before .before .before .before .before .before .before .before .before .before .before .before .before .before .loop in
-    let word = c .before .before .before .before .before .before .before .before .before .before .before .before .before .before .before .before .before .word in
-    let if1 = c .before .before .before .before .before .before .before .before .before .before .before .before .before .before .before .before .if1 in
-    let reference = c .before .before .before .before .before .before .before .before .before .before .before .before .before .before .reference in
-    let element = c .before .before .before .before .before .before .before .before .before .before .before .before .element in
-    let reference2 = c .before .before .before .before .before .before .before .before .before .before .reference2 in
-    record { fits = count-small (loop .work) (loop .macros) (loop .at) (a .w) (loop .n) (loop .end) (loop .inv .2 .ask) _ _ _ (sym (word .ensures) ∙ if1 .taken) (reference .ensures) (reference2 .ensures) (element .ensures) }
+    let at-reference2 = c .before .before .before .before .before .before .before .before .before .before in
+    let at-element = at-reference2 .before .before in
+    let at-reference = at-element .before .before in
+    let at-if1 = at-reference .before .before in
+    let at-word = at-if1 .before in
+    let at-loop = at-word .before .before in
+    let a = at-loop .before .before .before .args in
+    let loop = at-loop .loop in
+    let word = at-word .word in
+    let if1 = at-if1 .if1 in
+    let reference = at-reference .reference in
+    let element = at-element .element in
+    let reference2 = at-reference2 .reference2 in
+    record { fits = count-small (loop .work) (loop .macros) (loop .at) (a .wrap) (loop .n) (loop .end) (loop .inv .2 .ask) _ _ _ (sym (word .ensures) ∙ if1 .taken) (reference .ensures) (reference2 .ensures) (element .ensures) }
 
 loop-less : tie.Need-loop-less Inv-loop μ-loop
 loop-less c =
-    let loop = c .before .before .before .before .before .before .before .before .before .before .before .before .before .before .before .before .before .before .before .loop in
-    let word = c .before .before .before .before .before .before .before .before .before .before .before .before .before .before .before .before .before .word in
-    let if1 = c .before .before .before .before .before .before .before .before .before .before .before .before .before .before .before .before .if1 in
-    let reference2 = c .before .before .before .before .before .before .before .before .before .before .reference2 in
+    let at-reference2 = c .before .before .before .before .before .before .before .before .before .before in
+    let at-if1 = at-reference2 .before .before .before .before .before .before in
+    let at-word = at-if1 .before in
+    let loop = at-word .before .before .loop in
+    let word = at-word .word in
+    let if1 = at-if1 .if1 in
+    let reference2 = at-reference2 .reference2 in
     omega (arith, reference2 .ensures, pair-falls (loop .work) (loop .at) 1 (sym (word .ensures) ∙ if1 .taken))
 
 loop-again : tie.Need-loop-again Inv-loop μ-loop
 loop-again c =
-    let a = c .before .before .before .before .before .before .before .before .before .before .before .before .before .before .before .before .before .before .before .before .before .before .args in
-    let loop = c .before .before .before .before .before .before .before .before .before .before .before .before .before .before .before .before .before .before .before .loop in
-    let word = c .before .before .before .before .before .before .before .before .before .before .before .before .before .before .before .before .before .word in
-    let if1 = c .before .before .before .before .before .before .before .before .before .before .before .before .before .before .before .before .if1 in
-    let reference = c .before .before .before .before .before .before .before .before .before .before .before .before .before .before .reference in
-    let element = c .before .before .before .before .before .before .before .before .before .before .before .before .element in
-    let reference2 = c .before .before .before .before .before .before .before .before .before .before .reference2 in
-    let one-macro = c .before .before .before .before .before .before .before .one-macro in
-    let upper = c .before .upper in
-    (one-macro .kept .0 ∙ loop .inv .0, one-macro .kept .1 .0 ∙ loop .inv .1, reading-more (a .work .now) (a .macros .now) (a .list) (a .w) (a .count) (a .top) (loop .work) (loop .macros) (loop .at) (loop .n) (loop .end) (loop .inv .2) _ _ _ (sym (word .ensures) ∙ if1 .taken) (reference .ensures) (reference2 .ensures) (element .ensures) _ _ _ (one-macro .ensures) _ (upper .given .1) (one-macro .kept .0) (one-macro .kept .1 .0))
+    let at-upper = c .before in
+    let at-one-macro = at-upper .before .before .before .before .before .before in
+    let at-reference2 = at-one-macro .before .before .before in
+    let at-element = at-reference2 .before .before in
+    let at-reference = at-element .before .before in
+    let at-if1 = at-reference .before .before in
+    let at-word = at-if1 .before in
+    let at-loop = at-word .before .before in
+    let a = at-loop .before .before .before .args in
+    let loop = at-loop .loop in
+    let word = at-word .word in
+    let if1 = at-if1 .if1 in
+    let reference = at-reference .reference in
+    let element = at-element .element in
+    let reference2 = at-reference2 .reference2 in
+    let one-macro = at-one-macro .one-macro in
+    let upper = at-upper .upper in
+    (one-macro .kept .0 ∙ loop .inv .0, one-macro .kept .1 .0 ∙ loop .inv .1, reading-more (a .work .now) (a .macros .now) (a .list) (a .wrap) (a .count) (a .top) (loop .work) (loop .macros) (loop .at) (loop .n) (loop .end) (loop .inv .2) _ _ _ (sym (word .ensures) ∙ if1 .taken) (reference .ensures) (reference2 .ensures) (element .ensures) _ _ _ (one-macro .ensures) _ (upper .given .1) (one-macro .kept .0) (one-macro .kept .1 .0))
 
 returns-2 : tie.Need-returns-2 Inv-loop μ-loop
 returns-2 c =
     let a = c .before .before .before .before .before .before .args in
     let loop = c .before .before .before .loop in
     let word = c .before .word in
-    reading-ends (a .work .now) (a .macros .now) (a .list) (a .w) (a .count) (a .top) (loop .work) (loop .macros) (loop .at) (loop .n) (loop .end) (loop .inv .2) (λ z. c .if1 .left (word .ensures ∙ z))
+    reading-ends (a .work .now) (a .macros .now) (a .list) (a .wrap) (a .count) (a .top) (loop .work) (loop .macros) (loop .at) (loop .n) (loop .end) (loop .inv .2) (λ z. c .if1 .left (word .ensures ∙ z))
 
 pub all-macros-spec : {M : Type 1} → statement M
 all-macros-spec =

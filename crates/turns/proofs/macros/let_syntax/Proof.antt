@@ -10,23 +10,38 @@ use Rattle.turns.specs.MacroTurnLaws.{macros-unshaped, macros-alike, mac
 
 returns : tie.Need-returns
 returns c =
-    let a = c .before .before .before .before .before .before .args in macros-unshaped (treeAt (a .work .now) (a .node) (a .wrap)) (a .inside) (a .reached) _ (sym (c .before .before .is-macros .ensures (a .wrap)) ∙ not-true _ (c .before .if1 .taken)) (c .refuse .ensures)
+    let a = c .before .before .before .before .before .before .args in macros-unshaped (a .limit) (treeAt (a .work .now) (a .node) (a .wrap)) (a .inside) (a .reached) _ (sym (c .before .before .is-macros .ensures (a .wrap)) ∙ not-true _ (c .before .if1 .taken)) (c .refuse .ensures)
 
 keywords-distinct-requires : tie.Need-keywords-distinct-requires
 keywords-distinct-requires c κs =
-    let a = c .before .before .before .before .before .before .args in macros-names (treeAt (a .work .now) (a .node) (a .wrap)) 16 (sym (c .before .before .is-macros .ensures (a .wrap)) ∙ not-false _ (c .before .if1 .left))
+    let a = c .before .before .before .before .before .before .args in macros-names (treeAt (a .work .now) (a .node) (a .wrap)) (a .limit) (sym (c .before .before .is-macros .ensures (a .wrap)) ∙ not-false _ (c .before .if1 .left))
 
 returns-2 : tie.Need-returns-2
 returns-2 c =
-    let a = c .before .before .before .before .before .before .before .before .before .args in macros-alike (treeAt (a .work .now) (a .node) (a .wrap)) (a .inside) (a .reached) _ (sym (c .before .before .before .before .before .is-macros .ensures (a .wrap)) ∙ not-false _ (c .before .before .before .before .if1 .left)) (sym (c .before .before .keywords-distinct .ensures) ∙ not-true _ (c .before .if2 .taken)) (c .refuse2 .ensures)
+    let at-if2 = c .before in
+    let at-keywords-distinct = at-if2 .before in
+    let at-if1 = at-keywords-distinct .before .before in
+    let at-is-macros = at-if1 .before in
+    let a = at-is-macros .before .before .before .before .args in macros-alike (a .limit) (treeAt (a .work .now) (a .node) (a .wrap)) (a .inside) (a .reached) _ (sym (at-is-macros .is-macros .ensures (a .wrap)) ∙ not-false _ (at-if1 .if1 .left)) (sym (at-keywords-distinct .keywords-distinct .ensures) ∙ not-true _ (at-if2 .if2 .taken)) (c .refuse2 .ensures)
 
 macros-body-requires : tie.Need-macros-body-requires
 macros-body-requires c κs =
-    let a = c .before .before .before .before .before .before .before .before .before .before .args in (c .before .before .before .before .before .before .before .before .before .before .pre, sym (c .before .before .before .before .before .before .is-macros .ensures (a .wrap)) ∙ not-false _ (c .before .before .before .before .before .if1 .left))
+    let at-if1 = c .before .before .before .before .before in
+    let at-is-macros = at-if1 .before in
+    let at-args = at-is-macros .before .before .before .before in
+    let a = at-args .args in (at-args .pre, (a .limit, sym (at-is-macros .is-macros .ensures (a .wrap)) ∙ not-false _ (at-if1 .if1 .left)))
 
 returns-3 : tie.Need-returns-3
 returns-3 c =
-    let a = c .before .before .before .before .before .before .before .before .before .before .before .before .before .before .before .args in macros-left (treeAt (a .work .now) (a .node) (a .wrap)) (a .inside) (a .reached) (a .work .now) (c .before .before .before .before .macros-body .last .0) (a .macros .now) (c .before .before .before .before .macros-body .last .1 .0) (c .before .before .before .before .macros-body .result) (sym (c .before .before .before .before .before .before .before .before .before .before .before .is-macros .ensures (a .wrap)) ∙ not-false _ (c .before .before .before .before .before .before .before .before .before .before .if1 .left)) (sym (c .before .before .before .before .before .before .before .before .keywords-distinct .ensures) ∙ not-false _ (c .before .before .before .before .before .before .before .if2 .left)) (c .before .before .before .before .macros-body .ensures)
+    let at-macros-body = c .before .before .before .before in
+    let at-if2 = at-macros-body .before .before .before in
+    let at-keywords-distinct = at-if2 .before in
+    let at-if1 = at-keywords-distinct .before .before in
+    let at-is-macros = at-if1 .before in
+    let a = at-is-macros .before .before .before .before .args in
+    let body = at-macros-body .macros-body in
+    macros-left (a .limit) (treeAt (a .work .now) (a .node) (a .wrap)) (a .inside) (a .reached) (a .work .now) (body .last .0) (a .macros .now) (body .last .1 .0) (body .result)
+    (sym (at-is-macros .is-macros .ensures (a .wrap)) ∙ not-false _ (at-if1 .if1 .left)) (sym (at-keywords-distinct .keywords-distinct .ensures) ∙ not-false _ (at-if2 .if2 .left)) (body .ensures)
 
 pub let-syntax-spec : {M : Type 1} → statement M
 let-syntax-spec =

@@ -8,15 +8,22 @@ use mathlib.Core.Path.{sym, _∙_}
 
 returns : tie.Need-returns
 returns c =
-    let a = c .before .before .before .before .before .before .before .before .before .args in
-    let r = c .before .before .before .before .before .rules in
-    one-bad (a .work .now) (a .macros .now) (a .form) (a .w) (a .count) (a .top) (c .before .before .before .before .before .before .before .before .before .pre) (r .last .0) (builtOf (r .result)) (r .ensures) (a .macros .now) (sym (c .before .before .parts .ensures) ∙ c .enum-told .given .1)
+    let at-parts = c .before .before in
+    let at-rules = at-parts .before .before .before in
+    let at-args = at-rules .before .before .before .before in
+    let a = at-args .args in
+    let r = at-rules .rules in
+    one-bad (a .work .now) (a .macros .now) (a .form) (a .wrap) (a .count) (a .top) (at-args .pre) (r .last .0) (builtOf (r .result)) (r .ensures) (a .macros .now) (sym (at-parts .parts .ensures) ∙ c .enum-told .given .1)
 
 returns-2 : tie.Need-returns-2
 returns-2 c =
-    let a = c .before .before .before .before .before .before .before .before .before .before .args in
-    let r = c .before .before .before .before .before .before .rules in
-    one-good (a .work .now) (a .macros .now) (a .form) (a .w) (a .count) (a .top) (c .before .before .before .before .before .before .before .before .before .before .pre) (r .last .0) (builtOf (r .result)) (r .ensures) _ _ (sym (c .before .before .before .parts .ensures) ∙ c .before .at .given .1)
+    let at-at = c .before in
+    let at-parts = at-at .before .before in
+    let at-rules = at-parts .before .before .before in
+    let at-args = at-rules .before .before .before .before in
+    let a = at-args .args in
+    let r = at-rules .rules in
+    one-good (a .work .now) (a .macros .now) (a .form) (a .wrap) (a .count) (a .top) (at-args .pre) (r .last .0) (builtOf (r .result)) (r .ensures) _ _ (sym (at-parts .parts .ensures) ∙ at-at .at .given .1)
 
 pub one-macro-spec : {M : Type 1} → statement M
 one-macro-spec =

@@ -6,8 +6,10 @@ use Rattle.turns.specs.MemoryLaws.{header-moved}
 
 returns : tie.Need-returns
 returns c =
-    let a = c .before .before .before .before .before .before .before .before .args in
-    header-moved (a .list) (a .code) (a .number) _ _ (a .reached) _ (a .work .now) (a .core .now) _ (c .before .before .before .before .before .count .ensures .is) (c .moved .ensures) (c .before .before .before .put-four .ensures)
+    let at-put-four = c .before .before .before in
+    let at-count = at-put-four .before .before in
+    let a = at-count .before .before .before .args in
+    header-moved (a .list) (a .code) (a .number) _ _ (a .reached) _ (a .work .now) (a .core .now) _ (at-count .count .ensures .is) (c .moved .ensures) (at-put-four .put-four .ensures)
 
 pub put-application-spec : {M : Type 1} → statement M
 put-application-spec =

@@ -23,7 +23,9 @@ same-length c =
 -- src/output.rt:30:1
 returns : tie.Need-returns
 returns c =
-    put-after (c .before .before .before .before .before .before .put-two .ensures) (c .before .before .put-two2 .ensures) (omega (arith, c .before .before .before .before .before .before .before .before .before .pre .fits, c .before .before .before .before .before .before .put-two .ensures .end))
+    let at-put-two2 = c .before .before in
+    let at-put-two = at-put-two2 .before .before .before .before in
+    put-after (at-put-two .put-two .ensures) (at-put-two2 .put-two2 .ensures) (omega (arith, at-put-two .before .before .before .pre .fits, at-put-two .put-two .ensures .end))
 
 pub put-four-spec : {M : Type 1} → statement M
 put-four-spec = tie.close (tie.spec put-two-requires put-two-requires-2 same-length returns)

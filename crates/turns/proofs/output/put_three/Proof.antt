@@ -23,7 +23,9 @@ same-length c =
 -- src/output.rt:22:1
 returns : tie.Need-returns
 returns c =
-    put-after (c .before .before .before .before .before .before .put-word .ensures) (c .before .before .put-two .ensures) (omega (arith, c .before .before .before .before .before .before .before .before .before .pre .fits, c .before .before .before .before .before .before .put-word .ensures .end))
+    let at-put-two = c .before .before in
+    let at-put-word = at-put-two .before .before .before .before in
+    put-after (at-put-word .put-word .ensures) (at-put-two .put-two .ensures) (omega (arith, at-put-word .before .before .before .pre .fits, at-put-word .put-word .ensures .end))
 
 pub put-three-spec : {M : Type 1} → statement M
 put-three-spec = tie.close (tie.spec put-word-requires put-two-requires same-length returns)

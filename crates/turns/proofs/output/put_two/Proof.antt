@@ -23,7 +23,9 @@ same-length c =
 -- src/output.rt:14:1
 returns : tie.Need-returns
 returns c =
-    put-after (c .before .before .before .before .before .before .put-word .ensures) (c .before .before .put-word2 .ensures) (omega (arith, c .before .before .before .before .before .before .before .before .before .pre .fits, c .before .before .before .before .before .before .put-word .ensures .end))
+    let at-put-word2 = c .before .before in
+    let at-put-word = at-put-word2 .before .before .before .before in
+    put-after (at-put-word .put-word .ensures) (at-put-word2 .put-word2 .ensures) (omega (arith, at-put-word .before .before .before .pre .fits, at-put-word .put-word .ensures .end))
 
 pub put-two-spec : {M : Type 1} → statement M
 put-two-spec = tie.close (tie.spec put-word-requires put-word-requires-2 same-length returns)

@@ -12,55 +12,89 @@ put-mark-requires c κs =
 
 apply-requires : tie.Need-apply-requires
 apply-requires c κs =
-    let entry = c .before .before .before .before .before .before .before .before .before .before .before .before in
+    let at-put-mark = c .before .before .before in
+    let at-rest = at-put-mark .before .before in
+    let at-rules-of = at-rest .before .before in
+    let entry = at-rules-of .before .before .before .before .before in
     let a = entry .args in
-    let marked = c .before .before .before .put-mark in
-    use-stepping (a .work .now) (a .macros .now) (a .fuel) (a .node) (a .wrap) (a .number) (a .reached) (entry .pre) _ _ _ _ (c .before .before .before .before .before .before .before .rules-of .ensures) (c .before .before .before .before .before .rest .ensures) (marked .ensures) (marked .kept .0)
+    let marked = at-put-mark .put-mark in
+    use-stepping (a .work .now) (a .macros .now) (a .fuel) (a .node) (a .wrap) (a .number) (a .reached) (entry .pre) _ _ _ _ (at-rules-of .rules-of .ensures) (at-rest .rest .ensures) (marked .ensures) (marked .kept .0)
 
 put-mark-requires-2 : tie.Need-put-mark-requires-2
 put-mark-requires-2 c κs =
-    let entry = c .before .before .before .before .before .before .before .before .before .before .before .before .before .before .before .before .before .before .before in
+    let at-root = c .before .before in
+    let at-apply = at-root .before .before .before .before in
+    let at-put-mark = at-apply .before .before .before .before in
+    let at-rest = at-put-mark .before .before in
+    let at-rules-of = at-rest .before .before in
+    let entry = at-rules-of .before .before .before .before .before in
     let a = entry .args in
-    let marked = c .before .before .before .before .before .before .before .before .before .before .put-mark in
-    let made = c .before .before .before .before .before .before .apply in
-    use-marks-again (a .work .now) (a .macros .now) (a .fuel) (a .node) (a .wrap) (a .number) (a .reached) (entry .pre) _ _ _ _ (c .before .before .before .before .before .before .before .before .before .before .before .before .before .before .rules-of .ensures) (c .before .before .before .before .before .before .before .before .before .before .before .before .rest .ensures) (marked .ensures) (marked .kept .0) _ _ (made .ensures) _ _ (c .before .before .root .given .1) (made .kept .0)
+    let marked = at-put-mark .put-mark in
+    let made = at-apply .apply in
+    use-marks-again (a .work .now) (a .macros .now) (a .fuel) (a .node) (a .wrap) (a .number) (a .reached) (entry .pre) _ _ _ _ (at-rules-of .rules-of .ensures) (at-rest .rest .ensures) (marked .ensures) (marked .kept .0) _ _ (made .ensures) _ _ (at-root .root .given .1) (made .kept .0)
 
 stepped-requires : tie.Need-stepped-requires
 stepped-requires c κs =
-    let entry = c .before .before .before .before .before .before .before .before .before .before .before .before .before .before .before .before .before .before .before .before .before .before in
+    let at-root = c .before .before .before .before .before in
+    let at-apply = at-root .before .before .before .before in
+    let at-put-mark = at-apply .before .before .before .before in
+    let at-rest = at-put-mark .before .before in
+    let at-rules-of = at-rest .before .before in
+    let entry = at-rules-of .before .before .before .before .before in
     let a = entry .args in
-    let marked = c .before .before .before .before .before .before .before .before .before .before .before .before .before .put-mark in
-    let made = c .before .before .before .before .before .before .before .before .before .apply in
-    use-paid (a .work .now) (a .macros .now) (a .fuel) (a .node) (a .wrap) (a .number) (a .reached) (entry .pre) _ _ _ _ (c .before .before .before .before .before .before .before .before .before .before .before .before .before .before .before .before .before .rules-of .ensures) (c .before .before .before .before .before .before .before .before .before .before .before .before .before .before .before .rest .ensures) (marked .ensures) (marked .kept .0) _ _ (made .ensures) _ _ (c .before .before .before .before .before .root .given .1) (made .kept .0)
+    let marked = at-put-mark .put-mark in
+    let made = at-apply .apply in
+    use-paid (a .work .now) (a .macros .now) (a .fuel) (a .node) (a .wrap) (a .number) (a .reached) (entry .pre) _ _ _ _ (at-rules-of .rules-of .ensures) (at-rest .rest .ensures) (marked .ensures) (marked .kept .0) _ _ (made .ensures) _ _ (at-root .root .given .1) (made .kept .0)
 
 returns : tie.Need-returns
 returns c =
-    let entry = c .before .before .before .before .before .before .before .before .before .before .before .before .before .before .before .before .before .before in
+    let at-enum-told = c .before in
+    let at-apply = at-enum-told .before .before .before .before in
+    let at-put-mark = at-apply .before .before .before .before in
+    let at-rest = at-put-mark .before .before in
+    let at-rules-of = at-rest .before .before in
+    let entry = at-rules-of .before .before .before .before .before in
     let a = entry .args in
-    let marked = c .before .before .before .before .before .before .before .before .before .put-mark in
-    use-no-rule (a .work .now) (a .macros .now) (a .fuel) (a .node) (a .wrap) (a .number) (a .reached) (entry .pre) _ _ _ _ (c .before .before .before .before .before .before .before .before .before .before .before .before .before .rules-of .ensures) (c .before .before .before .before .before .before .before .before .before .before .before .rest .ensures) (marked .ensures) (marked .kept .0) _ _ (c .before .before .before .before .before .apply .ensures) (c .before .enum-told .given .1) _ (c .refuse .ensures)
+    let marked = at-put-mark .put-mark in
+    use-no-rule (a .work .now) (a .macros .now) (a .fuel) (a .node) (a .wrap) (a .number) (a .reached) (entry .pre) _ _ _ _ (at-rules-of .rules-of .ensures) (at-rest .rest .ensures) (marked .ensures) (marked .kept .0) _ _ (at-apply .apply .ensures) (at-enum-told .enum-told .given .1) _ (c .refuse .ensures)
 
 returns-2 : tie.Need-returns-2
 returns-2 c =
-    let entry = c .before .before .before .before .before .before .before .before .before .before .before .before .before .before .before .before .before .before in
+    let at-enum-told2 = c .before in
+    let at-apply = at-enum-told2 .before .before .before .before in
+    let at-put-mark = at-apply .before .before .before .before in
+    let at-rest = at-put-mark .before .before in
+    let at-rules-of = at-rest .before .before in
+    let entry = at-rules-of .before .before .before .before .before in
     let a = entry .args in
-    let marked = c .before .before .before .before .before .before .before .before .before .put-mark in
-    use-differs (a .work .now) (a .macros .now) (a .fuel) (a .node) (a .wrap) (a .number) (a .reached) (entry .pre) _ _ _ _ (c .before .before .before .before .before .before .before .before .before .before .before .before .before .rules-of .ensures) (c .before .before .before .before .before .before .before .before .before .before .before .rest .ensures) (marked .ensures) (marked .kept .0) _ _ (c .before .before .before .before .before .apply .ensures) (c .before .enum-told2 .given .1) _ (c .refuse2 .ensures)
+    let marked = at-put-mark .put-mark in
+    use-differs (a .work .now) (a .macros .now) (a .fuel) (a .node) (a .wrap) (a .number) (a .reached) (entry .pre) _ _ _ _ (at-rules-of .rules-of .ensures) (at-rest .rest .ensures) (marked .ensures) (marked .kept .0) _ _ (at-apply .apply .ensures) (at-enum-told2 .enum-told2 .given .1) _ (c .refuse2 .ensures)
 
 returns-3 : tie.Need-returns-3
 returns-3 c =
-    let entry = c .before .before .before .before .before .before .before .before .before .before .before .before .before .before .before .before .before .before in
+    let at-enum-told3 = c .before in
+    let at-apply = at-enum-told3 .before .before .before .before in
+    let at-put-mark = at-apply .before .before .before .before in
+    let at-rest = at-put-mark .before .before in
+    let at-rules-of = at-rest .before .before in
+    let entry = at-rules-of .before .before .before .before .before in
     let a = entry .args in
-    let marked = c .before .before .before .before .before .before .before .before .before .put-mark in
-    use-costly (a .work .now) (a .macros .now) (a .fuel) (a .node) (a .wrap) (a .number) (a .reached) (entry .pre) _ _ _ _ (c .before .before .before .before .before .before .before .before .before .before .before .before .before .rules-of .ensures) (c .before .before .before .before .before .before .before .before .before .before .before .rest .ensures) (marked .ensures) (marked .kept .0) _ _ (c .before .before .before .before .before .apply .ensures) (c .before .enum-told3 .given .1) _ (c .refuse3 .ensures)
+    let marked = at-put-mark .put-mark in
+    use-costly (a .work .now) (a .macros .now) (a .fuel) (a .node) (a .wrap) (a .number) (a .reached) (entry .pre) _ _ _ _ (at-rules-of .rules-of .ensures) (at-rest .rest .ensures) (marked .ensures) (marked .kept .0) _ _ (at-apply .apply .ensures) (at-enum-told3 .enum-told3 .given .1) _ (c .refuse3 .ensures)
 
 returns-4 : tie.Need-returns-4
 returns-4 c =
-    let entry = c .before .before .before .before .before .before .before .before .before .before .before .before .before .before .before .before .before .before .before .before .before .before .before in
+    let at-put-mark2 = c .before .before .before in
+    let at-root = at-put-mark2 .before .before .before in
+    let at-apply = at-root .before .before .before .before in
+    let at-put-mark = at-apply .before .before .before .before in
+    let at-rest = at-put-mark .before .before in
+    let at-rules-of = at-rest .before .before in
+    let entry = at-rules-of .before .before .before .before .before in
     let a = entry .args in
-    let marked = c .before .before .before .before .before .before .before .before .before .before .before .before .before .before .put-mark in
-    let made = c .before .before .before .before .before .before .before .before .before .before .apply in
-    use-made (a .work .now) (a .macros .now) (a .fuel) (a .node) (a .wrap) (a .number) (a .reached) (entry .pre) _ _ _ _ (c .before .before .before .before .before .before .before .before .before .before .before .before .before .before .before .before .before .before .rules-of .ensures) (c .before .before .before .before .before .before .before .before .before .before .before .before .before .before .before .before .rest .ensures) (marked .ensures) (marked .kept .0) _ _ (made .ensures) _ _ (c .before .before .before .before .before .before .root .given .1) (made .kept .0) _ _ (c .before .before .before .put-mark2 .ensures) _ (c .stepped .ensures)
+    let marked = at-put-mark .put-mark in
+    let made = at-apply .apply in
+    use-made (a .work .now) (a .macros .now) (a .fuel) (a .node) (a .wrap) (a .number) (a .reached) (entry .pre) _ _ _ _ (at-rules-of .rules-of .ensures) (at-rest .rest .ensures) (marked .ensures) (marked .kept .0) _ _ (made .ensures) _ _ (at-root .root .given .1) (made .kept .0) _ _ (at-put-mark2 .put-mark2 .ensures) _ (c .stepped .ensures)
 
 pub macro-use-spec : {M : Type 1} → statement M
 macro-use-spec =
