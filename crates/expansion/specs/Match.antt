@@ -4,7 +4,7 @@ use mathlib.Core.Bool.{Bool, true, false, _||_, cond}
 use mathlib.Core.List.{List, [], _∷_, _++_}
 use mathlib.Core.Option.{Option, none, some}
 use Prim.Native.Nat.{ℕ, zero, suc, _-_}
-use lib.Dec.{eqb}
+use lib.Dec.{eqb, leb}
 use lib.ListN.{length}
 use Rattle.datum.specs.Constant.{matches}
 use Rattle.recipe.specs.Name.{Name}
@@ -36,6 +36,10 @@ bothFit f g = andThen (f .0) (f .1) g
 unfoldable pub share : ℕ → Tree → ℕ
 share n t = length (elements t) - n
 
+-- where a list has fewer elements than follow the ellipsis, that is a misfit at once, and nothing is looked up (request L3)
+unfoldable pub enough : ℕ → Tree → Fit
+enough n t = ([], leb n (length (elements t)))
+
 -- c elements, and then the rest of the list
 unfoldable pub eachFits : (f g : Tree → Fit) → ℕ → Tree → Fit
 eachFits f g zero t = g t
@@ -49,7 +53,7 @@ fit wildcardP t = fitting
 fit (constantP a) t = onConstant (λ b. ([], matches a b)) misfit t
 fit emptyP t = onEmpty fitting misfit t
 fit (pairP p q) t = onPair (λ h u. bothFit (fit p h) (fit q u)) misfit t
-fit (ellipsisP p n q) t = eachFits (fit p) (fit q) (share n t) t
+fit (ellipsisP p n q) t = bothFit (enough n t) (eachFits (fit p) (fit q) (share n t) t)
 
 unfoldable pub orNext : Rule → List Name → Bool → List Name × Option Rule → List Name × Option Rule
 orNext r l true later = (l, some r)

@@ -3,14 +3,14 @@ use mathlib.Core.Path.{_≡_, refl, ap, ap₂, _∙_, subst}
 use mathlib.Core.Bool.{Bool, true, false, _&&_, _||_, true≢false, false≢true}
 use mathlib.Core.List.{List, [], _∷_, _++_, map, reverse}
 use Prim.Native.Nat.{ℕ, zero, suc, _-_}
-use lib.Dec.{eqb}
+use lib.Dec.{eqb, leb}
 use lib.ListN.{getD, take}
 use Rattle.words.specs.Lists.{allOf}
 use Rattle.recipe.specs.Name.{Name}
 use Rattle.recipe.specs.Tree.{Tree, onEmpty, onConstant, onName, onPair, past}
 use Rattle.expansion.specs.Lookup.{agree}
 use Rattle.expansion.specs.Rules.{Pattern, Template, drivers}
-use Rattle.expansion.specs.Match.{Fit, fitting, misfit, andThen, bothFit, share, eachFits, fit, holds, part, following}
+use Rattle.expansion.specs.Match.{Fit, fitting, misfit, andThen, bothFit, share, enough, eachFits, fit, holds, part, following}
 use Rattle.expansion.specs.Transcribe.{copies, allBelow, taken, lengths, copyCount, equalLengths, transcribe}
 use Rattle.simulation.specs.Relations.{cond-rel, length-rel}
 use Rattle.simulation.specs.Shapes.{TreeOf, empties, constants, names₂, pairs, PatternOf, variablePs, literalPs, wildcardPs, constantPs, emptyPs, pairPs, ellipsisPs, TemplateOf, variableTs, insertTs, constantTs, emptyTs, pairTs, ellipsisTs, tree-map, elements-rel, element-rel, tail-rel, past-rel}
@@ -40,6 +40,11 @@ module _ (L U : Name → Name → Type 0) (Looks : List Name → Type 0)
       go true false k fine = absurd (true≢false (k (looks-left (f .0) (g .0) fine)))
       go false true k fine = absurd (false≢true (k fine))
       go false false k fine = refl
+
+  -- lists of one shape have as many elements
+  enough-rel : (n : ℕ) {t u : Tree} → TreeOf U t u → FitRel (enough n t) (enough n u)
+  unfolding enough
+  enough-rel n r = λ _. ap (leb n) (length-rel (elements-rel r))
 
   eachFits-rel : (f f′ g g′ : Tree → Fit) → ((t u : Tree) → TreeOf U t u → FitRel (f t) (f′ u)) → ((t u : Tree) → TreeOf U t u → FitRel (g t) (g′ u))
       → (c : ℕ) (t u : Tree) → TreeOf U t u → FitRel (eachFits f g c t) (eachFits f′ g′ c u)
@@ -71,8 +76,9 @@ module _ (L U : Name → Name → Type 0) (Looks : List Name → Type 0)
   fit-rel (pairPs p q) _ _ (names₂ r) = λ _. refl
   fit-rel (pairPs p q) _ _ (pairs a b) = bothFit-rel _ _ _ _ (fit-rel p _ _ a) (fit-rel q _ _ b)
   fit-rel (ellipsisPs {p = p} {p′ = p′} {n = n} {q = q} {q′ = q′} a b) t u r =
-      subst (λ c. FitRel (eachFits (fit p) (fit q) (share n t) t) (eachFits (fit p′) (fit q′) c u)) (share-rel n r)
-      (eachFits-rel _ _ _ _ (fit-rel a) (fit-rel b) (share n t) t u r)
+      bothFit-rel _ _ _ _ (enough-rel n r)
+      (subst (λ c. FitRel (eachFits (fit p) (fit q) (share n t) t) (eachFits (fit p′) (fit q′) c u)) (share-rel n r)
+      (eachFits-rel _ _ _ _ (fit-rel a) (fit-rel b) (share n t) t u r))
 
 -- ---- what a variable takes
 
