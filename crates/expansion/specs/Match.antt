@@ -79,8 +79,8 @@ holds k emptyP = false
 holds k (pairP p q) = holds k p || holds k q
 holds k (ellipsisP p n q) = holds k p || holds k q
 
--- what variable k takes at these indices, the outermost ellipsis first; where an index is missing, the list that it would count, with
--- what follows the ellipsis
+-- what variable k takes, with an index for each ellipsis over it, the outermost first; where one is missing, the whole list that it
+-- would count
 unfoldable pub part : Pattern → ℕ → List ℕ → Tree → Tree
 part (variableP j) k is t = t
 part (literalP x) k is t = empty
@@ -91,13 +91,13 @@ part (pairP p q) k is t = cond (holds k p) (part p k is (element 0 t)) (part q k
 part (ellipsisP p n q) k [] t = cond (holds k p) t (part q k [] (past (share n t) t))
 part (ellipsisP p n q) k (i ∷ is) t = cond (holds k p) (part p k is (element i t)) (part q k (i ∷ is) (past (share n t) t))
 
--- how many elements of that list follow the ellipsis; d indices are there, and one more is missing
-unfoldable pub following : Pattern → (k d : ℕ) → ℕ
-following (variableP j) k d = 0
-following (literalP x) k d = 0
-following wildcardP k d = 0
-following (constantP a) k d = 0
-following emptyP k d = 0
-following (pairP p q) k d = cond (holds k p) (following p k d) (following q k d)
-following (ellipsisP p n q) k zero = cond (holds k p) n (following q k zero)
-following (ellipsisP p n q) k (suc d) = cond (holds k p) (following p k d) (following q k (suc d))
+-- where one is missing: how many elements the ellipsis takes that it would count
+unfoldable pub takenCount : Pattern → ℕ → List ℕ → Tree → ℕ
+takenCount (variableP j) k is t = 0
+takenCount (literalP x) k is t = 0
+takenCount wildcardP k is t = 0
+takenCount (constantP a) k is t = 0
+takenCount emptyP k is t = 0
+takenCount (pairP p q) k is t = cond (holds k p) (takenCount p k is (element 0 t)) (takenCount q k is (tail t))
+takenCount (ellipsisP p n q) k [] t = cond (holds k p) (share n t) (takenCount q k [] (past (share n t) t))
+takenCount (ellipsisP p n q) k (i ∷ is) t = cond (holds k p) (takenCount p k is (element i t)) (takenCount q k (i ∷ is) (past (share n t) t))

@@ -7,7 +7,7 @@ use lib.ListN.{getD, take}
 use Rattle.words.specs.Lists.{allOf}
 use Rattle.recipe.specs.Tree.{Tree, empty, constant, name, pair}
 use Rattle.expansion.specs.Rules.{Pattern, Template, variableT, insertT, constantT, emptyT, pairT, ellipsisT, drivers}
-use Rattle.expansion.specs.Match.{share, part, following}
+use Rattle.expansion.specs.Match.{part, takenCount}
 
 -- f k, f (k + 1), .., n of them, in front of a list
 unfoldable pub copies : (ℕ → Tree) → ℕ → ℕ → Tree → Tree
@@ -24,9 +24,9 @@ module _ (p : Pattern) (used : Tree) where
   unfoldable pub taken : List ℕ → ℕ → ℕ → Tree
   taken is k d = part p k (reverse (take d is)) used
 
-  -- the lengths of the lists that drive the copies of an element, as far as the pattern's ellipses take them
+  -- the lengths of the lists that drive the copies of an element
   unfoldable pub lengths : List ℕ → Template → List ℕ
-  lengths is e = map (λ v. share (following p (v .0) (v .1)) (taken is (v .0) (v .1))) (drivers 0 e)
+  lengths is e = map (λ v. takenCount p (v .0) (reverse (take (v .1) is)) used) (drivers 0 e)
 
   unfoldable pub copyCount : List ℕ → Template → ℕ
   copyCount is e = getD (lengths is e) 0 0

@@ -10,7 +10,7 @@ use Rattle.recipe.specs.Name.{Name}
 use Rattle.recipe.specs.Tree.{Tree, onEmpty, onConstant, onName, onPair, past}
 use Rattle.expansion.specs.Lookup.{agree}
 use Rattle.expansion.specs.Rules.{Pattern, Template, drivers}
-use Rattle.expansion.specs.Match.{Fit, fitting, misfit, andThen, bothFit, share, enough, eachFits, fit, holds, part, following}
+use Rattle.expansion.specs.Match.{Fit, fitting, misfit, andThen, bothFit, share, enough, eachFits, fit, holds, part, takenCount}
 use Rattle.expansion.specs.Transcribe.{copies, allBelow, taken, lengths, copyCount, equalLengths, transcribe}
 use Rattle.simulation.specs.Relations.{cond-rel, length-rel}
 use Rattle.simulation.specs.Shapes.{TreeOf, empties, constants, names₂, pairs, PatternOf, variablePs, literalPs, wildcardPs, constantPs, emptyPs, pairPs, ellipsisPs, TemplateOf, variableTs, insertTs, constantTs, emptyTs, pairTs, ellipsisTs, tree-map, elements-rel, element-rel, tail-rel, past-rel}
@@ -107,16 +107,16 @@ part-rel {L} {U} (pairPs p q) k is r = cond-rel (TreeOf U) _ _ _ _ _ _ (holds-re
 part-rel {L} {U} (ellipsisPs {n = n} p q) k [] {t} {u} r = cond-rel (TreeOf U) _ _ _ _ _ _ (holds-rel k p) r (part-rel q k [] (after-rel n r))
 part-rel {L} {U} (ellipsisPs {n = n} p q) k (i ∷ is) r = cond-rel (TreeOf U) _ _ _ _ _ _ (holds-rel k p) (part-rel p k is (element-rel i r)) (part-rel q k (i ∷ is) (after-rel n r))
 
-following-rel : {L : Name → Name → Type 0} {p q : Pattern} → PatternOf L p q → (k d : ℕ) → following p k d ≡ following q k d
-unfolding following
-following-rel variablePs k d = refl
-following-rel (literalPs l) k d = refl
-following-rel wildcardPs k d = refl
-following-rel constantPs k d = refl
-following-rel emptyPs k d = refl
-following-rel (pairPs p q) k d = cond-rel _≡_ _ _ _ _ _ _ (holds-rel k p) (following-rel p k d) (following-rel q k d)
-following-rel (ellipsisPs p q) k zero = cond-rel _≡_ _ _ _ _ _ _ (holds-rel k p) refl (following-rel q k zero)
-following-rel (ellipsisPs p q) k (suc d) = cond-rel _≡_ _ _ _ _ _ _ (holds-rel k p) (following-rel p k d) (following-rel q k (suc d))
+takenCount-rel : {L U : Name → Name → Type 0} {p q : Pattern} → PatternOf L p q → (k : ℕ) (is : List ℕ) {t u : Tree} → TreeOf U t u → takenCount p k is t ≡ takenCount q k is u
+unfolding takenCount
+takenCount-rel variablePs k is r = refl
+takenCount-rel (literalPs l) k is r = refl
+takenCount-rel wildcardPs k is r = refl
+takenCount-rel constantPs k is r = refl
+takenCount-rel emptyPs k is r = refl
+takenCount-rel (pairPs p q) k is r = cond-rel _≡_ _ _ _ _ _ _ (holds-rel k p) (takenCount-rel p k is (element-rel 0 r)) (takenCount-rel q k is (tail-rel r))
+takenCount-rel (ellipsisPs {n = n} p q) k [] r = cond-rel _≡_ _ _ _ _ _ _ (holds-rel k p) (share-rel n r) (takenCount-rel q k [] (after-rel n r))
+takenCount-rel (ellipsisPs {n = n} p q) k (i ∷ is) r = cond-rel _≡_ _ _ _ _ _ _ (holds-rel k p) (takenCount-rel p k is (element-rel i r)) (takenCount-rel q k (i ∷ is) (after-rel n r))
 
 -- ---- what a template gives
 
@@ -137,11 +137,11 @@ module _ {L U : Name → Name → Type 0} {p q : Pattern} (pq : PatternOf L p q)
 
   lengths-rel : {T : Name → Name → Type 0} (is : List ℕ) {e f : Template} → TemplateOf T e f → lengths p t is e ≡ lengths q u is f
   unfolding lengths
-  lengths-rel {T} is {e} {f} r = ap (map (λ v. share (following p (v .0) (v .1)) (taken p t is (v .0) (v .1)))) (drivers-rel 0 r) ∙ go (drivers 0 f)
+  lengths-rel {T} is {e} {f} r = ap (map (λ v. takenCount p (v .0) (reverse (take (v .1) is)) t)) (drivers-rel 0 r) ∙ go (drivers 0 f)
     where
-      go : (l : List (ℕ × ℕ)) → map (λ v. share (following p (v .0) (v .1)) (taken p t is (v .0) (v .1))) l ≡ map (λ v. share (following q (v .0) (v .1)) (taken q u is (v .0) (v .1))) l
+      go : (l : List (ℕ × ℕ)) → map (λ v. takenCount p (v .0) (reverse (take (v .1) is)) t) l ≡ map (λ v. takenCount q (v .0) (reverse (take (v .1) is)) u) l
       go [] = refl
-      go (v ∷ l) = ap₂ _∷_ (ap (λ n. share n (taken p t is (v .0) (v .1))) (following-rel pq (v .0) (v .1)) ∙ share-rel (following q (v .0) (v .1)) (taken-rel is (v .0) (v .1))) (go l)
+      go (v ∷ l) = ap₂ _∷_ (takenCount-rel pq (v .0) (reverse (take (v .1) is)) tu) (go l)
 
   copyCount-rel : {T : Name → Name → Type 0} (is : List ℕ) {e f : Template} → TemplateOf T e f → copyCount p t is e ≡ copyCount q u is f
   unfolding copyCount
