@@ -1,4 +1,5 @@
--- Matching (document 01, 'Forms'): from the left, up to the first misfit; no rule matches is ground 16.
+-- Matching (document 01, 'Forms'; request L3 for elements after an ellipsis): from the left, up to the first misfit; no rule matches is
+-- ground 16.
 -- Two functions: whether a pattern fits a use, with the names looked up on the way; and what a variable takes from a use that fits.
 use mathlib.Core.Bool.{Bool, true, false, _||_, cond}
 use mathlib.Core.List.{List, [], _∷_, _++_}
@@ -32,7 +33,7 @@ andThen l false f = (l, false)
 unfoldable pub bothFit : Fit → Fit → Fit
 bothFit f g = andThen (f .0) (f .1) g
 
--- of a list's elements an ellipsis takes all but the n that follow it
+-- of a list's elements an ellipsis takes all but the n that follow it (request L3)
 unfoldable pub share : ℕ → Tree → ℕ
 share n t = length (elements t) - n
 

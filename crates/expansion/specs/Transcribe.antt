@@ -1,4 +1,5 @@
--- Transcription (document 01, 'Forms'): the result of a step from a rule and the use that it matches; ground 17.
+-- Transcription (document 01, 'Forms'; request L2 for variables under more ellipses than in the pattern): the result of a step from a
+-- rule and the use that it matches; ground 17.
 use mathlib.Core.Bool.{Bool, true, _&&_}
 use mathlib.Core.List.{List, _∷_, map, reverse}
 use Prim.Native.Nat.{ℕ, zero, suc}
@@ -18,7 +19,7 @@ unfoldable pub allBelow : (ℕ → Bool) → ℕ → Bool
 allBelow f zero = true
 allBelow f (suc n) = allBelow f n && f n
 
--- indices are those of the copies round a place, the innermost first
+-- indices are those of the copies round a place, the innermost first; a variable's own ellipses are the innermost (request L2)
 module _ (p : Pattern) (used : Tree) where
   -- what variable k takes under the innermost d indices
   unfoldable pub taken : List ℕ → ℕ → ℕ → Tree
