@@ -1,17 +1,17 @@
 -- Laws of constants: the kinds there are, and how many words each has in the core term.
-use mathlib.Core.Path.{_≡_, refl, sym, ap, subst, _∙_}
-use mathlib.Core.Bool.{Bool, true, false, _&&_, _||_, cond, false≢true}
+use mathlib.Core.Path.{_≡_, refl}
+use mathlib.Core.Bool.{true, false}
 use mathlib.Core.List.{List, [], _∷_}
-use Prim.Native.Nat.{ℕ, zero, suc, _+_, _-_, _*_, _^_, _≤_, _<_}
+use Prim.Native.Nat.{ℕ, suc, _≤_, _<_}
 use native.Mathlib.Omega.{arith}
-use lib.Dec.{eqb, ltb, leb}
+use lib.Dec.{eqb, ltb}
 use lib.ListN.{length}
 use borrow.Author.Tests.{eqb-true, ltb-true, ne-eqb}
 use Rattle.words.specs.Limits.{placesMost}
 use Rattle.words.specs.Lists.{within}
 use Rattle.words.specs.ListLaws.{either}
 use Rattle.words.specs.TestLaws.{and-parts, and-none-right}
-use Rattle.datum.specs.Constant.{Constant, decimalKind, isConstant, constantWords, integer, boolean, decimal}
+use Rattle.datum.specs.Constant.{Constant, integerKind, booleanKind, decimalKind, isConstant, constantWords, integer, boolean, decimal}
 
 -- a constant of its three words
 abbrev pub made : (kind first second : ℕ) → Constant
@@ -22,20 +22,18 @@ made k w v = record { kind = k; first = w; second = v }
 -- what holds of integers, of the booleans and of decimals holds of every constant
 module _ (P : Constant → Type 0) (int : (w : ℕ) → P (integer w)) (bool : (w : ℕ) → w < 2 → P (boolean w))
     (dec : (w p : ℕ) → within 1 placesMost p ≡ true → P (decimal w p)) where
-  words-case : (k w v : ℕ) → isConstant (made k w v) ≡ true → P (made k w v)
-  unfolding isConstant integer boolean decimal
-  words-case zero w v h = absurd (false≢true h)
-  words-case (suc zero) w v h = subst (λ (n : ℕ). P (made 1 w n)) (sym (eqb-true v 0 h)) (int w)
-  words-case (suc (suc zero)) w v h =
-      let p = and-parts (ltb w 2) (eqb v 0) h in
-      subst (λ (n : ℕ). P (made 2 w n)) (sym (eqb-true v 0 (p .1))) (bool w (ltb-true w 2 (p .0)))
-  words-case (suc (suc (suc zero))) w v h = absurd (false≢true h)
-  words-case (suc (suc (suc (suc zero)))) w v h = absurd (false≢true h)
-  words-case (suc (suc (suc (suc (suc zero))))) w v h = dec w v h
-  words-case (suc (suc (suc (suc (suc (suc k)))))) w v h = absurd (false≢true h)
-
   pub constant-case : (a : Constant) → isConstant a ≡ true → P a
-  constant-case a h = words-case (a .kind) (a .first) (a .second) h
+  unfolding isConstant integer boolean decimal
+  constant-case a h = go (a .kind) (a .first) (a .second) h
+    where
+      go : (k w v : ℕ) → isConstant (made k w v) ≡ true → P (made k w v)
+      go k w v h =
+          either (eqb k integerKind)
+          (λ e. rw (eqb-true k integerKind e, eqb-true v 0 (rw e at h)) (int w))
+          (λ e.
+          either (eqb k booleanKind)
+          (λ f. let p = and-parts (ltb w 2) (eqb v 0) (rw (e, f) at h) in rw (eqb-true k booleanKind f, eqb-true v 0 (p .1)) (bool w (ltb-true w 2 (p .0))))
+          (λ f. let p = and-parts (eqb k decimalKind) (within 1 placesMost v) (rw (e, f) at h) in rw (eqb-true k decimalKind (p .0)) (dec w v (p .1))))
 
 pub kind-most : (a : Constant) → isConstant a ≡ true → a .kind ≤ decimalKind
 unfolding integer boolean decimal
@@ -44,31 +42,16 @@ kind-most = constant-case (λ a. a .kind ≤ decimalKind) (λ w. omega arith) (�
 -- ---- words of no constant
 
 -- one that is no decimal has no third word
-unused-words : (k w v : ℕ) → (k ≡ decimalKind → ⊥) → (v ≡ 0 → ⊥) → isConstant (made k w v) ≡ false
-unfolding isConstant
-unused-words zero w v d h = refl
-unused-words (suc zero) w v d h = ne-eqb v 0 h
-unused-words (suc (suc zero)) w v d h = and-none-right (ltb w 2) (eqb v 0) (ne-eqb v 0 h)
-unused-words (suc (suc (suc zero))) w v d h = refl
-unused-words (suc (suc (suc (suc zero)))) w v d h = refl
-unused-words (suc (suc (suc (suc (suc zero))))) w v d h = absurd (d refl)
-unused-words (suc (suc (suc (suc (suc (suc k)))))) w v d h = refl
-
 pub unused-no : (a : Constant) → (a .kind ≡ decimalKind → ⊥) → (a .second ≡ 0 → ⊥) → isConstant a ≡ false
-unused-no a d h = unused-words (a .kind) (a .first) (a .second) d h
-
-kind-words : (k w v : ℕ) → 2 < k → (k ≡ decimalKind → ⊥) → isConstant (made k w v) ≡ false
 unfolding isConstant
-kind-words zero w v l d = refl
-kind-words (suc zero) w v l d = absurd (omega arith)
-kind-words (suc (suc zero)) w v l d = absurd (omega arith)
-kind-words (suc (suc (suc zero))) w v l d = refl
-kind-words (suc (suc (suc (suc zero)))) w v l d = refl
-kind-words (suc (suc (suc (suc (suc zero))))) w v l d = absurd (d refl)
-kind-words (suc (suc (suc (suc (suc (suc k)))))) w v l d = refl
+unused-no a d h =
+    rw (ne-eqb (a .kind) decimalKind d, ne-eqb (a .second) 0 h)
+    (either (eqb (a .kind) integerKind) (λ e. rw e refl)
+    (λ e. either (eqb (a .kind) booleanKind) (λ f. rw (e, f) (and-none-right (ltb (a .first) 2) false refl)) (λ f. rw (e, f) refl)))
 
-pub kind-no : (a : Constant) → 2 < a .kind → (a .kind ≡ decimalKind → ⊥) → isConstant a ≡ false
-kind-no a l d = kind-words (a .kind) (a .first) (a .second) l d
+pub kind-no : (a : Constant) → booleanKind < a .kind → (a .kind ≡ decimalKind → ⊥) → isConstant a ≡ false
+unfolding isConstant
+kind-no a l d = rw (ne-eqb (a .kind) integerKind (λ e. omega arith), ne-eqb (a .kind) booleanKind (λ e. omega arith), ne-eqb (a .kind) decimalKind d) refl
 
 -- ---- words
 

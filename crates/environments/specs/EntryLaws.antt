@@ -12,17 +12,15 @@ use lib.Seq.{getD-set-same, getD-set-other}
 use borrow.Author.Tests.{ltb-true, ltb-false, eqb-true, eqb-false, ne-eqb}
 use borrow.Author.Count.{below-more}
 use Rattle.words.specs.Limits.{patternVariablesMost}
-use Rattle.recipe.specs.Tree.{elements, element, tail}
+use Rattle.recipe.specs.Tree.{element, tail}
 use Rattle.recipe.specs.TreeLaws.{element-tail}
-use Rattle.expansion.specs.Match.{share, part}
+use Rattle.expansion.specs.Match.{part}
 use Rattle.arena.specs.Arena.{wordAt, referenceAt, treeAt}
-use Rattle.arena.specs.ArenaLaws.{wordAt-none}
-use Rattle.arena.specs.ListLaws.{treeAt-none}
 use Rattle.words.specs.ListLaws.{either}
 use Rattle.arena.specs.Lists.{Means}
 use Rattle.rule_cells.specs.Cells.{patternAt}
 use Rattle.environments.specs.declared.environment.Entry.{Entry}
-use Rattle.environments.specs.Environment.{behind, counts, within, entering, enter}
+use Rattle.environments.specs.Environment.{shareOf, counts, within, entering, enter}
 use Rattle.environments.specs.Parts.{Part, Shares}
 use Rattle.environments.specs.Entries.{entryWords, tableWords, field, entryAt, ellipsisIn, takingOf, environmentAt, level, nextLevel, takenIn, Listed, Under, CountsCopies, Low, Stored, Moving, Ahead, begun, Along, AlongAll, Within, Next, Enters}
 
@@ -473,14 +471,6 @@ listed-is work env e a b k inner g a-is a1 b-is b1 k-is inner-is g-is g1 =
 
 -- ---- how many copies a list drives
 
--- what follows an ellipsis stands in its cell
-behind-word : (work : List ℕ) (q : ℕ) → behind (ellipsisIn work q) ≡ wordAt work q 4
-unfolding behind ellipsisIn
-behind-word work q =
-    either (eqb q 0)
-    (λ t. rw (eqb-true q 0 t) (sym (wordAt-none work 4 (omega arith))))
-    (λ t. rw t refl)
-
 pub level-first : (d : ℕ) → d ≡ 0 → 0 ≡ nextLevel d
 unfolding nextLevel
 level-first zero e = refl
@@ -498,17 +488,27 @@ level-second (suc d) n = refl
 
 module _ (work env : List ℕ) (k d : ℕ) where
   pub copies-out : length env ≡ tableWords → patternVariablesMost ≤ k → CountsCopies work env k d 0
-  unfolding environmentAt takingOf counts share blank elements
+  unfolding environmentAt takingOf counts shareOf ellipsisIn blank
   copies-out e h w = rw (entry-out env k e h) (go d)
     where
       go : (n : ℕ) → 0 ≡ counts n (takingOf work w blank)
-      go zero = rw (behind-word work 0, treeAt-none work w) (omega arith)
-      go (suc n) = rw (behind-word work 0, treeAt-none work w) (omega arith)
+      go zero = refl
+      go (suc n) = refl
 
-  pub copies-in : (o r : ℕ) → o ≡ nextLevel d → Shares work (getD env (entryWords * k + o + 3) 0) (getD env (entryWords * k + o) 0) r → CountsCopies work env k d r
-  unfolding environmentAt takingOf counts entryAt field nextLevel
-  copies-in o r e c w = go d e
-    where
-      go : (n : ℕ) → o ≡ nextLevel n → r ≡ counts n (environmentAt work env w k)
-      go zero f = c w ∙ rw f (let z : entryWords * k + 0 + 3 ≡ entryWords * k + 3 = omega arith in rw (z, ← behind-word work (getD env (entryWords * k + 3) 0)) refl)
-      go (suc n) f = c w ∙ rw f (let z : entryWords * k + 1 + 3 ≡ entryWords * k + 4 = omega arith in rw (z, ← behind-word work (getD env (entryWords * k + 4) 0)) refl)
+  module _ (o q : ℕ) (o-is : o ≡ nextLevel d) (q-is : q ≡ getD env (entryWords * k + o + 3) 0) where
+    counts-are : (w : ℕ) → counts d (environmentAt work env w k) ≡ shareOf (ellipsisIn work q) (treeAt work (getD env (entryWords * k + o) 0) w)
+    unfolding environmentAt takingOf counts entryAt field nextLevel
+    counts-are w = rw q-is (go d o-is)
+      where
+        go : (n : ℕ) → o ≡ nextLevel n
+            → counts n (environmentAt work env w k) ≡ shareOf (ellipsisIn work (getD env (entryWords * k + o + 3) 0)) (treeAt work (getD env (entryWords * k + o) 0) w)
+        go zero f = rw f (let z : entryWords * k + 0 + 3 ≡ entryWords * k + 3 = omega arith in rw z refl)
+        go (suc n) f = rw f (let z : entryWords * k + 1 + 3 ≡ entryWords * k + 4 = omega arith in rw z refl)
+
+    pub copies-flat : q ≡ 0 → CountsCopies work env k d 0
+    unfolding shareOf ellipsisIn
+    copies-flat e w = sym (counts-are w ∙ rw e refl)
+
+    pub copies-in : (q ≡ 0 → ⊥) → (r : ℕ) → Shares work q (getD env (entryWords * k + o) 0) r → CountsCopies work env k d r
+    unfolding shareOf ellipsisIn
+    copies-in n r c w = c w ∙ sym (counts-are w ∙ rw (ne-eqb q 0 n) refl)

@@ -53,15 +53,15 @@ enter i v k = entering k i (v k .first) (v k)
 
 -- ---- transcription, as in the definition
 
--- how many elements follow an ellipsis
-unfoldable pub behind : Option Ellipsis → ℕ
-behind none = 0
-behind (some e) = e .1
+-- how many elements of a list an ellipsis takes
+unfoldable pub shareOf : Option Ellipsis → Tree → ℕ
+shareOf none t = 0
+shareOf (some e) t = share (e .1) t
 
 -- how many copies a variable's list drives, under d indices
 unfoldable pub counts : ℕ → Taking → ℕ
-counts zero x = share (behind (x .first)) (x .whole)
-counts (suc d) x = share (behind (x .second)) (x .one)
+counts zero x = shareOf (x .first) (x .whole)
+counts (suc d) x = shareOf (x .second) (x .one)
 
 -- the lengths of the lists that drive the copies of an element; t is the part of it under j ellipses
 unfoldable pub lengthsBy : Environment → ℕ → Template → List ℕ

@@ -2,21 +2,21 @@
 -- indices still knows it in every copy.
 use mathlib.Core.Path.{_≡_, refl, sym, ap, ap₂, _∙_}
 use mathlib.Core.Bool.{Bool, true, _&&_}
-use mathlib.Core.List.{List, [], _∷_, _++_, map, map-append}
+use mathlib.Core.List.{List, [], _∷_, _++_, map, map-append, reverse}
 use mathlib.Core.Option.{Option, none, some}
 use Prim.Native.Nat.{ℕ, zero, suc, _+_, _-_, _≤_, _<_}
 use native.Mathlib.Omega.{arith}
 use lib.Dec.{eqb, ltb}
-use lib.ListN.{length, getD}
+use lib.ListN.{length, getD, take}
 use borrow.Author.Tests.{ltb-true}
 use Rattle.words.specs.Limits.{patternVariablesMost, depthMost}
 use Rattle.words.specs.Lists.{allOf}
 use Rattle.recipe.specs.Tree.{Tree, pair}
 use Rattle.expansion.specs.Rules.{Pattern, variableP, literalP, wildcardP, constantP, emptyP, pairP, ellipsisP, Template, drivers}
-use Rattle.expansion.specs.Match.{share, holds, part, following}
+use Rattle.expansion.specs.Match.{holds, part, takenCount}
 use Rattle.expansion.specs.Transcribe.{copies, allBelow, taken, lengths, copyCount, equalLengths, transcribe}
 use Rattle.words.specs.ListLaws.{either}
-use Rattle.environments.specs.Environment.{Ellipsis, Taking, Environment, takes, behind, counts, within, entering, enter, lengthsBy, countBy, agreeBy, resultBy, entered, enteredNext, taking, environment}
+use Rattle.environments.specs.Environment.{Ellipsis, Taking, Environment, takes, shareOf, counts, within, entering, enter, lengthsBy, countBy, agreeBy, resultBy, entered, enteredNext, taking, environment}
 use Rattle.environments.specs.BelowLaws.{below-cong}
 use Rattle.environments.specs.Sound.{Sound, variable, insert, constant, empty, pairs, ellipsis}
 
@@ -78,27 +78,27 @@ unfolding entering
 entering-second k i none x = refl
 entering-second k i (some q) x = refl
 
--- ---- what follows the ellipses
+-- ---- what the ellipses take
 
-following-first : (p : Pattern) (k : ℕ) → following p k 0 ≡ behind (entered k p)
-unfolding following behind entered
-following-first (variableP j) k = refl
-following-first (literalP x) k = refl
-following-first wildcardP k = refl
-following-first (constantP a) k = refl
-following-first emptyP k = refl
-following-first (pairP p q) k = either (holds k p) (λ h. rw h (following-first p k)) (λ h. rw h (following-first q k))
-following-first (ellipsisP p n q) k = either (holds k p) (λ h. rw h refl) (λ h. rw h (following-first q k))
+count-first : (p : Pattern) (k : ℕ) (t : Tree) → takenCount p k [] t ≡ shareOf (entered k p) (part p k [] t)
+unfolding takenCount shareOf entered part
+count-first (variableP j) k t = refl
+count-first (literalP x) k t = refl
+count-first wildcardP k t = refl
+count-first (constantP a) k t = refl
+count-first emptyP k t = refl
+count-first (pairP p q) k t = either (holds k p) (λ h. rw h (count-first p k _)) (λ h. rw h (count-first q k _))
+count-first (ellipsisP p n q) k t = either (holds k p) (λ h. rw h refl) (λ h. rw h (count-first q k _))
 
-following-second : (p : Pattern) (k : ℕ) → following p k 1 ≡ behind (enteredNext k p)
-unfolding following behind enteredNext
-following-second (variableP j) k = refl
-following-second (literalP x) k = refl
-following-second wildcardP k = refl
-following-second (constantP a) k = refl
-following-second emptyP k = refl
-following-second (pairP p q) k = either (holds k p) (λ h. rw h (following-second p k)) (λ h. rw h (following-second q k))
-following-second (ellipsisP p n q) k = either (holds k p) (λ h. rw h (following-first p k)) (λ h. rw h (following-second q k))
+count-second : (p : Pattern) (k i : ℕ) (t : Tree) → takenCount p k (i ∷ []) t ≡ shareOf (enteredNext k p) (part p k (i ∷ []) t)
+unfolding takenCount shareOf enteredNext part
+count-second (variableP j) k i t = refl
+count-second (literalP x) k i t = refl
+count-second wildcardP k i t = refl
+count-second (constantP a) k i t = refl
+count-second emptyP k i t = refl
+count-second (pairP p q) k i t = either (holds k p) (λ h. rw h (count-second p k i _)) (λ h. rw h (count-second q k i _))
+count-second (ellipsisP p n q) k i t = either (holds k p) (λ h. rw h (count-first p k _)) (λ h. rw h (count-second q k i _))
 
 -- ---- copies
 
@@ -139,15 +139,16 @@ module _ (p : Pattern) (used : Tree) where
   stands-enter i is v s k l h = standing-enter i is k (v k) (s k l h)
 
   abbrev long : List ℕ → ℕ × ℕ → ℕ
-  long is x = share (following p (x .0) (x .1)) (taken p used is (x .0) (x .1))
+  long is x = takenCount p (x .0) (reverse (take (x .1) is)) used
 
   abbrev longBy : Environment → ℕ × ℕ → ℕ
   longBy v x = counts (x .1) (v (x .0))
 
   standing-long : (is : List ℕ) (k : ℕ) (x : Taking) → Standing p used is k x → (d : ℕ) → d < depthMost → d ≤ length is → counts d x ≡ long is (k, d)
-  unfolding counts takes
-  standing-long is k x s zero l m = ap₂ share (ap behind (s .first-is) ∙ sym (following-first p k)) (s .takes-is 0 (omega arith) m)
-  standing-long is k x s (suc zero) l m = ap₂ share (ap behind (s .second-is) ∙ sym (following-second p k)) (s .takes-is 1 (omega arith) m)
+  unfolding counts takes taken
+  standing-long is k x s zero l m = ap₂ shareOf (s .first-is) (s .takes-is 0 (omega arith) m) ∙ sym (count-first p k used)
+  standing-long [] k x s (suc zero) l m = absurd (omega arith)
+  standing-long (i ∷ is) k x s (suc zero) l m = ap₂ shareOf (s .second-is) (s .takes-is 1 (omega arith) m) ∙ sym (count-second p k i used)
   standing-long is k x s (suc (suc d)) l m = absurd (omega arith)
 
   -- a driver has one ellipsis fewer than its variable, since the element's own is not entered

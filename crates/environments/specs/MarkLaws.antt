@@ -17,7 +17,7 @@ use Rattle.expansion.specs.Rules.{Template, variableT, drivers}
 use Rattle.arena.specs.Arena.{wordAt, referenceAt}
 use Rattle.rule_cells.specs.Cells.{templateAt}
 use Rattle.rule_cells.specs.CellLaws.{templateAt-variable}
-use Rattle.environments.specs.Environment.{Taking, Environment, behind, counts, entering, enter, lengthsBy}
+use Rattle.environments.specs.Environment.{Taking, Environment, shareOf, counts, entering, enter, lengthsBy}
 use Rattle.environments.specs.EnvironmentLaws.{entering-whole, entering-first}
 use Rattle.environments.specs.Sound.{Plain, variable, insert, constant, empty, pairs, ellipsis, plain-pair, plain-ellipsis}
 use Rattle.environments.specs.Entries.{entryAt, takingOf, environmentAt, CountsCopies, Stored}
@@ -25,7 +25,6 @@ use Rattle.environments.specs.declared.environment.Entry.{Entry}
 use Rattle.environments.specs.Lengths.{driving, after, Drives}
 use Rattle.environments.specs.Lengths as lengths
 use Rattle.environments.specs.TemplateCells.{pair-is, ellipsis-is}
-use Rattle.expansion.specs.Match.{share}
 use Rattle.environments.specs.declared.lengths.Driving.{Driving}
 use Rattle.environments.specs.declared.lengths.Driving.the-variants.{None, Length, Differ}
 use Rattle.environments.specs.Marks.{markWords, marked, among, Marks, Unmarked, Keeps, alsoIf, gathered, Gathers}
@@ -256,7 +255,7 @@ low-drivers j (ellipsis a b) = each-append (low-drivers (suc j) a) (low-drivers 
 entered-whole : (v u : Environment) (i k : ℕ) → u ≡ enter i v → counts 0 (v k) ≡ counts 0 (u k)
 unfolding counts enter
 entered-whole v u i k e =
-    ap₂ share (ap behind (sym (ap (λ (z : Environment). z k .first) e ∙ entering-first k i (v k .first) (v k)))) (sym (ap (λ (z : Environment). z k .whole) e ∙ entering-whole k i (v k .first) (v k)))
+    ap₂ shareOf (sym (ap (λ (z : Environment). z k .first) e ∙ entering-first k i (v k .first) (v k))) (sym (ap (λ (z : Environment). z k .whole) e ∙ entering-whole k i (v k .first) (v k)))
 
 entered-kept : (work : List ℕ) (w i k : ℕ) (kept env : List ℕ) → entryAt kept k ≡ entryAt env k → enter i (environmentAt work kept w) k ≡ enter i (environmentAt work env w) k
 unfolding enter environmentAt

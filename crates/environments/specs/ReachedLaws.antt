@@ -11,10 +11,9 @@ use Rattle.words.specs.Limits.{depthMost}
 use Rattle.words.specs.Lists.{allOf}
 use Rattle.words.specs.ListLaws.{either}
 use Rattle.expansion.specs.Rules.{Template, pairT, ellipsisT, drivers}
-use Rattle.expansion.specs.Match.{share}
 use Rattle.expansion.specs.Transcribe.{allBelow}
 use Rattle.rule_cells.specs.Cells.{templateAt}
-use Rattle.environments.specs.Environment.{Environment, behind, counts, within, enter, lengthsBy, countBy, agreeBy}
+use Rattle.environments.specs.Environment.{Environment, shareOf, counts, within, enter, lengthsBy, countBy, agreeBy}
 use Rattle.environments.specs.BelowLaws.{and-turned, below-true, below-cong, below-both, below-false, below-fewer}
 use Rattle.environments.specs.EnvironmentLaws.{entering-whole, entering-one, entering-first, entering-second}
 use Rattle.environments.specs.Sound.{Plain, variable, insert, constant, empty, pairs, ellipsis}
@@ -61,8 +60,8 @@ enter-alike i v u a b c =
 module _ (v u : Environment) (alike : Alike v u) where
   counts-alike : (k d : ℕ) → d < depthMost → counts d (v k) ≡ counts d (u k)
   unfolding counts
-  counts-alike k zero h = ap₂ share (ap behind (alike .first-same k)) (alike .whole-same k)
-  counts-alike k (suc zero) h = ap₂ share (ap behind (alike .second-same k)) (alike .one-same k)
+  counts-alike k zero h = ap₂ shareOf (alike .first-same k) (alike .whole-same k)
+  counts-alike k (suc zero) h = ap₂ shareOf (alike .second-same k) (alike .one-same k)
   counts-alike k (suc (suc d)) h = absurd (omega arith)
 
   drivers-alike : (j : ℕ) {t : Template} → Plain t → lengthsBy v j t ≡ lengthsBy u j t

@@ -2,19 +2,20 @@
 -- elements as follow the ellipsis, so that the ellipsis takes an element where the second node is a pair.
 use mathlib.Core.Path.{_≡_, refl, sym, ap, _∙_}
 use mathlib.Core.List.{List, []}
-use Prim.Native.Nat.{ℕ, zero, suc, _-_, _≤_}
+use Prim.Native.Nat.{ℕ, zero, suc, _+_, _-_, _≤_}
 use native.Mathlib.Omega.{arith}
 use lib.Dec.{eqb}
 use lib.ListN.{length}
-use borrow.Author.Tests.{eqb-true, eqb-false}
+use borrow.Author.Tests.{eqb-true, eqb-false, le-leb, lt-leb}
 use Rattle.words.specs.ListLaws.{either}
 use Rattle.recipe.specs.Tree.{Tree, empty, constant, name, pair, onPair, elements, tail, past}
 use Rattle.expansion.specs.Match.{share}
 use Rattle.arena.specs.Arena.{wordAt, referenceAt, treeAt}
 use Rattle.arena.specs.ArenaLaws.{referenceAt-most}
-use Rattle.arena.specs.Lists.{Means, Counts}
-use Rattle.arena.specs.ListLaws.{no-elements, a-pair, rest-some}
-use Rattle.environments.specs.Parts.{Shares, After}
+use Rattle.arena.specs.Lists.{Means, Counts, Counted, Skipped}
+use Rattle.arena.specs.ListLaws.{no-elements, a-pair, rest-some, count-begins, count-more, count-none, skip-begins, skip-more, skip-ends}
+use Rattle.environments.specs.Parts.{Shares, After, LooksAhead}
+use Rattle.environments.specs.declared.shares.Enough.the-variants.{Yes, No}
 
 -- ---- on trees
 
@@ -55,6 +56,40 @@ module _ (work : List ℕ) (p list n c : ℕ) (n-is : n ≡ wordAt work p 4) (co
   pub share-some : Shares work p list (c - n)
   unfolding share
   share-some w = rw (← n-is, ← counted .is w) refl
+
+-- ---- the node behind as many elements as follow
+
+-- what is left of the list's first n elements is the node's first k
+pub record Skipping (work : List ℕ) (list n node k : ℕ) : Type 0 where
+  pub skipped : Skipped work list n node k
+  pub counted : Counted work list node (n - k)
+  pub within : k ≤ n
+
+module _ (work : List ℕ) (p list n : ℕ) (n-is : n ≡ wordAt work p 4) where
+  pub skipping-begins : Skipping work list n list n
+  skipping-begins =
+      let e : n - n ≡ 0 = omega arith in
+      record { skipped = skip-begins work list n; counted = rw e (count-begins work list); within = omega arith }
+
+  module _ (node k : ℕ) (inv : Skipping work list n node k) where
+    pub skipping-ends : k ≡ 0 → LooksAhead work p list (Yes node)
+    skipping-ends e = (
+      λ w. le-leb (wordAt work p 4) (length (elements (treeAt work list w))) (omega (arith, e, n-is, inv .counted .is w)),
+      rw (← n-is) (skip-ends work list n node k e (inv .skipped)),
+    )
+
+    module _ (kind : ℕ) (kind-is : kind ≡ wordAt work node 3) (more : k ≡ 0 → ⊥) where
+      pub skipping-short : (kind ≡ 4 → ⊥) → LooksAhead work p list No
+      skipping-short other w = lt-leb (wordAt work p 4) (length (elements (treeAt work list w))) (omega (arith, more, n-is, inv .within, count-none work node kind kind-is list (n - k) other (inv .counted) .is w))
+
+      pub skipping-more : (r : ℕ) → kind ≡ 4 → r ≡ referenceAt work node 1 → Skipping work list n r (k - 1)
+      skipping-more r e h =
+          let c : n - (k - 1) ≡ n - k + 1 = omega (arith, more, inv .within) in
+          record {
+            skipped = skip-more work list n node k r more (rest-some work node kind kind-is e r h) (inv .skipped);
+            counted = rw c (count-more work node kind kind-is list (n - k) r e h (inv .counted));
+            within = omega (arith, inv .within);
+          }
 
 -- ---- two nodes
 

@@ -126,7 +126,11 @@ pub fn copies(work: &[u32], env: &[u32; WORDS], k: u32, d: u32) -> u32
         return 0;
     }
     let i = ENTRY * (k as usize) + next_level(d);
-    shares::share(work, table[i + 3], table[i])
+    let ellipsis = table[i + 3];
+    if ellipsis == 0 {
+        return 0;
+    }
+    shares::share(work, ellipsis, table[i])
 }
 
 // ---- copies of an element

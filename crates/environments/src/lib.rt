@@ -6,4 +6,4 @@ pub mod environment;
 pub mod lengths;
 mod marks;
 mod parts;
-mod shares;
+pub mod shares;

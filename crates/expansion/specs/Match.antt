@@ -1,10 +1,11 @@
--- Matching (document 01, 'Forms'): from the left, up to the first misfit; no rule matches is ground 16.
+-- Matching (document 01, 'Forms'; request L3 for elements after an ellipsis): from the left, up to the first misfit; no rule matches is
+-- ground 16.
 -- Two functions: whether a pattern fits a use, with the names looked up on the way; and what a variable takes from a use that fits.
 use mathlib.Core.Bool.{Bool, true, false, _||_, cond}
 use mathlib.Core.List.{List, [], _∷_, _++_}
 use mathlib.Core.Option.{Option, none, some}
 use Prim.Native.Nat.{ℕ, zero, suc, _-_}
-use lib.Dec.{eqb}
+use lib.Dec.{eqb, leb}
 use lib.ListN.{length}
 use Rattle.datum.specs.Constant.{matches}
 use Rattle.recipe.specs.Name.{Name}
@@ -32,9 +33,13 @@ andThen l false f = (l, false)
 unfoldable pub bothFit : Fit → Fit → Fit
 bothFit f g = andThen (f .0) (f .1) g
 
--- of a list's elements an ellipsis takes all but the n that follow it
+-- of a list's elements an ellipsis takes all but the n that follow it (request L3)
 unfoldable pub share : ℕ → Tree → ℕ
 share n t = length (elements t) - n
+
+-- where a list has fewer elements than follow the ellipsis, that is a misfit at once, and nothing is looked up (request L3)
+unfoldable pub enough : ℕ → Tree → Fit
+enough n t = ([], leb n (length (elements t)))
 
 -- c elements, and then the rest of the list
 unfoldable pub eachFits : (f g : Tree → Fit) → ℕ → Tree → Fit
@@ -49,7 +54,7 @@ fit wildcardP t = fitting
 fit (constantP a) t = onConstant (λ b. ([], matches a b)) misfit t
 fit emptyP t = onEmpty fitting misfit t
 fit (pairP p q) t = onPair (λ h u. bothFit (fit p h) (fit q u)) misfit t
-fit (ellipsisP p n q) t = eachFits (fit p) (fit q) (share n t) t
+fit (ellipsisP p n q) t = bothFit (enough n t) (eachFits (fit p) (fit q) (share n t) t)
 
 unfoldable pub orNext : Rule → List Name → Bool → List Name × Option Rule → List Name × Option Rule
 orNext r l true later = (l, some r)
@@ -75,8 +80,8 @@ holds k emptyP = false
 holds k (pairP p q) = holds k p || holds k q
 holds k (ellipsisP p n q) = holds k p || holds k q
 
--- what variable k takes at these indices, the outermost ellipsis first; where an index is missing, the list that it would count, with
--- what follows the ellipsis
+-- what variable k takes, with an index for each ellipsis over it, the outermost first; where one is missing, the whole list that it
+-- would count
 unfoldable pub part : Pattern → ℕ → List ℕ → Tree → Tree
 part (variableP j) k is t = t
 part (literalP x) k is t = empty
@@ -87,13 +92,13 @@ part (pairP p q) k is t = cond (holds k p) (part p k is (element 0 t)) (part q k
 part (ellipsisP p n q) k [] t = cond (holds k p) t (part q k [] (past (share n t) t))
 part (ellipsisP p n q) k (i ∷ is) t = cond (holds k p) (part p k is (element i t)) (part q k (i ∷ is) (past (share n t) t))
 
--- how many elements of that list follow the ellipsis; d indices are there, and one more is missing
-unfoldable pub following : Pattern → (k d : ℕ) → ℕ
-following (variableP j) k d = 0
-following (literalP x) k d = 0
-following wildcardP k d = 0
-following (constantP a) k d = 0
-following emptyP k d = 0
-following (pairP p q) k d = cond (holds k p) (following p k d) (following q k d)
-following (ellipsisP p n q) k zero = cond (holds k p) n (following q k zero)
-following (ellipsisP p n q) k (suc d) = cond (holds k p) (following p k d) (following q k (suc d))
+-- where one is missing: how many elements the ellipsis takes that it would count
+unfoldable pub takenCount : Pattern → ℕ → List ℕ → Tree → ℕ
+takenCount (variableP j) k is t = 0
+takenCount (literalP x) k is t = 0
+takenCount wildcardP k is t = 0
+takenCount (constantP a) k is t = 0
+takenCount emptyP k is t = 0
+takenCount (pairP p q) k is t = cond (holds k p) (takenCount p k is (element 0 t)) (takenCount q k is (tail t))
+takenCount (ellipsisP p n q) k [] t = cond (holds k p) (share n t) (takenCount q k [] (past (share n t) t))
+takenCount (ellipsisP p n q) k (i ∷ is) t = cond (holds k p) (takenCount p k is (element i t)) (takenCount q k (i ∷ is) (past (share n t) t))

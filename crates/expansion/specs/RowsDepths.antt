@@ -1,4 +1,4 @@
--- Known answers to request L2, D1 to D14: variables under more ellipses of the template than of the pattern.
+-- Known answers to request L2, D1 to D15: variables under more ellipses of the template than of the pattern.
 use mathlib.Core.Path.{_≡_, refl}
 use mathlib.Core.List.{List, [], _∷_, map}
 use Rattle.expansion.specs.Row.{Row, gives, refuses, withFuel, filed}
@@ -41,6 +41,9 @@ depths =
     -- D14: the same where no copy is made round them
     gives "(list) (let-syntax ((m (syntax-rules () ((_ ((a ...) ...) ((b ...) ...) c ...) (list (list (list (list a b) ...) ... c) ...))))) (m ((1) (2 3)) ((4) (5))))"
     1 3 (8 ∷ 0 ∷ 1 ∷ 0 ∷ []) ∷
+    -- D15: a list repeated whole inside copies that another list drives, these inside copies that a third drives
+    gives "(list) (let-syntax ((m (syntax-rules () ((_ (y ...) (b ...) c ...) (list (list c (list b y ...) ...) ...))))) (m (1 2) (3) 4))"
+    1 19 (8 ∷ 1 ∷ 1 ∷ 0 ∷ 8 ∷ 2 ∷ 1 ∷ 0 ∷ 2 ∷ 4 ∷ 8 ∷ 3 ∷ 1 ∷ 0 ∷ 2 ∷ 3 ∷ 2 ∷ 1 ∷ 2 ∷ 2 ∷ []) ∷
     []
 
 pub depths-hold : map filed depths ≡ depths

@@ -1,4 +1,4 @@
--- Known answers to request L3, E63 to E109: elements after an ellipsis, an ellipsis of the author's choice, and the escape.
+-- Known answers to request L3, E63 to E117: elements after an ellipsis, an ellipsis of the author's choice, and the escape.
 use mathlib.Core.Path.{_≡_, refl}
 use mathlib.Core.List.{List, [], _∷_, map}
 use Rattle.expansion.specs.Row.{Row, gives, refuses, filed}
@@ -130,3 +130,28 @@ E97-to-E109 =
 pub E97-to-E109-hold : map filed E97-to-E109 ≡ E97-to-E109
 unfolding filed E97-to-E109
 E97-to-E109-hold = refl
+
+unfoldable pub E110-to-E117 : List Row
+unfolding gives refuses
+E110-to-E117 =
+    -- E110: an escape has not three elements either, though none of them be followed by the ellipsis
+    refuses "() (let-syntax ((m (syntax-rules () ((_ a) (... a a))))) (m 1))" 15 0 0 ∷
+    -- E111: beside a chosen one _ is no variable, and may stand twice
+    gives "() (let-syntax ((m (syntax-rules e () ((_ _ _ e) 1)))) (m 2 3))" 1 1 (2 ∷ 1 ∷ []) ∷
+    -- E112: nor a literal
+    refuses "() (let-syntax ((m (syntax-rules e (_) ((_) 1)))) (m))" 15 0 0 ∷
+    -- E113: eight literals behind a chosen one
+    gives "() (let-syntax ((m (syntax-rules e (a b c d f g h i) ((_) 1)))) (m))" 1 1 (2 ∷ 1 ∷ []) ∷
+    -- E114: and nine
+    refuses "() (let-syntax ((m (syntax-rules e (a b c d f g h i j) ((_) 1)))) (m))" 15 0 0 ∷
+    -- E115: sixteen rules behind a chosen one
+    gives "() (let-syntax ((m (syntax-rules e () ((_) 1) ((_) 1) ((_) 1) ((_) 1) ((_) 1) ((_) 1) ((_) 1) ((_) 1) ((_) 1) ((_) 1) ((_) 1) ((_) 1) ((_) 1) ((_) 1) ((_) 1) ((_) 1)))) (m))" 1 1 (2 ∷ 1 ∷ []) ∷
+    -- E116: and seventeen
+    refuses "() (let-syntax ((m (syntax-rules e () ((_) 1) ((_) 1) ((_) 1) ((_) 1) ((_) 1) ((_) 1) ((_) 1) ((_) 1) ((_) 1) ((_) 1) ((_) 1) ((_) 1) ((_) 1) ((_) 1) ((_) 1) ((_) 1) ((_) 1)))) (m))" 15 0 0 ∷
+    -- E117: a literal of the chosen one's number is a literal where its marks differ
+    gives "() (let-syntax ((w (syntax-rules () ((_ x) (let-syntax ((n (syntax-rules e (x) ((_ x) 1) ((_ y e) 2)))) (n e)))))) (w e))" 2 48 (2 ∷ 1 ∷ []) ∷
+    []
+
+pub E110-to-E117-hold : map filed E110-to-E117 ≡ E110-to-E117
+unfolding filed E110-to-E117
+E110-to-E117-hold = refl

@@ -63,15 +63,13 @@ pub literals-show : eventsOf "() (let-syntax ((m (syntax-rules (else) ((_ 1 else
 unfolding eventsOf placed used produced
 literals-show = refl
 
--- where elements are too few the ellipsis takes none, and what follows it is compared until they run out
+-- where elements are too few for what follows an ellipsis, nothing is compared (request L3)
 pub too-few-show : eventsOf "() (let-syntax ((m (syntax-rules (else) ((_ a ... else else) 1)))) (m else))" ≡
     looked (placed 3 4 none) ∷
     reached (placed 3 4 none) ∷
     binds (macro 0) (placed 8 8 none) ∷
     looked (placed 5 11 none) ∷
     looked (placed 8 37 (some (macro 0))) ∷
-    looked (placed 9 25 none) ∷
-    looked (used 9 39 (1 ∷ [])) ∷
     []
-unfolding eventsOf placed used
+unfolding eventsOf placed
 too-few-show = refl

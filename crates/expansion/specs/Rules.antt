@@ -1,4 +1,5 @@
--- Rules (document 01, 'Forms'): read once, when their form is reached, into patterns and templates; none is ground 15.
+-- Rules (document 01, 'Forms'; request L2 for the depth of variables; request L3 for elements after an ellipsis, an ellipsis of the
+-- author's choice and the escape): read once, when their form is reached, into patterns and templates; none is ground 15.
 -- What matching and transcribing need is settled here, so that they test nothing more.
 use mathlib.Core.Bool.{Bool, true, false, not, _&&_, _||_, cond}
 use mathlib.Core.List.{List, [], _∷_, _++_, map}
@@ -14,8 +15,8 @@ use Rattle.recipe.specs.Name.{Name, same, distinct, isEllipsis, isWildcard, isO
 use Rattle.recipe.specs.Tree.{Tree, empty, constant, name, pair, onName, onPair, names, isName, isList, isListOf, elements, element, tail}
 use Rattle.expansion.specs.Lookup.{isSyntaxRules}
 
--- variables are numbered from 0 in the pattern's order; ellipsisP is an element followed by the ellipsis, then n elements more and
--- the pattern of that rest of its list
+-- variables are numbered from 0 in the pattern's order; ellipsisP is an element followed by the ellipsis, then n elements more (request
+-- L3) and the pattern of that rest of its list
 pub data Pattern : Type 0 where
   variableP : (k : ℕ) → Pattern
   literalP : Name → Pattern
@@ -41,7 +42,7 @@ pub record Rule : Type 0 where
 -- ---- where the parts of rules stand
 
 -- of a rules form, (syntax-rules (literal ...) (pattern template) ...), with or without the ellipsis name of its author's choice before
--- the literals: how many names that is, the form after syntax-rules and it, the list of its literals, the list of its rules, and which
+-- the literals (request L3): how many names that is, the form after syntax-rules and it, the list of its literals, the list of its rules, and which
 -- of the form's elements rule j is
 unfoldable pub chosenCount : Tree → ℕ
 chosenCount form = cond (isName (element 1 form)) 1 0
@@ -58,7 +59,7 @@ ruleList form = tail (afterChosen form)
 abbrev pub rulePlace : Tree → ℕ → ℕ
 rulePlace form j = suc (suc (chosenCount form + j))
 
--- its ellipsis: the chosen name, known by sameness, or `...`, known by number
+-- its ellipsis: the chosen name, known by sameness (request L3), or `...`, known by number
 unfoldable pub ellipsisOf : Tree → Name → Bool
 ellipsisOf form = onName same isEllipsis (element 1 form)
 
@@ -92,7 +93,7 @@ unfoldable pub isDriven : Option Template → Bool
 isDriven none = false
 isDriven (some e) = ltb 0 (length (drivers 0 e))
 
--- a variable under d ellipses of the pattern is under at least d of the template, so under none it may be anywhere
+-- a variable under d ellipses of the pattern is under at least d of the template (request L2), so under none it may be anywhere
 unfoldable pub depthFits : (d here : ℕ) → Bool
 depthFits d here = leb d here
 
@@ -119,7 +120,7 @@ listTemplate dots first later = cond dots (onlyIf (isDriven first) (mapBoth elli
 pub data Place : Type 0 where
   asElement asRest asTaken asEscaped : Place
 
--- of an escaped template: no name is the ellipsis
+-- of an escaped template: no name is the ellipsis (request L3)
 unfoldable pub noEllipsis : Name → Bool
 noEllipsis x = false
 
@@ -168,7 +169,7 @@ module _ (dots : Name → Bool) where
         (mapBoth pairP first later))
 
 -- a part of a template under d ellipses. A list that begins with the ellipsis is an escape, (... template), or none: in its template no
--- name is the ellipsis
+-- name is the ellipsis (request L3)
 unfoldable pub templateOf : (dots : Name → Bool) → List (Name × ℕ) → ℕ → Place → Tree → Option Template
 templateOf dots vs d place empty = some emptyT
 templateOf dots vs d place (constant a) = some (constantT a)
@@ -197,8 +198,8 @@ module _ (dots : Name → Bool) where
       onlyIf (isListOf 2 r && (onName (λ x. not (dots x)) false (element 0 (rulePattern r)) && areVariables vs))
       (mapBoth (λ q t. record { pattern = q; template = t }) (patternOf dots literals 0 false (matchedPart r)) (templateOf dots vs 0 asElement (ruleTemplate r)))
 
--- (syntax-rules (literal ...) (pattern template) ...), or with an ellipsis name of the author's choice before the literals: any name but
--- `...` and `_`, and the same as no literal
+-- (syntax-rules (literal ...) (pattern template) ...), or with an ellipsis name of the author's choice before the literals (request L3):
+-- any name but `...` and `_`, and the same as no literal
 unfoldable pub isRulesForm : Tree → Bool
 isRulesForm r =
     onName isSyntaxRules false (element 0 r) && (onName isOrdinary true (element 1 r) && (isList (literalList r)

@@ -1,4 +1,5 @@
--- Transcription (document 01, 'Forms'): the result of a step from a rule and the use that it matches; ground 17.
+-- Transcription (document 01, 'Forms'; request L2 for variables under more ellipses than in the pattern): the result of a step from a
+-- rule and the use that it matches; ground 17.
 use mathlib.Core.Bool.{Bool, true, _&&_}
 use mathlib.Core.List.{List, _∷_, map, reverse}
 use Prim.Native.Nat.{ℕ, zero, suc}
@@ -7,7 +8,7 @@ use lib.ListN.{getD, take}
 use Rattle.words.specs.Lists.{allOf}
 use Rattle.recipe.specs.Tree.{Tree, empty, constant, name, pair}
 use Rattle.expansion.specs.Rules.{Pattern, Template, variableT, insertT, constantT, emptyT, pairT, ellipsisT, drivers}
-use Rattle.expansion.specs.Match.{share, part, following}
+use Rattle.expansion.specs.Match.{part, takenCount}
 
 -- f k, f (k + 1), .., n of them, in front of a list
 unfoldable pub copies : (ℕ → Tree) → ℕ → ℕ → Tree → Tree
@@ -18,15 +19,15 @@ unfoldable pub allBelow : (ℕ → Bool) → ℕ → Bool
 allBelow f zero = true
 allBelow f (suc n) = allBelow f n && f n
 
--- indices are those of the copies round a place, the innermost first
+-- indices are those of the copies round a place, the innermost first; a variable's own ellipses are the innermost (request L2)
 module _ (p : Pattern) (used : Tree) where
   -- what variable k takes under the innermost d indices
   unfoldable pub taken : List ℕ → ℕ → ℕ → Tree
   taken is k d = part p k (reverse (take d is)) used
 
-  -- the lengths of the lists that drive the copies of an element, as far as the pattern's ellipses take them
+  -- the lengths of the lists that drive the copies of an element
   unfoldable pub lengths : List ℕ → Template → List ℕ
-  lengths is e = map (λ v. share (following p (v .0) (v .1)) (taken is (v .0) (v .1))) (drivers 0 e)
+  lengths is e = map (λ v. takenCount p (v .0) (reverse (take (v .1) is)) used) (drivers 0 e)
 
   unfoldable pub copyCount : List ℕ → Template → ℕ
   copyCount is e = getD (lengths is e) 0 0

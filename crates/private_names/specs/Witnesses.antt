@@ -223,6 +223,11 @@ holding =
       trial "() (let-syntax ((m (syntax-rules () ((_ a) (... (lambda (t) (t a))))))) (m 1))" 4 0 0 10,
       renames 1 1 13 (7 ∷ 0 ∷ 1 ∷ 10 ∷ 8 ∷ 1 ∷ 0 ∷ 0 ∷ 2 ∷ 1 ∷ []) (7 ∷ 0 ∷ 1 ∷ 1000 ∷ 8 ∷ 1 ∷ 0 ∷ 0 ∷ 2 ∷ 1 ∷ []),
     ) ∷
+    -- a use with too few elements for what follows an ellipsis: nothing is looked up before the second rule
+    (
+      trial "() (let-syntax ((n (syntax-rules (else) ((_ a ... else b) 1) ((_ x) (lambda (x) x))))) (let-syntax ((m (syntax-rules () ((_) (n t))))) (m)))" 55 0 0 14,
+      renames 1 2 14 (7 ∷ 0 ∷ 1 ∷ 14 ∷ 0 ∷ 0 ∷ []) (7 ∷ 0 ∷ 1 ∷ 1000 ∷ 0 ∷ 0 ∷ []),
+    ) ∷
     -- a macro without end that the template makes
     (
       trial "() (let-syntax ((m (syntax-rules () ((_) (letrec-syntax ((t (syntax-rules () ((_) (t))))) (t)))))) (m))" 4 0 0 9,

@@ -52,7 +52,7 @@ isEllipsis x = eqb (x .number) 6
 unfoldable pub isWildcard : Name → Bool
 isWildcard x = eqb (x .number) 7
 
--- a name that may be bound or listed as a literal: other than `...` and `_`
+-- a name that forms may bind, and that an author may choose for the ellipsis (request L3): other than `...` and `_`
 unfoldable pub isOrdinary : Name → Bool
 isOrdinary x = not (isEllipsis x) && not (isWildcard x)
 

@@ -3,14 +3,14 @@ use mathlib.Core.Path.{_≡_, refl, ap, ap₂, _∙_, subst}
 use mathlib.Core.Bool.{Bool, true, false, _&&_, _||_, true≢false, false≢true}
 use mathlib.Core.List.{List, [], _∷_, _++_, map, reverse}
 use Prim.Native.Nat.{ℕ, zero, suc, _-_}
-use lib.Dec.{eqb}
+use lib.Dec.{eqb, leb}
 use lib.ListN.{getD, take}
 use Rattle.words.specs.Lists.{allOf}
 use Rattle.recipe.specs.Name.{Name}
 use Rattle.recipe.specs.Tree.{Tree, onEmpty, onConstant, onName, onPair, past}
 use Rattle.expansion.specs.Lookup.{agree}
 use Rattle.expansion.specs.Rules.{Pattern, Template, drivers}
-use Rattle.expansion.specs.Match.{Fit, fitting, misfit, andThen, bothFit, share, eachFits, fit, holds, part, following}
+use Rattle.expansion.specs.Match.{Fit, fitting, misfit, andThen, bothFit, share, enough, eachFits, fit, holds, part, takenCount}
 use Rattle.expansion.specs.Transcribe.{copies, allBelow, taken, lengths, copyCount, equalLengths, transcribe}
 use Rattle.simulation.specs.Relations.{cond-rel, length-rel}
 use Rattle.simulation.specs.Shapes.{TreeOf, empties, constants, names₂, pairs, PatternOf, variablePs, literalPs, wildcardPs, constantPs, emptyPs, pairPs, ellipsisPs, TemplateOf, variableTs, insertTs, constantTs, emptyTs, pairTs, ellipsisTs, tree-map, elements-rel, element-rel, tail-rel, past-rel}
@@ -40,6 +40,11 @@ module _ (L U : Name → Name → Type 0) (Looks : List Name → Type 0)
       go true false k fine = absurd (true≢false (k (looks-left (f .0) (g .0) fine)))
       go false true k fine = absurd (false≢true (k fine))
       go false false k fine = refl
+
+  -- lists of one shape have as many elements
+  enough-rel : (n : ℕ) {t u : Tree} → TreeOf U t u → FitRel (enough n t) (enough n u)
+  unfolding enough
+  enough-rel n r = λ _. ap (leb n) (length-rel (elements-rel r))
 
   eachFits-rel : (f f′ g g′ : Tree → Fit) → ((t u : Tree) → TreeOf U t u → FitRel (f t) (f′ u)) → ((t u : Tree) → TreeOf U t u → FitRel (g t) (g′ u))
       → (c : ℕ) (t u : Tree) → TreeOf U t u → FitRel (eachFits f g c t) (eachFits f′ g′ c u)
@@ -71,8 +76,9 @@ module _ (L U : Name → Name → Type 0) (Looks : List Name → Type 0)
   fit-rel (pairPs p q) _ _ (names₂ r) = λ _. refl
   fit-rel (pairPs p q) _ _ (pairs a b) = bothFit-rel _ _ _ _ (fit-rel p _ _ a) (fit-rel q _ _ b)
   fit-rel (ellipsisPs {p = p} {p′ = p′} {n = n} {q = q} {q′ = q′} a b) t u r =
-      subst (λ c. FitRel (eachFits (fit p) (fit q) (share n t) t) (eachFits (fit p′) (fit q′) c u)) (share-rel n r)
-      (eachFits-rel _ _ _ _ (fit-rel a) (fit-rel b) (share n t) t u r)
+      bothFit-rel _ _ _ _ (enough-rel n r)
+      (subst (λ c. FitRel (eachFits (fit p) (fit q) (share n t) t) (eachFits (fit p′) (fit q′) c u)) (share-rel n r)
+      (eachFits-rel _ _ _ _ (fit-rel a) (fit-rel b) (share n t) t u r))
 
 -- ---- what a variable takes
 
@@ -101,16 +107,16 @@ part-rel {L} {U} (pairPs p q) k is r = cond-rel (TreeOf U) _ _ _ _ _ _ (holds-re
 part-rel {L} {U} (ellipsisPs {n = n} p q) k [] {t} {u} r = cond-rel (TreeOf U) _ _ _ _ _ _ (holds-rel k p) r (part-rel q k [] (after-rel n r))
 part-rel {L} {U} (ellipsisPs {n = n} p q) k (i ∷ is) r = cond-rel (TreeOf U) _ _ _ _ _ _ (holds-rel k p) (part-rel p k is (element-rel i r)) (part-rel q k (i ∷ is) (after-rel n r))
 
-following-rel : {L : Name → Name → Type 0} {p q : Pattern} → PatternOf L p q → (k d : ℕ) → following p k d ≡ following q k d
-unfolding following
-following-rel variablePs k d = refl
-following-rel (literalPs l) k d = refl
-following-rel wildcardPs k d = refl
-following-rel constantPs k d = refl
-following-rel emptyPs k d = refl
-following-rel (pairPs p q) k d = cond-rel _≡_ _ _ _ _ _ _ (holds-rel k p) (following-rel p k d) (following-rel q k d)
-following-rel (ellipsisPs p q) k zero = cond-rel _≡_ _ _ _ _ _ _ (holds-rel k p) refl (following-rel q k zero)
-following-rel (ellipsisPs p q) k (suc d) = cond-rel _≡_ _ _ _ _ _ _ (holds-rel k p) (following-rel p k d) (following-rel q k (suc d))
+takenCount-rel : {L U : Name → Name → Type 0} {p q : Pattern} → PatternOf L p q → (k : ℕ) (is : List ℕ) {t u : Tree} → TreeOf U t u → takenCount p k is t ≡ takenCount q k is u
+unfolding takenCount
+takenCount-rel variablePs k is r = refl
+takenCount-rel (literalPs l) k is r = refl
+takenCount-rel wildcardPs k is r = refl
+takenCount-rel constantPs k is r = refl
+takenCount-rel emptyPs k is r = refl
+takenCount-rel (pairPs p q) k is r = cond-rel _≡_ _ _ _ _ _ _ (holds-rel k p) (takenCount-rel p k is (element-rel 0 r)) (takenCount-rel q k is (tail-rel r))
+takenCount-rel (ellipsisPs {n = n} p q) k [] r = cond-rel _≡_ _ _ _ _ _ _ (holds-rel k p) (share-rel n r) (takenCount-rel q k [] (after-rel n r))
+takenCount-rel (ellipsisPs {n = n} p q) k (i ∷ is) r = cond-rel _≡_ _ _ _ _ _ _ (holds-rel k p) (takenCount-rel p k is (element-rel i r)) (takenCount-rel q k (i ∷ is) (after-rel n r))
 
 -- ---- what a template gives
 
@@ -131,11 +137,11 @@ module _ {L U : Name → Name → Type 0} {p q : Pattern} (pq : PatternOf L p q)
 
   lengths-rel : {T : Name → Name → Type 0} (is : List ℕ) {e f : Template} → TemplateOf T e f → lengths p t is e ≡ lengths q u is f
   unfolding lengths
-  lengths-rel {T} is {e} {f} r = ap (map (λ v. share (following p (v .0) (v .1)) (taken p t is (v .0) (v .1)))) (drivers-rel 0 r) ∙ go (drivers 0 f)
+  lengths-rel {T} is {e} {f} r = ap (map (λ v. takenCount p (v .0) (reverse (take (v .1) is)) t)) (drivers-rel 0 r) ∙ go (drivers 0 f)
     where
-      go : (l : List (ℕ × ℕ)) → map (λ v. share (following p (v .0) (v .1)) (taken p t is (v .0) (v .1))) l ≡ map (λ v. share (following q (v .0) (v .1)) (taken q u is (v .0) (v .1))) l
+      go : (l : List (ℕ × ℕ)) → map (λ v. takenCount p (v .0) (reverse (take (v .1) is)) t) l ≡ map (λ v. takenCount q (v .0) (reverse (take (v .1) is)) u) l
       go [] = refl
-      go (v ∷ l) = ap₂ _∷_ (ap (λ n. share n (taken p t is (v .0) (v .1))) (following-rel pq (v .0) (v .1)) ∙ share-rel (following q (v .0) (v .1)) (taken-rel is (v .0) (v .1))) (go l)
+      go (v ∷ l) = ap₂ _∷_ (takenCount-rel pq (v .0) (reverse (take (v .1) is)) tu) (go l)
 
   copyCount-rel : {T : Name → Name → Type 0} (is : List ℕ) {e f : Template} → TemplateOf T e f → copyCount p t is e ≡ copyCount q u is f
   unfolding copyCount

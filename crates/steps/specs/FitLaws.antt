@@ -6,14 +6,15 @@ use mathlib.Core.Logic.{_⊎_, inl, inr}
 use mathlib.Core.Option.{Option, some}
 use Prim.Native.Nat.{ℕ, suc, _≤_}
 use native.Mathlib.Omega.{arith}
-use lib.Dec.{eqb}
+use lib.Dec.{eqb, leb}
+use lib.ListN.{length}
 use borrow.Author.Tests.{eq-eqb, ne-eqb}
 use Rattle.datum.specs.Constant.{matches}
 use Rattle.datum.specs.ConstantLaws.{made}
 use Rattle.recipe.specs.Name.{Name}
-use Rattle.recipe.specs.Tree.{Tree, onEmpty, onConstant, onName, onPair, tail}
+use Rattle.recipe.specs.Tree.{Tree, onEmpty, onConstant, onName, onPair, elements, tail}
 use Rattle.expansion.specs.Rules.{Pattern, Rule, literalP, constantP, emptyP, pairP}
-use Rattle.expansion.specs.Match.{Fit, fitting, misfit, andThen, bothFit, share, eachFits, fit, orNext, firstFit}
+use Rattle.expansion.specs.Match.{Fit, fitting, misfit, andThen, bothFit, share, enough, eachFits, fit, orNext, firstFit}
 use Rattle.arena.specs.Arena.{wordAt, referenceAt, nameAt, constantAt, treeAt}
 use Rattle.arena.specs.ArenaLaws.{bindingKey-of, referenceAt-most}
 use Rattle.arena.specs.NodeLaws.{treeAt-empty, treeAt-name, treeAt-pair, treeAt-constant}
@@ -21,6 +22,8 @@ use Rattle.resolution.specs.Names.{Agrees}
 use Rattle.arena.specs.ListLaws.{tree-cases, no-pair, rest-some}
 use Rattle.rule_cells.specs.Cells.{constantBefore, literalAt, patternAt, ruleAt, rulesAt}
 use Rattle.rule_cells.specs.CellLaws.{patternAt-variable, patternAt-literal, patternAt-wildcard, patternAt-constant, patternAt-pair, patternAt-ellipsis, patternAt-empty, rulesAt-none, rulesAt-more}
+use Rattle.environments.specs.declared.shares.Enough.the-variants.{Yes, No}
+use Rattle.environments.specs.Parts.{LooksAhead}
 use Rattle.environments.specs.ShareLaws.{AheadBy, takes-none, takes-one, node-pair, ahead-more}
 use Rattle.steps.specs.Fits.{Fits, LiteralFits, ConstantFits, ruleOr, FirstFit}
 
@@ -161,59 +164,69 @@ module _ (work : List ℕ) (p u w : ℕ) where
 
 -- ---- the elements that an ellipsis takes, and then the rest
 
--- the ellipsis fits the list where it fits the node; the second node is ahead by as many elements as follow
+module _ (work : List ℕ) (p : ℕ) where
+  abbrev taken : Pattern
+  taken = patternAt work (referenceAt work p 3)
+
+  abbrev following : Pattern
+  following = patternAt work (referenceAt work p 2)
+
+  -- whether the elements that the ellipsis takes of a list fit, and then the rest
+  abbrev from : Tree → Bool
+  from t = eachFits (fit taken) (fit following) (share (wordAt work p 4) t) t .1
+
+-- the ellipsis fits the list where the node's elements fit; the second node is ahead by as many elements as follow
 pub record Matched (work : List ℕ) (p list w node ahead : ℕ) : Type 0 where
-  pub is : Same work w p list p node
+  pub is : fit (patternAt work p) (treeAt work list w) .1 ≡ from work p (treeAt work node w)
   pub is-ahead : AheadBy work (wordAt work p 4) node ahead
 
 module _ (work : List ℕ) (p list w : ℕ) where
-  pub each-begins : (ahead : ℕ) → AheadBy work (wordAt work p 4) list ahead → Matched work p list w list ahead
-  each-begins ahead a = record { is = refl; is-ahead = a }
-
   module _ (ellipsis : wordAt work p 1 ≡ 7) where
-    abbrev taken : Pattern
-    taken = patternAt work (referenceAt work p 3)
+    counted-first : fit (patternAt work p) (treeAt work list w) .1 ≡ (leb (wordAt work p 4) (length (elements (treeAt work list w))) && from work p (treeAt work list w))
+    unfolding fit enough
+    counted-first = rw (patternAt-ellipsis work p ellipsis) (bothFit-fits _ _)
 
-    abbrev following : Pattern
-    following = patternAt work (referenceAt work p 2)
+    pub each-short : LooksAhead work p list No → Fits work p list w false
+    each-short short = sym (counted-first ∙ rw (short w) refl)
 
-    -- an ellipsis at a node, by what it takes there
-    at-node : (t : Tree) (c : ℕ) → share (wordAt work p 4) t ≡ c → fit (patternAt work p) t .1 ≡ eachFits (fit taken) (fit following) c t .1
-    unfolding fit
-    at-node t c e = rw (patternAt-ellipsis work p ellipsis, e) refl
+    pub each-begins : (ahead : ℕ) → LooksAhead work p list (Yes ahead) → Matched work p list w list ahead
+    each-begins ahead enough = record { is = counted-first ∙ rw (enough .0 w) refl; is-ahead = enough .1 .is }
 
-    module _ (node ahead kind : ℕ) (kind-is : kind ≡ wordAt work ahead 3) (inv : Matched work p list w node ahead) where
-      pub each-ends : (rest : ℕ) (r : Bool) → (kind ≡ 4 → ⊥) → rest ≡ referenceAt work p 2 → Fits work rest node w r → Fits work p list w r
-      unfolding eachFits
-      each-ends rest r other f c =
-          c ∙ sym (inv .is ∙ at-node (treeAt work node w) 0 (takes-none work (wordAt work p 4) node ahead kind kind-is (inv .is-ahead) other w) ∙ rw (← f) refl)
+  module _ (node ahead kind : ℕ) (kind-is : kind ≡ wordAt work ahead 3) (inv : Matched work p list w node ahead) where
+    pub each-ends : (rest : ℕ) (r : Bool) → (kind ≡ 4 → ⊥) → rest ≡ referenceAt work p 2 → Fits work rest node w r → Fits work p list w r
+    unfolding eachFits
+    each-ends rest r other f c =
+        c
+        ∙ sym (inv .is
+        ∙ ap (λ (n : ℕ). eachFits (fit (taken work p)) (fit (following work p)) n (treeAt work node w) .1) (takes-none work (wordAt work p 4) node ahead kind kind-is (inv .is-ahead) other w)
+        ∙ ap (λ (q : ℕ). fit (patternAt work q) (treeAt work node w) .1) (sym f))
 
-      module _ (element h : ℕ) (b : Bool) (one : kind ≡ 4) (element-is : element ≡ referenceAt work p 3) (h-is : h ≡ referenceAt work node 2) (head : Fits work element h w b) (next : ℕ) (next-is : next ≡ referenceAt work node 1) where
-        a-node : wordAt work node 3 ≡ 4
-        a-node = node-pair work (wordAt work p 4) node ahead kind kind-is (inv .is-ahead) one
+    module _ (element h : ℕ) (b : Bool) (one : kind ≡ 4) (element-is : element ≡ referenceAt work p 3) (h-is : h ≡ referenceAt work node 2) (head : Fits work element h w b) (next : ℕ) (next-is : next ≡ referenceAt work node 1) where
+      a-node : wordAt work node 3 ≡ 4
+      a-node = node-pair work (wordAt work p 4) node ahead kind kind-is (inv .is-ahead) one
 
-        head-is : fit taken (treeAt work (referenceAt work node 2) w) .1 ≡ b
-        head-is = rw (← element-is, ← h-is) (sym head)
+      head-is : fit (taken work p) (treeAt work (referenceAt work node 2) w) .1 ≡ b
+      head-is = rw (← element-is, ← h-is) (sym head)
 
-        tail-is : eachFits (fit taken) (fit following) (share (wordAt work p 4) (tail (treeAt work node w))) (treeAt work (referenceAt work node 1) w) .1 ≡ fit (patternAt work p) (treeAt work next w) .1
-        tail-is = rw (← next-is) (sym (at-node (treeAt work next w) _ (ap (share (wordAt work p 4)) (rest-some work node (wordAt work node 3) refl a-node next next-is .is w))))
+      tail-is : eachFits (fit (taken work p)) (fit (following work p)) (share (wordAt work p 4) (tail (treeAt work node w))) (treeAt work (referenceAt work node 1) w) .1 ≡ from work p (treeAt work next w)
+      tail-is = rw (← next-is, ← rest-some work node (wordAt work node 3) refl a-node next next-is .is w) refl
 
-        then-is : fit (patternAt work p) (treeAt work list w) .1 ≡ (b && fit (patternAt work p) (treeAt work next w) .1)
-        then-is =
-            inv .is
-            ∙ at-node (treeAt work node w) _ (takes-one work (wordAt work p 4) node ahead kind kind-is (inv .is-ahead) one w)
-            ∙ each-pair work node w (wordAt work node 3) refl taken following _ a-node
-            ∙ ap₂ _&&_ head-is tail-is
+      then-is : fit (patternAt work p) (treeAt work list w) .1 ≡ (b && from work p (treeAt work next w))
+      then-is =
+          inv .is
+          ∙ ap (λ (c : ℕ). eachFits (fit (taken work p)) (fit (following work p)) c (treeAt work node w) .1) (takes-one work (wordAt work p 4) node ahead kind kind-is (inv .is-ahead) one w)
+          ∙ each-pair work node w (wordAt work node 3) refl (taken work p) (following work p) _ a-node
+          ∙ ap₂ _&&_ head-is tail-is
 
-        pub each-no : b ≡ false → Fits work p list w false
-        each-no f = sym (then-is ∙ rw f refl)
+      pub each-no : b ≡ false → Fits work p list w false
+      each-no f = sym (then-is ∙ rw f refl)
 
-        pub each-more : (further : ℕ) → b ≡ true → further ≡ referenceAt work ahead 1 → Matched work p list w next further
-        each-more further f further-is =
-            record {
-              is = then-is ∙ rw f refl;
-              is-ahead = ahead-more work (wordAt work p 4) node ahead kind kind-is (inv .is-ahead) one next further next-is further-is;
-            }
+      pub each-more : (further : ℕ) → b ≡ true → further ≡ referenceAt work ahead 1 → Matched work p list w next further
+      each-more further f further-is =
+          record {
+            is = then-is ∙ rw f refl;
+            is-ahead = ahead-more work (wordAt work p 4) node ahead kind kind-is (inv .is-ahead) one next further next-is further-is;
+          }
 
 -- ---- rules
 

@@ -4,8 +4,9 @@ ghost use mathlib.Core.Path.{_≡_};
 ghost use Rattle.arena.specs.Arena.{wordAt};
 ghost use Rattle.steps.specs.Fits.{Fits, LiteralFits, ConstantFits, FirstFit};
 use arena::cells;
-use arena::lists;
 use datum::constants;
+use environments::shares;
+use environments::shares::Enough;
 use resolution::names;
 
 // A literal fits a name whose lookup finds what its own has found.
@@ -100,15 +101,17 @@ fn fits(work: &[u32], p: u32, u: u32, w: u32) -> bool
 }
 
 // Whether an ellipsis fits a list: the elements that it takes, all but as many as follow it, then the rest. A second node is ahead of
-// the first by as many.
+// the first by as many; a list that has fewer does not fit.
 fn each_fits(work: &[u32], p: u32, list: u32, w: u32) -> bool
     requires { ⌜ wordAt (now work) p 1 ≡ 7 ⌝ }
     ensures { λ r. ⌜ Fits (now (work .entry)) p list w r ⌝ }
 {
+    let Enough::Yes(behind) = shares::look_ahead(work, p, list) else {
+        return false;
+    };
     let element = cells::reference(work, p, rule_cells::cells::HEAD);
-    let following = cells::word(work, p, rule_cells::cells::FOLLOWING);
     let mut node = list;
-    let mut ahead = lists::skip(work, list, following);
+    let mut ahead = behind;
     while cells::word(work, ahead, cells::KIND) == cells::PAIR {
         let first = cells::reference(work, node, cells::HEAD);
         if !part_fits(work, element, first, w) {

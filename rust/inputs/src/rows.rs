@@ -50,16 +50,28 @@ fn rows_of(specs: &str) -> Vec<Row> {
     rows
 }
 
-/// The rows of the definition of expansion, in its files of that name.
+/// The files of a crate's specs that have rows, `Rows.antt` and others whose names begin so, and what stands in each.
+fn row_files(of: &str) -> Vec<(String, String)> {
+    let folder = top().join("crates").join(of).join("specs");
+    let mut files: Vec<String> = folder.read_dir().unwrap().map(|entry| entry.unwrap().file_name().into_string().unwrap()).collect();
+    files.retain(|file| file.starts_with("Rows") && file.ends_with(".antt"));
+    files.sort();
+    files.into_iter().map(|file| (file.clone(), spec(&format!("{of}/specs/{file}")))).collect()
+}
+
+/// The rows of the definition of expansion, by file.
+pub fn expansion_files() -> Vec<(String, Vec<Row>)> {
+    row_files("expansion").into_iter().map(|(file, specs)| (file, rows_of(&specs))).collect()
+}
+
 pub fn expansions() -> Vec<Row> {
-    let files = top().join("crates/expansion/specs").read_dir().unwrap().map(|entry| entry.unwrap().file_name().into_string().unwrap());
-    let rows = files.filter(|file| file.starts_with("Rows") && file.ends_with(".antt"));
-    rows.flat_map(|file| rows_of(&spec(&format!("expansion/specs/{file}")))).collect()
+    expansion_files().into_iter().flat_map(|(_, rows)| rows).collect()
 }
 
 /// A recipe, its fuel, and the whole output: `row "recipe" "output"` and `rowWith fuel "recipe" "output"`.
-pub fn outputs() -> Vec<(String, u32, String)> {
-    let specs = spec("output/specs/Rows.antt");
+pub type Output = (String, u32, String);
+
+fn outputs_of(specs: &str) -> Vec<Output> {
     let mut rows = Vec::new();
     for (at, word) in specs.match_indices("row \"").chain(specs.match_indices("rowWith ")) {
         let rest = &specs[at + word.trim_end_matches('"').len()..];
@@ -69,6 +81,15 @@ pub fn outputs() -> Vec<(String, u32, String)> {
         rows.push((recipe, fuel, output));
     }
     rows
+}
+
+/// The outputs of the filing program, by file.
+pub fn output_files() -> Vec<(String, Vec<Output>)> {
+    row_files("output").into_iter().map(|(file, specs)| (file, outputs_of(&specs))).collect()
+}
+
+pub fn outputs() -> Vec<Output> {
+    output_files().into_iter().flat_map(|(_, rows)| rows).collect()
 }
 
 /// The text of each recipe of examples/, and what is printed for it.

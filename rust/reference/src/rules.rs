@@ -157,17 +157,20 @@ impl Rule {
         self.match_list(&self.pattern, used, agree, &mut taken).then_some(taken)
     }
 
-    /// An ellipsis takes all but as many as follow it.
+    /// An ellipsis takes all but as many as follow it; where there are fewer, nothing is compared.
     fn match_list(&self, list: &[Tree], used: &[Tree], agree: &mut impl FnMut(&Name, &Name) -> bool, taken: &mut Vec<Taken>) -> bool {
         let Some(dots) = list.iter().position(|t| self.ellipsis.stands(t)) else {
             return self.match_each(list, used, agree, taken) && used.len() == list.len();
         };
         let (before, p, behind) = (&list[..dots - 1], &list[dots - 1], &list[dots + 1..]);
-        let many = used.len().saturating_sub(before.len() + behind.len());
         if !self.match_each(before, used, agree, taken) {
             return false;
         }
-        let (repeated, used) = used[before.len()..].split_at(many);
+        let used = &used[before.len()..];
+        let Some(many) = used.len().checked_sub(behind.len()) else {
+            return false;
+        };
+        let (repeated, used) = used.split_at(many);
         let mut rows = Vec::new();
         for t in repeated {
             let mut row = Vec::new();

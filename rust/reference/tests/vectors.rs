@@ -53,3 +53,14 @@ fn requests() {
         assert_eq!(file(recipe.as_bytes(), 512), output, "{name}: {recipe}");
     }
 }
+
+/// Rows of the specs that no reader finds would be tried nowhere: how many each file has.
+#[test]
+fn rows_of_the_specs() {
+    let expansions: Vec<(String, usize)> = rows::expansion_files().into_iter().map(|(file, rows)| (file, rows.len())).collect();
+    let outputs: Vec<(String, usize)> = rows::output_files().into_iter().map(|(file, rows)| (file, rows.len())).collect();
+    let named = |rows: &[(&str, usize)]| rows.iter().map(|(file, n)| (format!("{file}.antt"), *n)).collect::<Vec<_>>();
+    let more = [("RowsFuel", 18), ("RowsMore", 34), ("RowsShapes", 65), ("RowsTables", 0)];
+    assert_eq!(expansions, named(&[&[("Rows", 62), ("RowsDepths", 15), ("RowsEllipses", 55), ("RowsEvents", 0)][..], &more].concat()));
+    assert_eq!(outputs, named(&[("Rows", 18), ("RowsDecimals", 9)]));
+}

@@ -17,19 +17,19 @@ use Rattle.steps.proofs.fits.part_fits.Kinds as part-fits-kinds
 use Rattle.steps.proofs.fits.+each_fits+end_fits+fits+part_fits.Lts-part_fits as part-fits-lts
 use Rattle.arena.proofs.cells.reference.Reads as reference-reads
 use Rattle.arena.proofs.cells.word.Reads as word-reads
-use Rattle.arena.proofs.lists.skip.Reads as skip-reads
+use Rattle.environments.proofs.shares.look_ahead.Reads as look-ahead-reads
 use Rattle.steps.proofs.fits.constant_fits.Reads as constant-fits-reads
 use Rattle.steps.proofs.fits.literal_fits.Reads as literal-fits-reads
 use Rattle.steps.proofs.fits.+each_fits+end_fits+fits+part_fits.{statement}
 use Rattle.steps.proofs.fits.+each_fits+end_fits+fits+part_fits.Tie.{close}
 use Rattle.arena.specs.ListLaws.{pair-falls}
+use Rattle.environments.specs.Parts.{LooksAhead}
 use Rattle.environments.specs.PartLaws.{tag-falls}
-use Rattle.environments.specs.ShareLaws.{ahead-begins}
 use borrow.Author.Tests.{not-true, not-false}
-use Rattle.steps.specs.FitLaws.{fits-variable, fits-wildcard, fits-literal, fits-constant, fits-no-pair, fits-head-no, fits-tail, fits-empty, Along, along-begins, along-ends, along-more, Matched, each-begins, each-ends, each-no, each-more}
+use Rattle.steps.specs.FitLaws.{fits-variable, fits-wildcard, fits-literal, fits-constant, fits-no-pair, fits-head-no, fits-tail, fits-empty, Along, along-begins, along-ends, along-more, Matched, each-short, each-begins, each-ends, each-no, each-more}
 use native.Mathlib.Omega.{arith}
 use borrow.Author.Needs.{needs}
-use mathlib.Core.Path.{refl, sym, _∙_}
+use mathlib.Core.Path.{refl, sym, subst, _∙_}
 
 abbrev μ-each-fits : Measures 1 each-fits-kinds.ps ℕ
 μ-each-fits κs a =
@@ -75,7 +75,7 @@ part-fits-below t =
     and 1 part-fits-kinds.ps (falls 1 part-fits-kinds.ps _<_ μ-part-fits t) part-fits.Pre
 
 abbrev each-fits-claims : ℕ → each-fits-lts.Claims
-each-fits-claims t = (reference-reads.Asked, reference-reads.Learnt, word-reads.Asked, word-reads.Learnt, skip-reads.Asked, skip-reads.Learnt, part-fits-below t, part-fits.Post, fits-below t, fits.Post)
+each-fits-claims t = (look-ahead-reads.Asked, look-ahead-reads.Learnt, reference-reads.Asked, reference-reads.Learnt, word-reads.Asked, word-reads.Learnt, part-fits-below t, part-fits.Post, fits-below t, fits.Post)
 
 abbrev end-fits-claims : ℕ → end-fits-lts.Claims
 end-fits-claims t = (word-reads.Asked, word-reads.Learnt, literal-fits-reads.Asked, literal-fits-reads.Learnt, constant-fits-reads.Asked, constant-fits-reads.Learnt, each-fits-below t, each-fits.Post)
@@ -87,68 +87,73 @@ abbrev part-fits-claims : ℕ → part-fits-lts.Claims
 part-fits-claims t = (word-reads.Asked, word-reads.Learnt, fits-below t, fits.Post)
 
 abbrev each-fits-Inv-loop : each-fits-lts.InvT-loop
-each-fits-Inv-loop work p list w element following node₀ ahead₀ node ahead =
+each-fits-Inv-loop work p list w behind element node₀ ahead₀ node ahead =
     Matched work p list w node ahead
 
 abbrev each-fits-μ-loop : each-fits-lts.MeasureT-loop
-each-fits-μ-loop work p list w element following node₀ ahead₀ node ahead =
+each-fits-μ-loop work p list w behind element node₀ ahead₀ node ahead =
     ahead
-
-each-fits-loop-holds : (t : ℕ) → each-fits-lts.Need-loop-holds (each-fits-claims t) (each-fits-at t) each-fits.Post each-fits-Inv-loop each-fits-μ-loop
-each-fits-loop-holds t c =
-    let a = c .before .before .before .before .args in
-    each-begins (a .work .now) (a .p) (a .list) (a .w) _ (ahead-begins (a .work .now) (a .p) (a .list) _ _ (c .before .word .ensures) (c .skip .ensures))
-
-each-fits-part-fits-requires : (t : ℕ) → each-fits-lts.Need-part-fits-requires (each-fits-claims t) (each-fits-at t) each-fits.Post each-fits-Inv-loop each-fits-μ-loop
-each-fits-part-fits-requires t c κs =
-    let a = c .before .before .before .before .before .before .before .before .args in
-    let pre = c .before .before .before .before .before .before .before .before .pre in
-    let l = tag-falls (a .work .now) (a .p) 7 (sym (pre .1)) 3 _ (λ z. omega arith) (c .before .before .before .before .before .before .reference .ensures) in
-    omega (arith, l, pre .0)
 
 each-fits-returns : (t : ℕ) → each-fits-lts.Need-returns (each-fits-claims t) (each-fits-at t) each-fits.Post each-fits-Inv-loop each-fits-μ-loop
 each-fits-returns t c =
+    let a = c .before .before .before .before .args in
+    each-short (a .work .now) (a .p) (a .list) (a .w) (c .before .before .before .before .pre .1) (subst (λ r. LooksAhead (a .work .now) (a .p) (a .list) r) (c .enum-told .given .1) (c .before .before .look-ahead .ensures))
+
+each-fits-loop-holds : (t : ℕ) → each-fits-lts.Need-loop-holds (each-fits-claims t) (each-fits-at t) each-fits.Post each-fits-Inv-loop each-fits-μ-loop
+each-fits-loop-holds t c =
+    let a = c .before .before .before .before .before .before .args in
+    each-begins (a .work .now) (a .p) (a .list) (a .w) (c .before .before .before .before .before .before .pre .1) _ (subst (λ r. LooksAhead (a .work .now) (a .p) (a .list) r) (c .before .before .behind .given .1) (c .before .before .before .before .look-ahead .ensures))
+
+each-fits-part-fits-requires : (t : ℕ) → each-fits-lts.Need-part-fits-requires (each-fits-claims t) (each-fits-at t) each-fits.Post each-fits-Inv-loop each-fits-μ-loop
+each-fits-part-fits-requires t c κs =
     let a = c .before .before .before .before .before .before .before .before .before .before .args in
-    let reference = c .before .before .before .before .before .before .before .before .reference in
+    let pre = c .before .before .before .before .before .before .before .before .before .before .pre in
+    let l = tag-falls (a .work .now) (a .p) 7 (sym (pre .1)) 3 _ (λ z. omega arith) (c .before .before .before .before .reference .ensures) in
+    omega (arith, l, pre .0)
+
+each-fits-returns-2 : (t : ℕ) → each-fits-lts.Need-returns-2 (each-fits-claims t) (each-fits-at t) each-fits.Post each-fits-Inv-loop each-fits-μ-loop
+each-fits-returns-2 t c =
+    let a = c .before .before .before .before .before .before .before .before .before .before .before .before .args in
+    let reference = c .before .before .before .before .before .before .reference in
     let loop = c .before .before .before .before .before .loop in
-    let word2 = c .before .before .before .before .word2 in
+    let word = c .before .before .before .before .word in
     let if1 = c .before .before .before .if1 in
-    each-no (a .work .now) (a .p) (a .list) (a .w) (c .before .before .before .before .before .before .before .before .before .before .pre .1) (loop .node) (loop .ahead) _ (word2 .ensures) (loop .inv) _ _ _ (if1 .taken) (reference .ensures) (c .before .before .reference2 .ensures) (c .before .part-fits .ensures) _ refl (not-true _ (c .if2 .taken))
+    each-no (a .work .now) (a .p) (a .list) (a .w) (loop .node) (loop .ahead) _ (word .ensures) (loop .inv) _ _ _ (if1 .taken) (reference .ensures) (c .before .before .reference2 .ensures) (c .before .part-fits .ensures) _ refl (not-true _ (c .if2 .taken))
 
 each-fits-loop-less : (t : ℕ) → each-fits-lts.Need-loop-less (each-fits-claims t) (each-fits-at t) each-fits.Post each-fits-Inv-loop each-fits-μ-loop
 each-fits-loop-less t c =
-    let a = c .before .before .before .before .before .before .before .before .before .before .before .before .args in
+    let a = c .before .before .before .before .before .before .before .before .before .before .before .before .before .before .args in
     let loop = c .before .before .before .before .before .before .before .loop in
-    let word2 = c .before .before .before .before .before .before .word2 in
+    let word = c .before .before .before .before .before .before .word in
     let if1 = c .before .before .before .before .before .if1 in
-    omega (arith, c .reference4 .ensures, pair-falls (a .work .now) (loop .ahead) 1 (sym (word2 .ensures) ∙ if1 .taken))
+    omega (arith, c .reference4 .ensures, pair-falls (a .work .now) (loop .ahead) 1 (sym (word .ensures) ∙ if1 .taken))
 
 each-fits-loop-again : (t : ℕ) → each-fits-lts.Need-loop-again (each-fits-claims t) (each-fits-at t) each-fits.Post each-fits-Inv-loop each-fits-μ-loop
 each-fits-loop-again t c =
-    let a = c .before .before .before .before .before .before .before .before .before .before .before .before .args in
-    let reference = c .before .before .before .before .before .before .before .before .before .before .reference in
+    let a = c .before .before .before .before .before .before .before .before .before .before .before .before .before .before .args in
+    let reference = c .before .before .before .before .before .before .before .before .reference in
     let loop = c .before .before .before .before .before .before .before .loop in
-    let word2 = c .before .before .before .before .before .before .word2 in
+    let word = c .before .before .before .before .before .before .word in
     let if1 = c .before .before .before .before .before .if1 in
     let reference2 = c .before .before .before .before .reference2 in
     let part-fits = c .before .before .before .part-fits in
     let if2 = c .before .before .if2 in
-    each-more (a .work .now) (a .p) (a .list) (a .w) (c .before .before .before .before .before .before .before .before .before .before .before .before .pre .1) (loop .node) (loop .ahead) _ (word2 .ensures) (loop .inv) _ _ _ (if1 .taken) (reference .ensures) (reference2 .ensures) (part-fits .ensures) _ (c .before .reference3 .ensures) _ (not-false _ (if2 .left)) (c .reference4 .ensures)
+    each-more (a .work .now) (a .p) (a .list) (a .w) (loop .node) (loop .ahead) _ (word .ensures) (loop .inv) _ _ _ (if1 .taken) (reference .ensures) (reference2 .ensures) (part-fits .ensures) _ (c .before .reference3 .ensures) _ (not-false _ (if2 .left)) (c .reference4 .ensures)
 
 each-fits-fits-requires : (t : ℕ) → each-fits-lts.Need-fits-requires (each-fits-claims t) (each-fits-at t) each-fits.Post each-fits-Inv-loop each-fits-μ-loop
 each-fits-fits-requires t c κs =
-    let a = c .before .before .before .before .before .before .before .before .args in
-    let pre = c .before .before .before .before .before .before .before .before .pre in
+    let a = c .before .before .before .before .before .before .before .before .before .before .args in
+    let pre = c .before .before .before .before .before .before .before .before .before .before .pre in
     let l = tag-falls (a .work .now) (a .p) 7 (sym (pre .1)) 2 _ (λ z. omega arith) (c .reference5 .ensures) in
     (omega (arith, l, pre .0), tt)
 
-each-fits-returns-2 : (t : ℕ) → each-fits-lts.Need-returns-2 (each-fits-claims t) (each-fits-at t) each-fits.Post each-fits-Inv-loop each-fits-μ-loop
-each-fits-returns-2 t c =
-    let a = c .before .before .before .before .before .before .before .before .before .args in
+each-fits-returns-3 : (t : ℕ) → each-fits-lts.Need-returns-3 (each-fits-claims t) (each-fits-at t) each-fits.Post each-fits-Inv-loop each-fits-μ-loop
+each-fits-returns-3 t c =
+    let a = c .before .before .before .before .before .before .before .before .before .before .before .args in
     let loop = c .before .before .before .before .loop in
-    let word2 = c .before .before .before .word2 in
+    let word = c .before .before .before .word in
     let if1 = c .before .before .if1 in
-    each-ends (a .work .now) (a .p) (a .list) (a .w) (c .before .before .before .before .before .before .before .before .before .pre .1) (loop .node) (loop .ahead) _ (word2 .ensures) (loop .inv) _ _ (if1 .left) (c .before .reference5 .ensures) (c .fits2 .ensures)
+    each-ends (a .work .now) (a .p) (a .list) (a .w) (loop .node) (loop .ahead) _ (word .ensures) (loop .inv) _ _ (if1 .left) (c .before .reference5 .ensures) (c .fits2 .ensures)
 
 end-fits-returns : (t : ℕ) → end-fits-lts.Need-returns (end-fits-claims t) (end-fits-at t) end-fits.Post
 end-fits-returns t c =
@@ -300,21 +305,23 @@ pub +each-fits+end-fits+fits+part-fits-spec : {M : Type 1} → statement M
     each-fits.Post
     each-fits-Inv-loop
     each-fits-μ-loop
+    (λ c κs. search needs)  -- each-fits-look-ahead-requires
+    (λ c. search needs)  -- each-fits-enum-known-behind
+    (λ c. search needs)  -- each-fits-enum-told
+    (each-fits-returns t)
     (λ c κs. search needs)  -- each-fits-reference-requires
-    (λ c κs. search needs)  -- each-fits-word-requires
-    (λ c κs. search needs)  -- each-fits-skip-requires
     (each-fits-loop-holds t)
-    (λ c κs. search needs)  -- each-fits-word-requires-2
+    (λ c κs. search needs)  -- each-fits-word-requires
     (λ c κs. search needs)  -- each-fits-reference-requires-2
     (each-fits-part-fits-requires t)
-    (each-fits-returns t)
+    (each-fits-returns-2 t)
     (λ c κs. search needs)  -- each-fits-reference-requires-3
     (λ c κs. search needs)  -- each-fits-reference-requires-4
     (each-fits-loop-less t)
     (each-fits-loop-again t)
     (λ c κs. search needs)  -- each-fits-reference-requires-5
     (each-fits-fits-requires t)
-    (each-fits-returns-2 t))
+    (each-fits-returns-3 t))
     (λ t. end-fits-lts.spec (end-fits-claims t)
     (end-fits-at t)
     end-fits.Post
