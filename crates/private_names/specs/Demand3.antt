@@ -40,17 +40,10 @@ pub record OwnCopy (template : Tree) (old : ℕ) (shown : Events) (found : Optio
   pub bound : List·Memᴰ (binds binding own) shown
   pub copy : Copy template old own
 
--- "both runs, accepted or refused, have the same outcome, the same two counts and, word for word, the same core term", but for the name
--- words where a copy stands: there one has the old number and the other the new (request L5)
-pub record Alike (copies : ℕ → Bool) (old new : ℕ) (first second : Run) : Type 0 where
-  pub outcome : second .outcome ≡ first .outcome
-  pub steps : second .steps ≡ first .steps
-  pub sum : second .sum ≡ first .sum
-  pub core-first : coreOf first ≡ coreWith copies old (first .term)
-  pub core-second : coreOf second ≡ coreWith copies new (first .term)
-
-unfoldable pub Demand3 : Type 0
-Demand3 =
+-- what the demand takes, and what it asks; and then P of the recipe, the fuel, the lengths of the lent tables, the template, the old number
+-- and the new
+unfoldable pub Whenever : ((ws : List ℕ) (fuel work core : ℕ) (template : Tree) (old new : ℕ) → Type 0) → Type 0
+Whenever P =
     -- "Whatever the recipe, fuel and lent tables"
     (ws : List ℕ) (fuel work core : ℕ)
     -- "Take any rule of a let-syntax or letrec-syntax": a list of the recipe, whose first element is the form's name
@@ -79,10 +72,23 @@ Demand3 =
     -- "Whenever in the first run no copy of the old name is quoted"
     → ((x : Name) → List·Memᴰ (quoted x) (run ws fuel work core .events) → Copy (templateIn form macro rule) (old .number) x → ⊥)
     -- "each lookup of a copy finds a binding whose own name is such a copy"
-    → ((x : Name) → List·Memᴰ (looked x) (run ws fuel work core .events) → Copy (templateIn form macro rule) (old .number) x
-    → OwnCopy (templateIn form macro rule) (old .number) (run ws fuel work core .events) (x .binding))
-    -- "Put the new name in place of the old throughout that template, every other name keeping its number, and run both recipes with
-    -- equal fuel and tables of equal lengths"
-    → Alike (isItemOf (templateIn form macro rule) (old .number)) (old .number) new
-    (run ws fuel work core)
-    (run (renumber (isItemOf (templateIn form macro rule) (old .number)) new 0 ws) fuel work core)
+    → ((x : Name) → List·Memᴰ (looked x) (run ws fuel work core .events) → Copy (templateIn form macro rule) (old .number) x → OwnCopy (templateIn form macro rule) (old .number) (run ws fuel work core .events) (x .binding))
+    → P ws fuel work core (templateIn form macro rule) (old .number) new
+
+-- "Put the new name in place of the old throughout that template, every other name keeping its number"
+abbrev pub second : (ws : List ℕ) (template : Tree) (old new : ℕ) → List ℕ
+second ws template old new = renumber (isItemOf template old) new 0 ws
+
+-- "both runs, accepted or refused, have the same outcome, the same two counts and, word for word, the same core term", but for the name
+-- words where a copy stands: there one has the old number and the other the new (request L5)
+pub record Alike (copies : ℕ → Bool) (old new : ℕ) (first second : Run) : Type 0 where
+  pub outcome : second .outcome ≡ first .outcome
+  pub steps : second .steps ≡ first .steps
+  pub sum : second .sum ≡ first .sum
+  pub core-first : coreOf first ≡ coreWith copies old (first .term)
+  pub core-second : coreOf second ≡ coreWith copies new (first .term)
+
+-- "run both recipes with equal fuel and tables of equal lengths"
+unfoldable pub Demand3 : Type 0
+Demand3 = Whenever λ ws fuel work core template old new.
+    Alike (isItemOf template old) old new (run ws fuel work core) (run (second ws template old new) fuel work core)

@@ -20,7 +20,7 @@ use Rattle.expansion.specs.Run.{Run, run}
 use Rattle.expansion.specs.RunLaws.{shows-begun}
 use Rattle.private_names.specs.Statement as S
 use Rattle.private_names.specs.Statement.{Choice, parts, hasHead, formAt, rulesAt, ruleAt, templateAt, isVariableAt, isItemOf, isOldItem, isNew, renumber, renamed, isReachedAt, isCopy, bindsCopy, isOwnedByCopy, quotesNoCopy, findsOwn, hypotheses, Answer, answerOf, answerWith, PrivateNames}
-use Rattle.private_names.specs.Demand3.{variablesIn, templateIn, Copy, OwnCopy, Alike, Demand3}
+use Rattle.private_names.specs.Demand3.{variablesIn, templateIn, Copy, OwnCopy, Whenever, second, Alike, Demand3}
 use Rattle.private_names_proof.specs.Members.{all-from, any-from, any-member, false-from, if-from}
 use Rattle.private_names_proof.specs.Paths.{part-first}
 use Rattle.private_names_proof.specs.Claim.{private-names}
@@ -118,33 +118,62 @@ form-from ws fuel work core c form head m e i reaches =
     (ap (onName (λ x. eqb (x .item) (c .form)) false) e ∙ eq-eqb (head .item) (c .form) i)
     (treeOf-uses (c .form) ws (shows-begun ws fuel work core (isReachedAt (c .form)) reaches .layout))
 
-pub demand-3 : Demand3
-unfolding Demand3 PrivateNames hypotheses allOf isReachedAt isOldItem renamed isVariableAt templateAt ruleAt rulesAt answerOf answerWith
-demand-3 ws fuel work core form head macro rule fm fh at am ai ap′ old om six seven vs dots new low high unused quotes finds =
+-- ---- the test
+
+-- the test holds of a choice, and its copies are those of the template
+pub data Tested (ws : List ℕ) (fuel work core : ℕ) (template : Tree) : (old new : ℕ) → Type 0 where
+  tested : (c : Choice) → allOf (λ h. h) (hypotheses ws c (run ws fuel work core .events)) ≡ true → isOldItem (treeOf ws) c ≡ isItemOf template (c .old) → Tested ws fuel work core template (c .old) (c .new)
+
+test-from : Whenever Tested
+unfolding Whenever hypotheses allOf isReachedAt isOldItem isVariableAt templateAt ruleAt rulesAt
+test-from ws fuel work core form head macro rule fm fh at am ai free old om six seven vs dots new low high unused quotes finds =
     let l = run ws fuel work core .events in
     let t = treeOf ws in
     let n = old .number in
     let c : Choice = record { form = head .item; macro = macro; rule = rule; old = n; new = new } in
     let reaches : anyOf (isReachedAt (head .item)) l ≡ true =
-    any-from (isReachedAt (head .item)) l (reached at) am (and-both _ (eqb (at .item) (head .item)) (ap not ap′) (eq-eqb _ _ ai)) in
+    any-from (isReachedAt (head .item)) l (reached at) am (and-both _ (eqb (at .item) (head .item)) (ap not free) (eq-eqb _ _ ai)) in
     let is : formAt t c ≡ form = form-from ws fuel work core c form head fm fh refl reaches in
     let template : templateAt t c ≡ templateIn form macro rule = ap (λ f. templateIn f macro rule) is in
     let C : ℕ → Bool = isItemOf (templateIn form macro rule) n in
     let same : isOldItem t c ≡ C = ap (λ u. isItemOf u n) template in
-    let named = private-names ws fuel work core c
+    tested c
     (and-both _ _ reaches
     (and-both _ _ (private-from t c old (subst (λ u. List·Memᴰ old (names u)) (sym template) om) refl six seven (ap (λ f. hasVariable rule n (rulesFormOf macro f)) is ∙ variable-from form macro rule n vs dots))
     (and-both _ _ (new-from ws new low high unused)
     (and-both _ _ (subst (λ D. allOf (quotesNoCopy D) l ≡ true) (sym same) (all-from (quotesNoCopy C) l (quotes-from (templateIn form macro rule) n l quotes)))
-    (and-both _ true (subst (λ D. allOf (findsOwn D l) l ≡ true) (sym same) (all-from (findsOwn C l) l (finds-from (templateIn form macro rule) n l finds))) refl))))) in
-    let first : answerOf (run ws fuel work core) ≡ answerWith C n (run ws fuel work core) =
-    subst (λ D. answerOf (run ws fuel work core) ≡ answerWith D n (run ws fuel work core)) same (named .0) in
-    let second : answerOf (run (renumber C new 0 ws) fuel work core) ≡ answerWith C new (run ws fuel work core) =
-    subst (λ D. answerOf (run (renumber D new 0 ws) fuel work core) ≡ answerWith D new (run ws fuel work core)) same (named .1) in
+    (and-both _ true (subst (λ D. allOf (findsOwn D l) l ≡ true) (sym same) (all-from (findsOwn C l) l (finds-from (templateIn form macro rule) n l finds))) refl)))))
+    same
+
+-- so whatever follows from the test follows from what the demand says
+pub whenever : (P : (ws : List ℕ) (fuel work core : ℕ) (template : Tree) (old new : ℕ) → Type 0)
+    → ((ws : List ℕ) (fuel work core : ℕ) (template : Tree) (old new : ℕ) → Tested ws fuel work core template old new → P ws fuel work core template old new)
+    → Whenever P
+unfolding Whenever
+whenever P h ws fuel work core form head macro rule fm fh at am ai free old om six seven vs dots new low high unused quotes finds =
+    h ws fuel work core (templateIn form macro rule) (old .number) new
+    (test-from ws fuel work core form head macro rule fm fh at am ai free old om six seven vs dots new low high unused quotes finds)
+
+-- ---- the claim
+
+alike : (ws : List ℕ) (fuel work core : ℕ) (template : Tree) (old new : ℕ) → Tested ws fuel work core template old new
+    → Alike (isItemOf template old) old new (run ws fuel work core) (run (second ws template old new) fuel work core)
+unfolding PrivateNames renamed answerOf answerWith
+alike ws fuel work core template old new (tested c h same) =
+    let C = isItemOf template (c .old) in
+    let r = run ws fuel work core in
+    let named = private-names ws fuel work core c h in
+    let first : answerOf r ≡ answerWith C (c .old) r = subst (λ D. answerOf r ≡ answerWith D (c .old) r) same (named .0) in
+    let again : answerOf (run (renumber C (c .new) 0 ws) fuel work core) ≡ answerWith C (c .new) r =
+    subst (λ D. answerOf (run (renumber D (c .new) 0 ws) fuel work core) ≡ answerWith D (c .new) r) same (named .1) in
     record {
-      outcome = ap (λ (a : Answer). a .outcome) second;
-      steps = ap (λ (a : Answer). a .steps) second;
-      sum = ap (λ (a : Answer). a .sum) second;
+      outcome = ap (λ (a : Answer). a .outcome) again;
+      steps = ap (λ (a : Answer). a .steps) again;
+      sum = ap (λ (a : Answer). a .sum) again;
       core-first = ap (λ (a : Answer). a .core) first;
-      core-second = ap (λ (a : Answer). a .core) second;
+      core-second = ap (λ (a : Answer). a .core) again;
     }
+
+pub demand-3 : Demand3
+unfolding Demand3
+demand-3 = whenever _ alike
