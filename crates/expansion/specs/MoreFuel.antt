@@ -2,6 +2,7 @@
 pub mod Tries
 pub mod Alike
 pub mod Claim
+pub mod Said
 use mathlib.Core.Path.{_≡_}
 use mathlib.Core.List.{List}
 use Prim.Native.Nat.{ℕ, _+_, _*_, _≤_, _<_}

@@ -1,4 +1,5 @@
--- Demand 3, stated over the definition of a run, in the words of document 01, 'Runs, copies and private names'. Nothing is proved here.
+-- Demand 3 as a test that computes, over the definition of a run, in the words of document 01, 'Runs, copies and private names'; Demand3
+-- says it without tests. Nothing is proved here.
 use mathlib.Core.Path.{_≡_}
 use mathlib.Core.Bool.{Bool, true, false, not, _&&_, _||_, cond}
 use mathlib.Core.List.{List, [], _∷_, _++_}
@@ -67,8 +68,11 @@ isVariableAt t c n = hasVariable (c .rule) n (rulesAt t c)
 -- ---- the old name and the new
 
 -- an item of that name in that template
+abbrev pub isItemOf : (template : Tree) (old : ℕ) → ℕ → Bool
+isItemOf template old i = anyOf (λ x. eqb (x .number) old && eqb (x .item) i) (names template)
+
 unfoldable pub isOldItem : Tree → Choice → ℕ → Bool
-isOldItem t c i = anyOf (λ x. eqb (x .number) (c .old) && eqb (x .item) i) (names (templateAt t c))
+isOldItem t c = isItemOf (templateAt t c) (c .old)
 
 -- any name in its template, neither `...` nor `_`, that is no variable of the rule
 unfoldable pub isPrivate : Tree → Choice → Bool

@@ -2,7 +2,7 @@
 use mathlib.Core.Path.{_≡_, refl, ap, ap₂, sym, _∙_, subst}
 use mathlib.Core.Logic.{_⊎_, inl, inr}
 use mathlib.Core.Bool.{Bool, true, false, not, _&&_, _||_, cond, true≢false, false≢true}
-use mathlib.Core.List.{List, [], _∷_, _++_}
+use mathlib.Core.List.{List, [], _∷_, _++_, List·Memᴰ, List·Memᴰ·head, List·Memᴰ·tail, Memᴰ·append-left, Memᴰ·append-right, List·Memᴰ·append-cases}
 use Prim.Native.Nat.{ℕ, zero, suc, _+_, _≤_}
 use native.Mathlib.Omega.{arith}
 use lib.Dec.{eqb}
@@ -13,6 +13,7 @@ use Rattle.recipe.specs.Tree.{Tree, empty, constant, name, pair, onName, elemen
 use Rattle.recipe.specs.TreeNames.{TreeAll, treeAll-element, uses, uses-element, uses-elements}
 use Rattle.private_names_proof.specs.Reach.Heads.{isAt, isNameAt, Unheaded, empty₁, constant₁, name₁, pair₁, UnheadedAll, empty₂, constant₂, name₂, pair₂, isAt-bind}
 use Rattle.private_names.specs.Statement.{parts, firstWith, hasHead}
+use Rattle.private_names_proof.specs.Members.{any-from}
 
 -- the tree at a place
 unfoldable pub sub : List ℕ → Tree → Tree
@@ -162,13 +163,7 @@ module _ (p : ℕ) where
   headed-of-element zero (pair h t) i = in-first i
   headed-of-element (suc k) (pair h t) i = in-later (headed-of-element k t i)
 
-  -- ---- it is the form that the statement takes
-
-  headed-head : {l : List ℕ} {h : Tree} → Headed l h → onName (λ x. eqb (x .item) p) false h ≡ false
-  unfolding onName
-  headed-head (headed e) = refl
-  headed-head (in-first i) = refl
-  headed-head (in-later i) = refl
+  -- ---- it is the form that the statement takes: a table's items are in its tree once, so that one part has that head
 
   head-none : (t : Tree) → uses p t ≡ 0 → onName (λ x. eqb (x .item) p) false t ≡ false
   unfolding uses onName
@@ -191,33 +186,49 @@ module _ (p : ℕ) where
       let j : uses p t ≡ 0 = omega arith in
       ap₂ _||_ (head-none h i) (any-append (hasHead p) (parts h) (parts t) ∙ ap₂ _||_ (parts-none h i) (parts-none t j))
 
-  -- the first part that it heads
-  pub headed-part : {l : List ℕ} {t : Tree} → Headed l t → uses p t ≤ 1 → (anyOf (hasHead p) (parts t) ≡ true) × (firstWith (hasHead p) (parts t) ≡ sub l t)
-  unfolding parts anyOf hasHead element elements onName firstWith sub uses
-  headed-part (headed {x = x} {t = t} e) u = go (eqb (x .item) p) (isAt-item x e)
+  part-used : (t f : Tree) → List·Memᴰ f (parts t) → hasHead p f ≡ true → 1 ≤ uses p t
+  part-used t f m e = go (uses p t) refl
     where
-      rest : List Tree
-      rest = parts (name x) ++ parts t
+      go : (n : ℕ) → uses p t ≡ n → 1 ≤ n
+      go zero z = absurd (false≢true (sym (parts-none t z) ∙ any-from (hasHead p) (parts t) f m e))
+      go (suc n) z = omega arith
 
-      go : (b : Bool) → b ≡ true → ((b || anyOf (hasHead p) rest) ≡ true) × (cond b (pair (name x) t) (firstWith (hasHead p) rest) ≡ pair (name x) t)
-      go true e = (refl, refl)
-      go false e = absurd (false≢true e)
-  headed-part (in-first {l = l} {h = h} {t = t} i) u = go (headed-head i) (headed-part i (omega arith))
-    where
-      go : onName (λ x. eqb (x .item) p) false h ≡ false → (anyOf (hasHead p) (parts h) ≡ true) × (firstWith (hasHead p) (parts h) ≡ sub l h)
-          → (anyOf (hasHead p) (parts (pair h t)) ≡ true) × (firstWith (hasHead p) (parts (pair h t)) ≡ sub (0 ∷ l) (pair h t))
-      go d a = (
-        ap₂ _||_ d (any-append (hasHead p) (parts h) (parts t) ∙ ap (λ b. b || anyOf (hasHead p) (parts t)) (a .0)),
-        ap (λ b. cond b (pair h t) (firstWith (hasHead p) (parts h ++ parts t))) d ∙ firstWith-here (hasHead p) (parts h) (parts t) (a .0) ∙ a .1,
-      )
-  headed-part (in-later {k = k} {l = l} {h = h} {t = t} i) u = go (headed-part i (omega arith))
-    where
-      z : uses p h ≡ 0
-      z = omega (arith, headed-uses i)
+  -- a tree with such a part is no name
+  part-no-name : (t f : Tree) → List·Memᴰ f (parts t) → hasHead p f ≡ true → onName (λ x. eqb (x .item) p) false t ≡ false
+  unfolding parts hasHead element elements onName
+  part-no-name empty f m e = refl
+  part-no-name (constant a) f m e = refl
+  part-no-name (name x) f (List·Memᴰ·head q) e = absurd (false≢true (subst (λ z. hasHead p z ≡ true) q e))
+  part-no-name (pair h t) f m e = refl
 
-      go : (anyOf (hasHead p) (parts t) ≡ true) × (firstWith (hasHead p) (parts t) ≡ sub (k ∷ l) t)
-          → (anyOf (hasHead p) (parts (pair h t)) ≡ true) × (firstWith (hasHead p) (parts (pair h t)) ≡ sub (suc k ∷ l) (pair h t))
-      go a = (
-        ap₂ _||_ (head-none h z) (any-append (hasHead p) (parts h) (parts t) ∙ ap₂ _||_ (parts-none h z) (a .0)),
-        ap (λ b. cond b (pair h t) (firstWith (hasHead p) (parts h ++ parts t))) (head-none h z) ∙ firstWith-later (hasHead p) (parts h) (parts t) (parts-none h z) ∙ a .1,
-      )
+  pub part-first : (t f : Tree) → List·Memᴰ f (parts t) → hasHead p f ≡ true → uses p t ≤ 1 → firstWith (hasHead p) (parts t) ≡ f
+  unfolding parts hasHead element elements onName firstWith uses
+  part-first empty f (List·Memᴰ·head q) e u = absurd (false≢true (subst (λ z. hasHead p z ≡ true) q e))
+  part-first (constant a) f (List·Memᴰ·head q) e u = absurd (false≢true (subst (λ z. hasHead p z ≡ true) q e))
+  part-first (name x) f (List·Memᴰ·head q) e u = absurd (false≢true (subst (λ z. hasHead p z ≡ true) q e))
+  part-first (pair h t) f (List·Memᴰ·head q) e u =
+      ap (λ b. cond b (pair h t) (firstWith (hasHead p) (parts h ++ parts t))) (subst (λ z. hasHead p z ≡ true) q e) ∙ sym q
+  part-first (pair h t) f (List·Memᴰ·tail m) e u = go (List·Memᴰ·append-cases (parts h) m) (part-first h f) (part-first t f)
+    where
+      other : onName (λ x. eqb (x .item) p) false h ≡ false → firstWith (hasHead p) (parts (pair h t)) ≡ firstWith (hasHead p) (parts h ++ parts t)
+      other d = ap (λ b. cond b (pair h t) (firstWith (hasHead p) (parts h ++ parts t))) d
+
+      go : List·Memᴰ f (parts h) ⊎ List·Memᴰ f (parts t)
+          → (List·Memᴰ f (parts h) → hasHead p f ≡ true → uses p h ≤ 1 → firstWith (hasHead p) (parts h) ≡ f)
+          → (List·Memᴰ f (parts t) → hasHead p f ≡ true → uses p t ≤ 1 → firstWith (hasHead p) (parts t) ≡ f)
+          → firstWith (hasHead p) (parts (pair h t)) ≡ f
+      go (inl i) left right =
+          other (part-no-name h f i e) ∙ firstWith-here (hasHead p) (parts h) (parts t) (any-from (hasHead p) (parts h) f i e) ∙ left i e (omega arith)
+      go (inr i) left right =
+          let z : uses p h ≡ 0 = omega (arith, part-used t f i e) in
+          other (head-none h z) ∙ firstWith-later (hasHead p) (parts h) (parts t) (parts-none h z) ∙ right i e (omega arith)
+
+  -- the part at such a place
+  headed-part : {l : List ℕ} {t : Tree} → Headed l t → List·Memᴰ (sub l t) (parts t) × (hasHead p (sub l t) ≡ true)
+  unfolding parts hasHead element elements onName sub
+  headed-part (headed {x = x} e) = (List·Memᴰ·head refl, isAt-item x e)
+  headed-part (in-first {h = h} {t = t} i) = let r = headed-part i in (List·Memᴰ·tail (Memᴰ·append-left (parts t) (r .0)), r .1)
+  headed-part (in-later {h = h} {t = t} i) = let r = headed-part i in (List·Memᴰ·tail (Memᴰ·append-right (parts h) (r .0)), r .1)
+
+  pub headed-first : {l : List ℕ} {t : Tree} → Headed l t → uses p t ≤ 1 → firstWith (hasHead p) (parts t) ≡ sub l t
+  headed-first {l} {t} i u = let r = headed-part i in part-first t (sub l t) (r .0) (r .1) u

@@ -25,7 +25,7 @@ use Rattle.private_names.specs.Statement.{Choice, formAt, rulesAt, ruleAt, temp
 use Rattle.simulation.specs.Names.Shown.{Renaming}
 use Rattle.simulation.specs.Form.Places.{still-eq}
 use Rattle.private_names_proof.specs.Renumber.{tree-new}
-use Rattle.private_names_proof.specs.Paths.{sub, treeAll-sub, Headed, headed-of-element, headed-part}
+use Rattle.private_names_proof.specs.Paths.{sub, treeAll-sub, Headed, headed-of-element, headed-first}
 use Rattle.private_names_proof.specs.Renamed.OldItems.{isOld, old-some, number-none, variables-none}
 use Rattle.private_names_proof.specs.Renamed.{unbound, renew, still-tree, Held, held-element, treeAll-rules, templateIn, treeAll-template, Chosen, renamed-holds}
 
@@ -39,7 +39,7 @@ module _ (ws : List ℕ) (c : Choice) (layout : isLayout ws ≡ true) where
   module _ (l : List ℕ) (i : Headed (c .form) l (element 1 (treeOf ws))) where
     rules-at : rulesAt (treeOf ws) c ≡ rulesFormOf (c .macro) (sub l (element 1 (treeOf ws)))
     unfolding rulesAt formAt sub
-    rules-at = ap (rulesFormOf (c .macro)) (headed-part (c .form) (headed-of-element (c .form) 1 (treeOf ws) i) (held .once (c .form)) .1)
+    rules-at = ap (rulesFormOf (c .macro)) (headed-first (c .form) (headed-of-element (c .form) 1 (treeOf ws) i) (held .once (c .form)))
 
     template-at : templateAt (treeOf ws) c ≡ templateIn (c .rule) (rulesFormOf (c .macro) (sub l (element 1 (treeOf ws))))
     unfolding templateAt ruleAt templateIn
