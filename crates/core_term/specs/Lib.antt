@@ -23,6 +23,7 @@ pub mod HeadLaws
 pub mod Shape
 pub mod ShapeLaws
 pub mod Walk
+pub mod Scan
 pub mod Windows
 pub mod CheckLaws
 pub mod Decimal

@@ -50,6 +50,10 @@ pub record Shaped (x : N.Node) (s : Shape) : Type 0 where
   pub rest : s .parts ≡ parts x
   pub inner : s .quoted ≡ isListNode x
 
+-- the shape of the node at the beginning of words
+abbrev pub ShapedAt : List ℕ → Shape → Type 0
+ShapedAt ws s = (x : N.Node) (left : List ℕ) → nodeAt ws ≡ got x left → Shaped x s
+
 -- a node that was opened, all its own words there
 pub record OpenedAs (ws : List ℕ) (n : Node) : Type 0 where
   pub is : nodeIn ws n ≡ nodeAt ws

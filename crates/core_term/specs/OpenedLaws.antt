@@ -17,8 +17,9 @@ use Rattle.core_term.specs.Node.{got, missing, sound, isNode, nodeAt, no
 use Rattle.core_term.specs.NodeLaws.{node-read}
 use Rattle.core_term.specs.CodeLaws.{at-past, variable-at, operation-at, integer-at, boolean-at, name-at, list-at, if-at, namesAt, lambda-at, application-at, decimal-at}
 use Rattle.core_term.specs.declared.nodes.Node.{Node}
+use Rattle.core_term.specs.declared.nodes.Shape.{Shape}
 use Rattle.core_term.specs.declared.nodes.Node.the-variants.{Variable, Operation, Integer, Boolean, Decimal, Name, List as Several, If, Lambda, Application, None}
-use Rattle.core_term.specs.Opened.{nodeIn, shapeBy, shapeIn, Shaped, OpenedAs}
+use Rattle.core_term.specs.Opened.{nodeIn, shapeBy, shapeIn, Shaped, ShapedAt, OpenedAs}
 
 -- ---- laws in the code's shape
 
@@ -125,18 +126,8 @@ module _ (ws : List ℕ) where
   by-names (Application n) x r e l = same-shape (Application n) _ _ x r (record { own = refl; names = refl; rest = add-one n; inner = refl }) e
   by-names None x r e l = let z : _≡_ {A = ℕ} 0 1 = cc in absurd (omega arith)
 
-  pub shaped-opened : (n : Node) → OpenedAs ws n → (x : N.Node) (r : List ℕ) → nodeAt ws ≡ got x r → Shaped x (shapeIn n)
+  pub shaped-opened : (n : Node) → OpenedAs ws n → (s : Shape) → s ≡ shapeIn n → ShapedAt ws s
   unfolding shapeIn
-  shaped-opened n o x r e = by-names n x r (o .is ∙ e) (λ first count h. subst (λ (m : Node). shapeIn m .own ≤ length ws) h (o .room))
-
-  -- where there are at least as many words behind it as parts, as in a term
-  pub shaped-in : (n : Node) (x : N.Node) (r : List ℕ) → nodeIn ws n ≡ got x r → parts x ≤ length r → Shaped x (shapeIn n)
-  unfolding nodeIn parts
-  shaped-in n x r e l = by-names n x r e (λ first count h. room first count (sym (ap (nodeIn ws) h) ∙ e))
-    where
-      room : (first count : ℕ) → got (N.lambdaN first (take count (drop 3 ws))) (drop (3 + count) ws) ≡ got x r → 3 + count ≤ length ws
-      room first count k =
-          let a : drop (3 + count) ws ≡ r = cc in
-          let b : N.lambdaN first (take count (drop 3 ws)) ≡ x = cc in
-          let p : parts x ≡ 1 = ap parts (sym b) in
-          omega (arith, l, p, ap length a, length-drop (3 + count) ws)
+  shaped-opened n o s i x r e =
+      subst (λ (z : Shape). Shaped x z) (sym i)
+      (by-names n x r (o .is ∙ e) (λ first count h. subst (λ (m : Node). shapeIn m .own ≤ length ws) h (o .room)))

@@ -53,7 +53,7 @@ module _ (operations : ℕ) (nameGood : ℕ → Bool) (base : ℕ) where
       it = found Asks (allowed-node operations nameGood base) q e b ws within (h ∙ ap (headOf Asks q e b) (o .is))
 
       shape : Shaped (it .it) s
-      shape = subst (λ (z : Shape). Shaped (it .it) z) (sym i) (shaped-opened ws n o (it .it) (it .left) (it .is))
+      shape = shaped-opened ws n o s i (it .it) (it .left) (it .is)
 
       pub walk-within : within ≡ b + s .names
       walk-within = omega (arith, it .then, shape .names)

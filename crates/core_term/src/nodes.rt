@@ -1,7 +1,7 @@
 // The nodes of a core term, opened, and their shapes.
 ghost use mathlib.Core.Path.{_≡_};
 ghost use Rattle.core_term.specs.Node.{nodeAt};
-ghost use Rattle.core_term.specs.Opened.{nodeIn, shapeBy, shapeIn};
+ghost use Rattle.core_term.specs.Opened.{nodeIn, shapeBy, shapeIn, ShapedAt};
 use crate::head::wide;
 use crate::read::read;
 
@@ -63,4 +63,11 @@ pub fn shape_of(node: Node) -> Shape
         Node::Application(count) => shaped(2, 0, wide(count) + 1, false),
         Node::None => shaped(0, 0, 0, false),
     }
+}
+
+// The shape of the node at the beginning of words.
+pub fn shape_at(words: &[u32]) -> Shape
+    ensures { λ r. ⌜ ShapedAt (now (words .entry)) r ⌝ }
+{
+    shape_of(read(words))
 }

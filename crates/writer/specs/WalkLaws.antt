@@ -28,7 +28,8 @@ use Rattle.writer.specs.Laid.{Left}
 use Rattle.writer.specs.LaidLaws.{left-done, left-full, left-then, left-is, left-none}
 use Rattle.writer.specs.Pieces.{gapText, gapFirst, opening, closing, textIn, partsText}
 use Rattle.writer.specs.PiecesLaws.{pieces}
-use Rattle.writer.specs.Called.{Said, NodeHere}
+use Rattle.core_term.specs.Scan.{NodeHere}
+use Rattle.writer.specs.Called.{Said}
 use Rattle.writer.specs.Opened.{named, Opened}
 use Rattle.writer.specs.OpenedLaws.{code-is, closes-leaf, is-list, is-if, is-lambda, names-count, is-application, is-decimal}
 use Rattle.writer.specs.Walk.{Shaped, spelling, Fits, Begins, Walked, walked, stopped}
@@ -50,19 +51,6 @@ leaf-shape (listN n) r h = absurd (omega arith)
 leaf-shape ifN r h = absurd (omega arith)
 leaf-shape (lambdaN first names) r h = absurd (omega arith)
 leaf-shape (applicationN n) r h = absurd (omega arith)
-
--- a node of another code than if, lambda and decimal
-two-own : (x : Node) (r : List ℕ) → (getD (nodeWords x ++ r) 0 0 ≡ ifCode → ⊥) → (getD (nodeWords x ++ r) 0 0 ≡ lambdaCode → ⊥) → (getD (nodeWords x ++ r) 0 0 ≡ decimalCode → ⊥)
-    → (2 ≡ length (nodeWords x)) × (0 ≡ binds x)
-unfolding nodeWords binds
-two-own (variableN n) r a b c = (refl, refl)
-two-own (operationN n) r a b c = (refl, refl)
-two-own (constantN k) r a b c = (ap length (sym (words-other k (λ e. c (ap (λ (l : List ℕ). getD (l ++ r) 0 0) (words-decimal k e))))), refl)
-two-own (nameN n) r a b c = (refl, refl)
-two-own (listN n) r a b c = (refl, refl)
-two-own ifN r a b c = absurd (a refl)
-two-own (lambdaN first names) r a b c = absurd (b refl)
-two-own (applicationN n) r a b c = (refl, refl)
 
 module _ (ws : List ℕ) (x : Node) (r : List ℕ) (is : nodeAt ws ≡ got x r) where
   pub shaped-if : getD ws 0 0 ≡ ifCode → Shaped x (shape 1 3 true false)
@@ -87,27 +75,6 @@ module _ (ws : List ℕ) (x : Node) (r : List ℕ) (is : nodeAt ws ≡ got x r) 
   pub shaped-decimal : getD ws 0 0 ≡ decimalCode → Shaped x (shape 3 0 false false)
   unfolding shape nodeWords parts gapFirst isListNode constantWords decimal
   shaped-decimal e = rw (is-decimal ws x r is e) (record { own = refl; rest = refl; gap = refl; inner = refl })
-
--- ---- a node's own words
-
-module _ (ws : List ℕ) (x : Node) (r : List ℕ) (is : nodeAt ws ≡ got x r) where
-  abbrev OwnIs : ℕ → ℕ → Type 0
-  OwnIs size names = (size ≡ length (nodeWords x)) × (names ≡ binds x)
-
-  pub own-if : getD ws 0 0 ≡ ifCode → OwnIs 1 0
-  unfolding nodeWords binds
-  own-if e = rw (is-if ws x r is e) (refl, refl)
-
-  pub own-lambda : (n : ℕ) → n ≡ getD ws 2 0 → getD ws 0 0 ≡ lambdaCode → OwnIs (3 + n) n
-  unfolding nodeWords binds
-  own-lambda n h e = let c = names-count ws x r is e in rw (is-lambda ws x r is e) (omega (arith, h, c), omega (arith, h, c))
-
-  pub own-decimal : getD ws 0 0 ≡ decimalCode → OwnIs 3 0
-  unfolding nodeWords binds constantWords decimal
-  own-decimal e = rw (is-decimal ws x r is e) (refl, refl)
-
-  pub own-other : (getD ws 0 0 ≡ ifCode → ⊥) → (getD ws 0 0 ≡ lambdaCode → ⊥) → (getD ws 0 0 ≡ decimalCode → ⊥) → OwnIs 2 0
-  own-other a b c = two-own x r (λ e. a (code-is ws x r is ∙ e)) (λ e. b (code-is ws x r is ∙ e)) (λ e. c (code-is ws x r is ∙ e))
 
 -- ---- answers and rows of terms
 

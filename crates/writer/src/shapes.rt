@@ -2,39 +2,11 @@
 ghost use mathlib.Core.Path.{_≡_};
 ghost use mathlib.Core.List.{List};
 ghost use Prim.Native.Nat.{ℕ};
-ghost use lib.ListN.{length};
-ghost use Rattle.core_term.specs.Node.{Node, nodeAt, nodeWords, binds, got};
-ghost use Rattle.writer.specs.Called.{NodeHere};
+ghost use Rattle.core_term.specs.Node.{Node, nodeAt, got};
+ghost use Rattle.core_term.specs.Scan.{NodeHere};
 ghost use Rattle.writer.specs.Walk.{Shaped};
 use crate::numbers::wide;
 use core_term::codes;
-
-// How many words a node has of its own, and how many of them, the last, are names of variables.
-pub struct Span {
-    pub size: usize,
-    pub names: usize,
-}
-
-pub fn own(words: &[u32]) -> Span
-    requires { ⌜ NodeHere (now words) ⌝ }
-    ensures { λ r. ⌜ ((x : Node) (left : List ℕ) → nodeAt (now (words .entry)) ≡ got x left → (r .size ≡ length (nodeWords x)) × (r .names ≡ binds x)) ⌝ }
-{
-    let code = words[0];
-    if code == codes::IF {
-        return Span { size: 1, names: 0 };
-    }
-    if code == codes::LAMBDA {
-        let count = wide(words[2]);
-        return Span {
-            size: 3 + count,
-            names: count,
-        };
-    }
-    if code == codes::DECIMAL {
-        return Span { size: 3, names: 0 };
-    }
-    Span { size: 2, names: 0 }
-}
 
 // A node's own words, the parts that follow, whether a space comes before the first, and whether they are data (quoted).
 pub struct Shape {
