@@ -4,7 +4,6 @@ mod called; // the names of variables, by number
 mod names; // names as text
 pub mod numbers; // decimal text
 mod pieces; // what opens and closes a node
-mod shapes; // a node's own words and its parts
 mod term; // a term's text
 
 ghost use mathlib.Core.Path.{_≡_};
