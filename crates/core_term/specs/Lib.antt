@@ -1,6 +1,9 @@
 -- Core terms: their words, both ways, ground 19, and the one text.
 pub mod Node
 pub mod NodeLaws
+pub mod CodeLaws
+pub mod Opened
+pub mod OpenedLaws
 pub mod Term
 pub mod Words
 pub mod TermLaws
@@ -16,11 +19,11 @@ pub mod Parts
 pub mod PartsLaws
 pub mod Window
 pub mod WindowLaws
-pub mod Opened
 pub mod HeadLaws
 pub mod Shape
 pub mod ShapeLaws
 pub mod Walk
+pub mod Scan
 pub mod Windows
 pub mod CheckLaws
 pub mod Decimal

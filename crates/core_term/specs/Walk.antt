@@ -1,128 +1,140 @@
--- The checker's walk in its own terms: flags, a place in the words, the variables bound so far and the parts left.
+-- The checker's walk in its own terms: flags, a place in the words, the variables bound so far and the terms left.
 use mathlib.Core.Path.{_≡_, refl, sym, ap, subst, _∙_}
 use mathlib.Core.Bool.{Bool, true, false}
 use mathlib.Core.List.{List}
 use Prim.Native.Nat.{ℕ, _+_, _-_, _≤_, _<_}
 use native.Mathlib.Omega.{arith}
-use lib.ListN.{length, drop, take, length-append}
+use lib.ListN.{length, drop, take}
 use Rattle.words.specs.ListLaws.{rest-is}
 use Rattle.core_term.specs.declared.head.Head.the-variants as H
+use Rattle.core_term.specs.declared.nodes.Node.{Node}
+use Rattle.core_term.specs.declared.nodes.Shape.{Shape}
 use Rattle.core_term.specs.declared.term.Checked.{Checked}
 use Rattle.core_term.specs.declared.term.Checked.the-variants as C
-use Rattle.core_term.specs.Node.{Node, nodeAt, nodeWords, parts, binds, isListNode}
-use Rattle.core_term.specs.Words.{encode}
+use Rattle.core_term.specs.Node.{nodeAt, nodeWords, binds}
+use Rattle.core_term.specs.NodeLaws.{node-some}
+use Rattle.core_term.specs.Opened.{nodeIn, shapeIn, Shaped, OpenedAs}
+use Rattle.core_term.specs.OpenedLaws.{shaped-opened}
 use Rattle.core_term.specs.Every.{Asked}
-use Rattle.core_term.specs.PartsLaws.{encode-two}
-use Rattle.core_term.specs.Window.{marked, window, headOf, leafHead}
+use Rattle.core_term.specs.Window.{marked, window, headOf}
 use Rattle.core_term.specs.WindowLaws.{marked-undo, marked-clear, marked-length, allowed-node}
-use Rattle.core_term.specs.HeadLaws.{leaf-yes, leaf-no}
-use Rattle.core_term.specs.Shape.{Whole, None, Shaped, Kept, Clear}
-use Rattle.core_term.specs.ShapeLaws.{found, not-found, Going, going-start, going-end, going-none, going-on, next-inside}
+use Rattle.core_term.specs.Shape.{Whole, None, Row, NoRow, InRow, Kept, Clear}
+use Rattle.core_term.specs.Shape as S
+use Rattle.core_term.specs.ShapeLaws.{Found, found, not-found, row-whole, row-none, row-end, row-stops, next-inside, row-more, row-less}
 
 -- words from a place on, as code hands them down
 abbrev pub rest : ℕ → List ℕ → List ℕ
 rest a s = take (length s - a) (drop a s)
 
 -- what is said of a known answer
-module _ (A : Asked (List ℕ)) (q : Bool) (e : List ℕ) (b : ℕ) (ws : List ℕ) (r : Checked) (s : Shaped A q e b ws r) where
+module _ (A : Asked (List ℕ)) (q : Bool) (e : List ℕ) (b : ℕ) (ws : List ℕ) (r : Checked) (s : S.Shaped A q e b ws r) where
   pub shaped-term : (used after : ℕ) → r ≡ C.Term used after → Whole A q e b ws used after
-  shaped-term used after h = subst (λ (z : Checked). Shaped A q e b ws z) h s
+  shaped-term used after h = subst (λ (z : Checked). S.Shaped A q e b ws z) h s
 
   pub shaped-none : r ≡ C.No → None A q e b ws
-  shaped-none h = subst (λ (z : Checked). Shaped A q e b ws z) h s
+  shaped-none h = subst (λ (z : Checked). S.Shaped A q e b ws z) h s
 
 pub kept-term : (r : Checked) (flags flags′ : List ℕ) (used after : ℕ) → Kept r flags flags′ → r ≡ C.Term used after → flags′ ≡ flags
 kept-term r flags flags′ used after k h = subst (λ (z : Checked). Kept z flags flags′) h k
 
-module _ (operations : ℕ) (nameGood : ℕ → Bool) (base : ℕ) (q : Bool) (e : List ℕ) (b : ℕ) (ws : List ℕ) where
+module _ (operations : ℕ) (nameGood : ℕ → Bool) (base : ℕ) where
   abbrev pub Asks : Asked (List ℕ)
   Asks = window operations nameGood base
 
-  -- the words begin with no node that may stand there
-  pub walk-none : H.No ≡ headOf Asks q e b (nodeAt ws) → None Asks q e b ws
-  walk-none = not-found Asks (allowed-node operations nameGood base) q e b ws
+  -- ---- a node, by what was opened
 
-  -- they are too few
-  pub walk-short : length ws < 2 → None Asks q e b ws
-  walk-short h t r d f w = omega (arith, encode-two t, ap length w ∙ length-append (encode t) r)
+  module _ (q : Bool) (e : List ℕ) (b : ℕ) (ws : List ℕ) (n : Node) (o : OpenedAs ws n) where
+    -- it may not stand there
+    pub walk-none : H.No ≡ headOf Asks q e b (nodeIn ws n) → None Asks q e b ws
+    walk-none h = not-found Asks (allowed-node operations nameGood base) q e b ws (h ∙ ap (headOf Asks q e b) (o .is))
 
-  pub record Walking (within : ℕ) (inner : Bool) (flags : List ℕ) (c at left : ℕ) : Type 0 where
-    pub marks : flags ≡ marked base b (within - b) 1 e
-    pub clear : Clear base c flags
-    pub going : Going Asks (allowed-node operations nameGood base) q e b ws inner flags c at left
+    module _ (within : ℕ) (h : H.Node within ≡ headOf Asks q e b (nodeIn ws n)) (s : Shape) (i : s ≡ shapeIn n) where
+      it : Found Asks (allowed-node operations nameGood base) q e b ws within
+      it = found Asks (allowed-node operations nameGood base) q e b ws within (h ∙ ap (headOf Asks q e b) (o .is))
 
-  -- the same walk at equal places
-  at-same : (x : Node) (inner : Bool) (flags : List ℕ) (c at left : ℕ) → inner ≡ isListNode x → flags ≡ Asks .enter e b x → c ≡ b + binds x → at ≡ length (nodeWords x) → left ≡ parts x
-      → Going Asks (allowed-node operations nameGood base) q e b ws (isListNode x) (Asks .enter e b x) (b + binds x) (length (nodeWords x)) (parts x)
-      → Going Asks (allowed-node operations nameGood base) q e b ws inner flags c at left
-  at-same x inner flags c at left h i j k l g = rw (h, i, j, k, l) g
+      shape : Shaped (it .it) s
+      shape = shaped-opened ws n o s i (it .it) (it .left) (it .is)
 
-  pub walk-start : (size n within : ℕ) (inner : Bool) (flags : List ℕ) → H.Node size n within inner ≡ headOf Asks q e b (nodeAt ws) → Clear base b e
-      → flags ≡ marked base b (within - b) 1 e → Walking within inner flags within size n
-  unfolding window
-  walk-start size n within inner flags h k m =
-      let f = found Asks (allowed-node operations nameGood base) q e b ws size n within inner h in
-      let i : within - b ≡ binds (f .it) = omega (arith, f .then) in
-      let u : flags ≡ marked base b (binds (f .it)) 1 e = m ∙ ap (λ (j : ℕ). marked base b j 1 e) i in
-      let g = going-start Asks (allowed-node operations nameGood base) q e b ws (f .it) (f .left) (f .is) (f .fits) (f .fine) in
-      record { marks = m; clear = rw (f .then, u) (marked-clear base b (binds (f .it)) e k); going = at-same (f .it) inner flags within size n (f .quotes) u (f .then) (f .own) (f .rest) g }
+      pub walk-within : within ≡ b + s .names
+      walk-within = omega (arith, it .then, shape .names)
 
-  module _ (within : ℕ) (inner : Bool) (flags : List ℕ) (c at left : ℕ) (w : Walking within inner flags c at left) where
-    pub walk-length : length flags ≡ length e
-    walk-length = ap length (w .marks) ∙ marked-length base b (within - b) 1 e
+      pub walk-own : (1 ≤ s .own) × (s .own ≤ length ws)
+      walk-own = (omega (arith, shape .own, node-some (it .it)), subst (λ (z : Shape). z .own ≤ length ws) (sym i) (o .room))
 
-    pub walk-end : left ≡ 0 → Whole Asks q e b ws at c
-    walk-end h = going-end Asks (allowed-node operations nameGood base) q e b ws inner flags c at left (w .going) h
+      -- its parts are said of the flags that its variables set
+      entered : marked base b (s .names) 1 e ≡ Asks .enter e b (it .it)
+      unfolding window
+      entered = ap (λ (j : ℕ). marked base b j 1 e) (shape .names)
 
-    pub walk-flags : Clear base b e → (flags′ : List ℕ) → flags′ ≡ marked base b (within - b) 0 flags → flags′ ≡ e
-    walk-flags k flags′ m = m ∙ ap (marked base b (within - b) 0) (w .marks) ∙ marked-undo base b (within - b) e k
+      pub walk-parts : (r : Checked) → InRow Asks (s .quoted) (marked base b (s .names) 1 e) within ws (s .own) (s .parts) r → S.Shaped Asks q e b ws r
+      walk-parts (C.Term used after) k =
+          row-whole Asks (allowed-node operations nameGood base) q e b ws within it s shape used after
+          (subst (λ (f : List ℕ). Row Asks (s .quoted) f within ws (s .own) (s .parts) used after) entered k)
+      walk-parts C.No k =
+          row-none Asks (allowed-node operations nameGood base) q e b ws within it s shape
+          (subst (λ (f : List ℕ). NoRow Asks (s .quoted) f within ws (s .own) (s .parts)) entered k)
 
-    pub walk-stop : 0 < left → None Asks inner flags c (rest at ws) → None Asks q e b ws
-    walk-stop h n =
-        going-none Asks (allowed-node operations nameGood base) q e b ws inner flags c at left (w .going) h
-        (subst (λ (z : List ℕ). None Asks inner flags c z) (rest-is at ws) n)
+      -- it has none
+      pub walk-leaf : s .parts ≡ 0 → Whole Asks q e b ws (s .own) within
+      walk-leaf z =
+          let f = marked base b (s .names) 1 e in
+          walk-parts (C.Term (s .own) within)
+          (subst (λ (j : ℕ). Row Asks (s .quoted) f within ws (s .own) j (s .own) within) (sym z)
+          (row-end Asks (allowed-node operations nameGood base) (s .quoted) f ws within (s .own)))
 
-    module _ (used after : ℕ) (t : Whole Asks inner flags c (rest at ws) used after) where
-      part : Whole Asks inner flags c (drop at ws) used after
-      part = subst (λ (z : List ℕ). Whole Asks inner flags c z used after) (rest-is at ws) t
+  -- ---- terms in a row
 
-      pub walk-next : at + used ≤ length ws
-      walk-next = next-inside Asks (allowed-node operations nameGood base) q e b ws inner flags c at left (w .going) used after part
+  module _ (d : Bool) (set : List ℕ) (first : ℕ) (ws : List ℕ) (own n : ℕ) where
+    -- a row from here on is the whole row
+    pub record Walking (flags : List ℕ) (c at left : ℕ) : Type 0 where
+      pub same : flags ≡ set
+      pub clear : Clear base c flags
+      pub inside : at ≤ length ws
+      pub begun : 1 ≤ at
+      pub whole : (used after : ℕ) → Row Asks d set c ws at left used after → Row Asks d set first ws own n used after
+      pub none : NoRow Asks d set c ws at left → NoRow Asks d set first ws own n
 
-      pub walk-on : 0 < left → (flags′ : List ℕ) → flags′ ≡ flags → Walking within inner flags′ after (at + used) (left - 1)
-      walk-on h flags′ i =
-          subst (λ (z : List ℕ). Walking within inner z after (at + used) (left - 1)) (sym i)
-          (record {
-            marks = w .marks;
-            clear = λ k l m. w .clear k (omega (arith, t .bound)) m;
-            going = going-on Asks (allowed-node operations nameGood base) q e b ws inner flags c at left (w .going) used after part h;
-          })
+    pub walk-start : (flags : List ℕ) → flags ≡ set → Clear base first flags → own ≤ length ws → 1 ≤ own → Walking flags first own n
+    walk-start flags e k l m = record { same = e; clear = k; inside = l; begun = m; whole = λ used after r. r; none = λ r. r }
 
-  -- a leaf is a whole term, where it may stand there
-  module _ (may : Bool) (h : leafHead b may ≡ headOf Asks q e b (nodeAt ws)) where
-    pub leaf-whole : may ≡ true → Clear base b e → Whole Asks q e b ws 2 b
-    unfolding marked
-    leaf-whole y k =
-        let i : b - b ≡ 0 = omega arith in
-        let m : e ≡ marked base b (b - b) 1 e = rw i in
-        walk-end b false e b 2 0 (walk-start 2 0 b false e (leaf-yes b may _ h y) k m) refl
+    module _ (flags : List ℕ) (c at left : ℕ) (w : Walking flags c at left) where
+      pub walk-end : left ≡ 0 → Row Asks d set first ws own n at c
+      walk-end h = w .whole at c (subst (λ (i : ℕ). Row Asks d set c ws at i at c) (sym h) (row-end Asks (allowed-node operations nameGood base) d set ws c at))
 
-    pub leaf-none : may ≡ false → None Asks q e b ws
-    leaf-none n = walk-none (leaf-no b may _ h n)
+      pub walk-stop : 0 < left → None Asks d flags c (rest at ws) → NoRow Asks d set first ws own n
+      walk-stop h k =
+          w .none (row-stops Asks (allowed-node operations nameGood base) d set ws c at left h
+          (subst (λ (z : List ℕ). None Asks d set c z) (rest-is at ws) (subst (λ (f : List ℕ). None Asks d f c (rest at ws)) (w .same) k)))
 
--- ---- from the flags that a lambda has set, which are all that is left of those before
+      module _ (used after : ℕ) (t : Whole Asks d flags c (rest at ws) used after) (h : 0 < left) where
+        part : Whole Asks d set c (drop at ws) used after
+        part = subst (λ (z : List ℕ). Whole Asks d set c z used after) (rest-is at ws) (subst (λ (f : List ℕ). Whole Asks d f c (rest at ws) used after) (w .same) t)
 
-module _ (operations : ℕ) (nameGood : ℕ → Bool) (base : ℕ) (q : Bool) (e : List ℕ) (b : ℕ) (ws : List ℕ) (within : ℕ) (inner : Bool) (set : List ℕ)
-    (m : set ≡ marked base b (within - b) 1 e) (k : Clear base b e) where
-  before : marked base b (within - b) 0 set ≡ e
-  before = ap (marked base b (within - b) 0) m ∙ marked-undo base b (within - b) e k
+        pub walk-next : at + used ≤ length ws
+        walk-next = next-inside Asks (allowed-node operations nameGood base) d set ws c at left h used after part (w .inside)
 
-  pub walk-begin : (size n : ℕ) → H.Node size n within inner ≡ headOf (window operations nameGood base) q e b (nodeAt ws)
-      → Walking operations nameGood base q (marked base b (within - b) 0 set) b ws within inner set within size n
-  walk-begin size n h =
-      subst (λ (z : List ℕ). Walking operations nameGood base q z b ws within inner set within size n) (sym before)
-      (walk-start operations nameGood base q e b ws size n within inner set h k m)
+        pub walk-on : (flags′ : List ℕ) → flags′ ≡ flags → Walking flags′ after (at + used) (left - 1)
+        walk-on flags′ i =
+            record {
+              same = i ∙ w .same;
+              clear = subst (λ (z : List ℕ). Clear base after z) (sym i) (λ k l m. w .clear k (omega (arith, t .bound)) m);
+              inside = walk-next;
+              begun = omega (arith, w .begun);
+              whole = λ end last r. w .whole end last (row-more Asks (allowed-node operations nameGood base) d set ws c at left h used after part end last r);
+              none = λ r. w .none (row-less Asks (allowed-node operations nameGood base) d set ws c at left h used after part r);
+            }
 
-  pub walk-back : (flags : List ℕ) (c at left : ℕ) → Walking operations nameGood base q (marked base b (within - b) 0 set) b ws within inner flags c at left
-      → Walking operations nameGood base q e b ws within inner flags c at left
-  walk-back flags c at left w = subst (λ (z : List ℕ). Walking operations nameGood base q z b ws within inner flags c at left) before w
+-- ---- the flags that a lambda sets, and clears again
+
+module _ (base b within n : ℕ) (e set : List ℕ) (h : within ≡ b + n) (k : Clear base b e) (m : set ≡ marked base b (within - b) 1 e) where
+  set-is : set ≡ marked base b n 1 e
+  set-is = let i : within - b ≡ n = omega arith in m ∙ ap (λ (j : ℕ). marked base b j 1 e) i
+
+  pub set-row : (A : Asked (List ℕ)) (d : Bool) (c : ℕ) (ws : List ℕ) (at left : ℕ) (r : Checked) → InRow A d set c ws at left r → InRow A d (marked base b n 1 e) c ws at left r
+  set-row A d c ws at left r k = subst (λ (f : List ℕ). InRow A d f c ws at left r) set-is k
+
+  pub set-clear : Clear base within set
+  set-clear = rw (h, set-is) (marked-clear base b n e k)
+
+  pub set-undone : (flags flags′ : List ℕ) → flags ≡ set → flags′ ≡ marked base b (within - b) 0 flags → flags′ ≡ e
+  set-undone flags flags′ i j = j ∙ ap (marked base b (within - b) 0) (i ∙ m) ∙ marked-undo base b (within - b) e k

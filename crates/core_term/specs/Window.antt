@@ -11,7 +11,7 @@ use Rattle.datum.specs.Constant.{isConstant}
 use Rattle.datum.specs.NameTable.{hasName}
 use Rattle.core_term.specs.declared.head.Head.{Head}
 use Rattle.core_term.specs.declared.head.Head.the-variants as H
-use Rattle.core_term.specs.Node.{Node, nodeWords, parts, binds, isDatumNode, isListNode, Got, got, missing, variableN, operationN, constantN, nameN, listN, ifN, lambdaN, applicationN}
+use Rattle.core_term.specs.Node.{Node, binds, isDatumNode, Got, got, missing, variableN, operationN, constantN, nameN, listN, ifN, lambdaN, applicationN}
 use Rattle.core_term.specs.Every.{Asked}
 use Rattle.core_term.specs.Check.{small}
 
@@ -51,12 +51,11 @@ allowed operations nameGood base flags b (applicationN n) = true
 unfoldable pub window : ℕ → (ℕ → Bool) → ℕ → Asked (List ℕ)
 window operations nameGood base = record { test = allowed operations nameGood base; enter = λ flags b x. marked base b (binds x) 1 flags }
 
--- what the checker finds at the beginning of words; quoted wants a datum
+-- whether a node may stand, by a test, and how many variables are bound behind it
+unfoldable pub stands : Bool → ℕ → Head
+stands may within = cond may (H.Node within) H.No
+
+-- the same of a node that was read; quoted wants a datum
 unfoldable pub headOf : Asked (List ℕ) → Bool → List ℕ → ℕ → Got Node → Head
 headOf A quoted flags b missing = H.No
-headOf A quoted flags b (got x left) =
-    cond ((isDatumNode x || not quoted) && A .test flags b x) (H.Node (length (nodeWords x)) (parts x) (b + binds x) (isListNode x)) H.No
-
--- the same of a leaf, which has two words and no parts
-unfoldable pub leafHead : ℕ → Bool → Head
-leafHead b may = cond may (H.Node 2 0 b false) H.No
+headOf A quoted flags b (got x left) = stands ((isDatumNode x || not quoted) && A .test flags b x) (b + binds x)

@@ -2,8 +2,9 @@
 // Its definition is termOf of specs/Check.antt; isTerm says whether there is one, countedOf how many variables it binds.
 pub mod codes; // codes of nodes
 mod flags; // the variables that are in scope
-mod head; // a node's own words
-pub mod nodes; // one function opens a node
+mod head; // whether a node may stand where it stands
+pub mod nodes; // nodes, opened, and their shapes
+mod read; // a node by its code
 mod term; // a term's words
 
 ghost use mathlib.Core.Path.{_≡_};
@@ -14,6 +15,7 @@ ghost use Rattle.core_term.specs.Check.{termOf, isTerm, small};
 ghost use Rattle.core_term.specs.Counted.{countedOf};
 ghost use Rattle.core_term.specs.Window.{goodName};
 ghost use Rattle.core_term.specs.Windows.{noFlags};
+use head::Walk;
 use head::name_good;
 use term::Checked;
 use term::term;
@@ -45,8 +47,12 @@ fn every_window(
     if operations > OPERATIONS {
         return Counted::NoTerm;
     }
-    let Checked::Term(used, variables) = term(words, operations, names, tabled, 0, 0, flags, false)
-    else {
+    let first = Walk {
+        operations: operations,
+        tabled: tabled,
+        base: 0,
+    };
+    let Checked::Term(used, variables) = term(words, names, flags, first, 0, false) else {
         return Counted::NoTerm;
     };
     if used != words.len() {
@@ -56,16 +62,12 @@ fn every_window(
     let mut base = 0;
     while variables - base > window {
         base = base + window;
-        let Checked::Term(again, bound) = term(
-            words,
-            operations,
-            names,
-            tabled,
-            0,
-            base,
-            flags,
-            false,
-        ) else {
+        let next = Walk {
+            operations: operations,
+            tabled: tabled,
+            base: base,
+        };
+        let Checked::Term(again, bound) = term(words, names, flags, next, 0, false) else {
             return Counted::NoTerm;
         };
     }

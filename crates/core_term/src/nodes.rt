@@ -1,13 +1,9 @@
-// The node at the beginning of words: its code and what stands with it. Nothing else reads codes.
+// The nodes of a core term, opened, and their shapes.
 ghost use mathlib.Core.Path.{_≡_};
-ghost use Prim.Native.Nat.{_≤_};
-ghost use lib.ListN.{length, getD};
-ghost use Rattle.core_term.specs.Node.{nodeAt, booleanCode, lambdaCode, decimalCode};
-ghost use Rattle.core_term.specs.Opened.{nodeIn};
-use crate::codes;
+ghost use Rattle.core_term.specs.Node.{nodeAt};
+ghost use Rattle.core_term.specs.Opened.{nodeIn, shapeBy, shapeIn, ShapedAt};
 use crate::head::wide;
-use words::FORMALS;
-use words::PLACES;
+use crate::read::read;
 
 // A lambda's first variable and their count, its names behind them; a decimal's value and places.
 pub enum Node {
@@ -24,91 +20,54 @@ pub enum Node {
     None,
 }
 
-fn boolean(words: &[u32]) -> Node
-    requires { ⌜ (2 ≤ length (now words)) × (getD (now words) 0 0 ≡ booleanCode) ⌝ }
-    ensures { λ r. ⌜ nodeIn (now (words .entry)) r ≡ nodeAt (now (words .entry)) ⌝ }
-{
-    let a = words[1];
-    if a > 1 {
-        return Node::None;
-    }
-    Node::Boolean(a)
-}
-
-fn decimal(words: &[u32]) -> Node
-    requires { ⌜ getD (now words) 0 0 ≡ decimalCode ⌝ }
-    ensures { λ r. ⌜ nodeIn (now (words .entry)) r ≡ nodeAt (now (words .entry)) ⌝ }
-{
-    if words.len() < 3 {
-        return Node::None;
-    }
-    let places = words[2];
-    if places < 1 {
-        return Node::None;
-    }
-    if places > PLACES {
-        return Node::None;
-    }
-    Node::Decimal(words[1], places)
-}
-
-fn lambda(words: &[u32]) -> Node
-    requires { ⌜ getD (now words) 0 0 ≡ lambdaCode ⌝ }
-    ensures { λ r. ⌜ nodeIn (now (words .entry)) r ≡ nodeAt (now (words .entry)) ⌝ }
-{
-    if words.len() < 3 {
-        return Node::None;
-    }
-    let count = words[2];
-    if words.len() - 3 < wide(count) {
-        return Node::None;
-    }
-    if count > FORMALS {
-        return Node::None;
-    }
-    Node::Lambda(words[1], count)
-}
-
+// The node at the beginning of words.
 pub fn opened(words: &[u32]) -> Node
     ensures { λ r. ⌜ nodeIn (now (words .entry)) r ≡ nodeAt (now (words .entry)) ⌝ }
 {
-    if words.len() == 0 {
-        return Node::None;
+    read(words)
+}
+
+// How many words a node has of its own, how many of them, the last, are names of variables, how many terms follow, and
+// whether these are data (quoted).
+pub struct Shape {
+    pub own: usize,
+    pub names: usize,
+    pub parts: usize,
+    pub quoted: bool,
+}
+
+fn shaped(own: usize, names: usize, parts: usize, quoted: bool) -> Shape
+    ensures { λ r. ⌜ r ≡ shapeBy own names parts quoted ⌝ }
+{
+    Shape {
+        own: own,
+        names: names,
+        parts: parts,
+        quoted: quoted,
     }
-    let code = words[0];
-    if code == codes::IF {
-        return Node::If;
+}
+
+pub fn shape_of(node: Node) -> Shape
+    ensures { λ r. ⌜ r ≡ shapeIn node ⌝ }
+{
+    match node {
+        Node::Variable(_) => shaped(2, 0, 0, false),
+        Node::Operation(_) => shaped(2, 0, 0, false),
+        Node::Integer(_) => shaped(2, 0, 0, false),
+        Node::Boolean(_) => shaped(2, 0, 0, false),
+        Node::Decimal(_, _) => shaped(3, 0, 0, false),
+        Node::Name(_) => shaped(2, 0, 0, false),
+        Node::List(count) => shaped(2, 0, wide(count), true),
+        Node::If => shaped(1, 0, 3, false),
+        Node::Lambda(_, count) => shaped(3 + wide(count), wide(count), 1, false),
+        Node::Application(count) => shaped(2, 0, wide(count) + 1, false),
+        Node::None => shaped(0, 0, 0, false),
     }
-    if code == codes::LAMBDA {
-        return lambda(words);
-    }
-    if code == codes::DECIMAL {
-        return decimal(words);
-    }
-    if words.len() < 2 {
-        return Node::None;
-    }
-    if code == codes::BOOLEAN {
-        return boolean(words);
-    }
-    let a = words[1];
-    if code == codes::VARIABLE {
-        return Node::Variable(a);
-    }
-    if code == codes::OPERATION {
-        return Node::Operation(a);
-    }
-    if code == codes::INTEGER {
-        return Node::Integer(a);
-    }
-    if code == codes::NAME {
-        return Node::Name(a);
-    }
-    if code == codes::LIST {
-        return Node::List(a);
-    }
-    if code == codes::APPLICATION {
-        return Node::Application(a);
-    }
-    Node::None
+}
+
+// The shape of the node at the beginning of words.
+pub fn shape_at(words: &[u32]) -> Shape
+    ensures { λ r. ⌜ ShapedAt (now (words .entry)) r ⌝ }
+{
+    shape_of(read(words))
 }

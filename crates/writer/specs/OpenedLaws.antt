@@ -18,7 +18,7 @@ use Rattle.datum.specs.ConstantLaws.{constant-case}
 use Rattle.core_term.specs.Node.{variableCode, operationCode, integerCode, booleanCode, nameCode, listCode, ifCode, lambdaCode, applicationCode, decimalCode, Node, nodeWords, got, missing, nodeAt, sound, isNode, variableN, operationN, constantN, nameN, listN, ifN, lambdaN, applicationN}
 use Rattle.core_term.specs.NodeLaws.{both, node-read}
 use Rattle.core_term.specs.WindowLaws.{case}
-use Rattle.core_term.specs.HeadLaws.{at-none, at-past, short-missing, lambda-short, lambda-cut, decimal-short, variable-at, operation-at, integer-at, boolean-at, name-at, list-at, if-at, lambda-at, application-at, decimal-at, namesAt}
+use Rattle.core_term.specs.CodeLaws.{at-none, at-past, short-missing, lambda-short, lambda-cut, decimal-short, variable-at, operation-at, integer-at, boolean-at, name-at, list-at, if-at, lambda-at, application-at, decimal-at, namesAt}
 use Rattle.words.specs.Text.{bytes}
 use Rattle.core_term.specs.Decimal.{decimal, integerText, decimalText}
 use Rattle.core_term.specs.Text.{variableText, operationText, constantText}
@@ -154,11 +154,11 @@ module _ (ws : List ℕ) (x : Node) (r : List ℕ) (is : nodeAt ws ≡ got x r) 
     pub opens-quoted : getD ws 0 0 ≡ listCode → inner ≡ false → 40 ∷ 113 ∷ 117 ∷ 111 ∷ 116 ∷ 101 ∷ 32 ∷ 40 ∷ [] ≡ opening said inner x
     opens-quoted e h = sym (list-quoted said inner (getD ws 1 0) h) ∙ ap (opening said inner) (sym (is-list e))
 
-    pub opens-if : getD ws 0 0 ≡ ifCode → 40 ∷ 105 ∷ 102 ∷ [] ≡ opening said inner x
+    pub opens-if : getD ws 0 0 ≡ ifCode → 40 ∷ 105 ∷ 102 ∷ 32 ∷ [] ≡ opening said inner x
     unfolding opening bytes
     opens-if e = rw (is-if e)
 
-    pub opens-lambda : getD ws 0 0 ≡ lambdaCode → bytes "(lambda (" ++ (formalsText said false (getD ws 1 0) (getD ws 2 0) ++ bytes ")") ≡ opening said inner x
+    pub opens-lambda : getD ws 0 0 ≡ lambdaCode → bytes "(lambda (" ++ (formalsText said false (getD ws 1 0) (getD ws 2 0) ++ bytes ") ") ≡ opening said inner x
     unfolding opening
     opens-lambda e = rw (is-lambda e, names-count e)
 
@@ -250,5 +250,5 @@ unfolding spelled
 naming-slot said count n g h = all-at (hasName (said .table)) (said .called) n (g .slots) (omega (arith, g .many))
 
 -- an equal lambda opens equally
-pub lambda-same : (said : Said) (a b m n : ℕ) → a ≡ b → m ≡ n → bytes "(lambda (" ++ (formalsText said false a m ++ bytes ")") ≡ bytes "(lambda (" ++ (formalsText said false b n ++ bytes ")")
+pub lambda-same : (said : Said) (a b m n : ℕ) → a ≡ b → m ≡ n → bytes "(lambda (" ++ (formalsText said false a m ++ bytes ") ") ≡ bytes "(lambda (" ++ (formalsText said false b n ++ bytes ") ")
 lambda-same said a b m n p q = rw (p, q)

@@ -20,17 +20,6 @@ unfoldable pub formalsText : Said → Bool → ℕ → ℕ → List ℕ
 formalsText said wanted first zero = []
 formalsText said wanted first (suc n) = gapText wanted ++ (variableText (spellOf said) (said .called) first ++ formalsText said true (suc first) n)
 
--- a space comes before the first part
-unfoldable pub gapFirst : Node → Bool
-gapFirst (variableN n) = false
-gapFirst (operationN n) = false
-gapFirst (constantN a) = false
-gapFirst (nameN n) = false
-gapFirst (listN n) = false
-gapFirst ifN = true
-gapFirst (lambdaN first names) = true
-gapFirst (applicationN n) = false
-
 -- what closes a node; inner is inside quote
 unfoldable pub closing : Bool → Node → List ℕ
 closing inner (variableN n) = []
@@ -50,8 +39,8 @@ module _ (said : Said) where
   opening inner (constantN a) = constantText a
   opening inner (nameN n) = cond inner (spellOf said n) (bytes "(quote " ++ (spellOf said n ++ bytes ")"))
   opening inner (listN n) = cond inner (bytes "(") (bytes "(quote (")
-  opening inner ifN = bytes "(if"
-  opening inner (lambdaN first names) = bytes "(lambda (" ++ (formalsText said false first (length names) ++ bytes ")")
+  opening inner ifN = bytes "(if "
+  opening inner (lambdaN first names) = bytes "(lambda (" ++ (formalsText said false first (length names) ++ bytes ") ")
   opening inner (applicationN n) = bytes "("
 
   -- a datum inside quote

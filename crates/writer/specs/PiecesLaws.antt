@@ -15,7 +15,7 @@ use Rattle.core_term.specs.Text.{variableText, spacedAfter, spaced, parenthesiz
 use Rattle.core_term.specs.Text as Text
 use Rattle.writer.specs.Called.{Said, spellOf}
 use Rattle.core_term.specs.Parts.{datumNode, node, quoted, datumParts, partsOf, isDatum}
-use Rattle.writer.specs.Pieces.{gapText, formalsText, gapFirst, closing, opening, within, textIn, partsText}
+use Rattle.writer.specs.Pieces.{gapText, formalsText, closing, opening, within, textIn, partsText}
 
 -- ---- variables
 
@@ -70,10 +70,10 @@ module _ (said : Said) where
   -- ---- a node, its parts, and its end
 
   abbrev Pieces : Bool → Plain → List ℕ
-  Pieces inner t = opening said inner (node t) ++ (partsText said (isListNode (node t)) (gapFirst (node t)) (partsOf t) ++ closing inner (node t))
+  Pieces inner t = opening said inner (node t) ++ (partsText said (isListNode (node t)) false (partsOf t) ++ closing inner (node t))
 
   text-pieces : (t : Plain) → textOf t ≡ Pieces false t
-  unfolding Text.textIn outermost bare node datumNode partsOf datumParts opening closing isListNode gapFirst spacedAfter partsText textIn gapText bytes
+  unfolding Text.textIn outermost bare node datumNode partsOf datumParts opening closing isListNode spacedAfter partsText textIn gapText bytes
   text-pieces (variableC n) = sym (append-nil _)
   text-pieces (operationC n) = sym (append-nil _)
   text-pieces (datumC (constantD a)) = sym (append-nil _)
@@ -84,7 +84,7 @@ module _ (said : Said) where
   text-pieces (applicationC h ts) = rw (list-cons, terms-after (textOf h) ts)
 
   bare-pieces : (d : Datum) → bare spell d ≡ Pieces true (datumC d)
-  unfolding bare node datumNode partsOf datumParts opening closing isListNode gapFirst bytes partsText
+  unfolding bare node datumNode partsOf datumParts opening closing isListNode bytes partsText
   bare-pieces (constantD a) = sym (append-nil _)
   bare-pieces (nameD n) = sym (append-nil _)
   bare-pieces (listD ds) = list-data ds
@@ -143,6 +143,6 @@ module _ (said : Said) (inner : Bool) where
   unfolding opening bytes
   list-quoted n h = rw h
 
-pub lambda-bytes : (said : Said) (first n : ℕ) → bytes "(lambda (" ++ (formalsText said false first n ++ bytes ")") ≡ (40 ∷ 108 ∷ 97 ∷ 109 ∷ 98 ∷ 100 ∷ 97 ∷ 32 ∷ 40 ∷ []) ++ (formalsText said false first n ++ (41 ∷ []))
+pub lambda-bytes : (said : Said) (first n : ℕ) → bytes "(lambda (" ++ (formalsText said false first n ++ bytes ") ") ≡ (40 ∷ 108 ∷ 97 ∷ 109 ∷ 98 ∷ 100 ∷ 97 ∷ 32 ∷ 40 ∷ []) ++ (formalsText said false first n ++ (41 ∷ 32 ∷ []))
 unfolding bytes
 lambda-bytes said first n = refl

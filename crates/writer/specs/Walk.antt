@@ -3,8 +3,7 @@ use mathlib.Core.Path.{_≡_}
 use mathlib.Core.Bool.{Bool, true, _&&_}
 use mathlib.Core.List.{List, _++_}
 use Prim.Native.Nat.{ℕ}
-use lib.ListN.{length}
-use Rattle.core_term.specs.Node.{Node, nodeWords, parts, isNode, isListNode}
+use Rattle.core_term.specs.Node.{isNode}
 use Rattle.core_term.specs.Term.{Plain}
 use Rattle.core_term.specs.Words.{encode}
 use Rattle.core_term.specs.Every.{Asked, every}
@@ -12,18 +11,9 @@ use Rattle.core_term.specs.Parts.{isDatum}
 use Rattle.writer.specs.Put as P
 use Rattle.writer.specs.declared.term.Step.{Step}
 use Rattle.writer.specs.declared.term.Step.the-variants as S
-use Rattle.writer.specs.declared.shapes.Shape.{Shape}
 use Rattle.writer.specs.Laid.{Left}
 use Rattle.writer.specs.Called.{Said}
-use Rattle.writer.specs.Pieces.{gapFirst}
 use Rattle.writer.specs.Opened.{named}
-
--- what a node says of its words
-pub record Shaped (x : Node) (s : Shape) : Type 0 where
-  pub own : s .own ≡ length (nodeWords x)
-  pub rest : s .parts ≡ parts x
-  pub gap : s .wanted ≡ gapFirst x
-  pub inner : s .quoted ≡ isListNode x
 
 -- every node is one, and its name has a slot
 unfoldable pub spelling : Said → Asked (Unit {0})

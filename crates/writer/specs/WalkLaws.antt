@@ -1,15 +1,14 @@
--- Laws of the walk: a node's shape, then its parts one after another.
+-- Laws of the walk: a node, then its parts one after another.
 use mathlib.Core.Path.{_≡_, refl, sym, ap, subst, _∙_}
 use mathlib.Core.Bool.{Bool, true, false, _&&_}
 use mathlib.Core.List.{List, [], _++_, append-assoc, append-nil}
 use Prim.Native.Nat.{ℕ, suc, _+_, _-_, _≤_, _<_}
 use native.Mathlib.Omega.{arith}
-use native.Mathlib.Numerals.{add-one}
 use lib.ListN.{length, getD, take, drop, length-append, length-drop}
 use lib.Seq.{drop-append-seam, drop-at, drop-drop}
-use Rattle.datum.specs.Constant.{decimalKind, constantWords, decimal}
+use Rattle.datum.specs.Constant.{decimalKind}
 use Rattle.datum.specs.ConstantLaws.{words-decimal, words-other}
-use Rattle.core_term.specs.Node.{listCode, ifCode, lambdaCode, applicationCode, decimalCode, Node, got, nodeAt, nodeWords, parts, binds, isNode, isListNode, variableN, operationN, constantN, nameN, listN, ifN, lambdaN, applicationN}
+use Rattle.core_term.specs.Node.{listCode, Node, got, nodeAt, nodeWords, parts, binds, isNode, isListNode, variableN, operationN, constantN, nameN, listN, ifN, lambdaN, applicationN}
 use Rattle.core_term.specs.NodeLaws.{both, node-round, node-some, node-read}
 use Rattle.core_term.specs.Term.{noneC, moreC, Plain, Plains, count, variables}
 use Rattle.core_term.specs.Words.{encode, encodeAll}
@@ -23,91 +22,31 @@ use Rattle.writer.specs.Put.{Put}
 use Rattle.writer.specs.Put as P
 use Rattle.writer.specs.declared.term.Step.{Step}
 use Rattle.writer.specs.declared.term.Step.the-variants as S
-use Rattle.writer.specs.declared.shapes.Shape.{Shape}
+use Rattle.core_term.specs.declared.nodes.Shape.{Shape}
+use Rattle.core_term.specs.Opened.{shapeBy, Shaped}
 use Rattle.writer.specs.Laid.{Left}
 use Rattle.writer.specs.LaidLaws.{left-done, left-full, left-then, left-is, left-none}
-use Rattle.writer.specs.Pieces.{gapText, gapFirst, opening, closing, textIn, partsText}
+use Rattle.writer.specs.Pieces.{gapText, opening, closing, textIn, partsText}
 use Rattle.writer.specs.PiecesLaws.{pieces}
-use Rattle.writer.specs.Called.{Said, NodeHere}
+use Rattle.writer.specs.Called.{Said}
 use Rattle.writer.specs.Opened.{named, Opened}
-use Rattle.writer.specs.OpenedLaws.{code-is, closes-leaf, is-list, is-if, is-lambda, names-count, is-application, is-decimal}
-use Rattle.writer.specs.Walk.{Shaped, spelling, Fits, Begins, Walked, walked, stopped}
+use Rattle.writer.specs.OpenedLaws.{code-is, closes-leaf}
+use Rattle.writer.specs.Walk.{spelling, Fits, Begins, Walked, walked, stopped}
 
--- ---- shapes
+-- ---- the shape of a leaf
 
-unfoldable pub shape : ℕ → ℕ → Bool → Bool → Shape
-shape own n wanted inner = record { own = own; parts = n; wanted = wanted; quoted = inner }
-
-leaf-shape : (x : Node) (r : List ℕ) → getD (nodeWords x ++ r) 0 0 < listCode → Shaped x (shape 2 0 false false)
-unfolding shape nodeWords parts gapFirst isListNode
-leaf-shape (variableN n) r h = record { own = refl; rest = refl; gap = refl; inner = refl }
-leaf-shape (operationN n) r h = record { own = refl; rest = refl; gap = refl; inner = refl }
+leaf-shape : (x : Node) (r : List ℕ) → getD (nodeWords x ++ r) 0 0 < listCode → Shaped x (shapeBy 2 0 0 false)
+unfolding shapeBy nodeWords parts binds isListNode
+leaf-shape (variableN n) r h = record { own = refl; names = refl; rest = refl; inner = refl }
+leaf-shape (operationN n) r h = record { own = refl; names = refl; rest = refl; inner = refl }
 leaf-shape (constantN a) r h =
     let n : a .kind ≡ decimalKind → ⊥ = λ e. omega (arith, ap (λ (l : List ℕ). getD (l ++ r) 0 0) (words-decimal a e)) in
-    record { own = ap length (sym (words-other a n)); rest = refl; gap = refl; inner = refl }
-leaf-shape (nameN n) r h = record { own = refl; rest = refl; gap = refl; inner = refl }
+    record { own = ap length (sym (words-other a n)); names = refl; rest = refl; inner = refl }
+leaf-shape (nameN n) r h = record { own = refl; names = refl; rest = refl; inner = refl }
 leaf-shape (listN n) r h = absurd (omega arith)
 leaf-shape ifN r h = absurd (omega arith)
 leaf-shape (lambdaN first names) r h = absurd (omega arith)
 leaf-shape (applicationN n) r h = absurd (omega arith)
-
--- a node of another code than if, lambda and decimal
-two-own : (x : Node) (r : List ℕ) → (getD (nodeWords x ++ r) 0 0 ≡ ifCode → ⊥) → (getD (nodeWords x ++ r) 0 0 ≡ lambdaCode → ⊥) → (getD (nodeWords x ++ r) 0 0 ≡ decimalCode → ⊥)
-    → (2 ≡ length (nodeWords x)) × (0 ≡ binds x)
-unfolding nodeWords binds
-two-own (variableN n) r a b c = (refl, refl)
-two-own (operationN n) r a b c = (refl, refl)
-two-own (constantN k) r a b c = (ap length (sym (words-other k (λ e. c (ap (λ (l : List ℕ). getD (l ++ r) 0 0) (words-decimal k e))))), refl)
-two-own (nameN n) r a b c = (refl, refl)
-two-own (listN n) r a b c = (refl, refl)
-two-own ifN r a b c = absurd (a refl)
-two-own (lambdaN first names) r a b c = absurd (b refl)
-two-own (applicationN n) r a b c = (refl, refl)
-
-module _ (ws : List ℕ) (x : Node) (r : List ℕ) (is : nodeAt ws ≡ got x r) where
-  pub shaped-if : getD ws 0 0 ≡ ifCode → Shaped x (shape 1 3 true false)
-  unfolding shape nodeWords parts gapFirst isListNode
-  shaped-if e = rw (is-if ws x r is e) (record { own = refl; rest = refl; gap = refl; inner = refl })
-
-  pub shaped-lambda : (n : ℕ) → n ≡ getD ws 2 0 → getD ws 0 0 ≡ lambdaCode → Shaped x (shape (3 + n) 1 true false)
-  unfolding shape nodeWords parts gapFirst isListNode
-  shaped-lambda n h e = rw (is-lambda ws x r is e) (record { own = omega (arith, h, names-count ws x r is e); rest = refl; gap = refl; inner = refl })
-
-  pub shaped-leaf : getD ws 0 0 < listCode → Shaped x (shape 2 0 false false)
-  shaped-leaf h = leaf-shape x r (omega (arith, code-is ws x r is))
-
-  pub shaped-list : (n : ℕ) → n ≡ getD ws 1 0 → getD ws 0 0 ≡ listCode → Shaped x (shape 2 n false true)
-  unfolding shape nodeWords parts gapFirst isListNode
-  shaped-list n h e = rw (is-list ws x r is e) (record { own = refl; rest = h; gap = refl; inner = refl })
-
-  pub shaped-application : (n : ℕ) → n ≡ getD ws 1 0 → getD ws 0 0 ≡ applicationCode → Shaped x (shape 2 (n + 1) false false)
-  unfolding shape nodeWords parts gapFirst isListNode
-  shaped-application n h e = rw (is-application ws x r is e) (record { own = refl; rest = add-one n ∙ ap suc h; gap = refl; inner = refl })
-
-  pub shaped-decimal : getD ws 0 0 ≡ decimalCode → Shaped x (shape 3 0 false false)
-  unfolding shape nodeWords parts gapFirst isListNode constantWords decimal
-  shaped-decimal e = rw (is-decimal ws x r is e) (record { own = refl; rest = refl; gap = refl; inner = refl })
-
--- ---- a node's own words
-
-module _ (ws : List ℕ) (x : Node) (r : List ℕ) (is : nodeAt ws ≡ got x r) where
-  abbrev OwnIs : ℕ → ℕ → Type 0
-  OwnIs size names = (size ≡ length (nodeWords x)) × (names ≡ binds x)
-
-  pub own-if : getD ws 0 0 ≡ ifCode → OwnIs 1 0
-  unfolding nodeWords binds
-  own-if e = rw (is-if ws x r is e) (refl, refl)
-
-  pub own-lambda : (n : ℕ) → n ≡ getD ws 2 0 → getD ws 0 0 ≡ lambdaCode → OwnIs (3 + n) n
-  unfolding nodeWords binds
-  own-lambda n h e = let c = names-count ws x r is e in rw (is-lambda ws x r is e) (omega (arith, h, c), omega (arith, h, c))
-
-  pub own-decimal : getD ws 0 0 ≡ decimalCode → OwnIs 3 0
-  unfolding nodeWords binds constantWords decimal
-  own-decimal e = rw (is-decimal ws x r is e) (refl, refl)
-
-  pub own-other : (getD ws 0 0 ≡ ifCode → ⊥) → (getD ws 0 0 ≡ lambdaCode → ⊥) → (getD ws 0 0 ≡ decimalCode → ⊥) → OwnIs 2 0
-  own-other a b c = two-own x r (λ e. a (code-is ws x r is ∙ e)) (λ e. b (code-is ws x r is ∙ e)) (λ e. c (code-is ws x r is ∙ e))
 
 -- ---- answers and rows of terms
 
@@ -182,9 +121,6 @@ module _ (names : Said) where
         let x = node (b .term) in
         record { it = x; left = encodeAll (partsOf (b .term)) ++ b .rest; is = begins-node; fits = both (isNode x) (named names x) (both (isNode x && named names x) _ node-fine .0) .1 }
 
-    pub begins-here : NodeHere ws
-    begins-here = record { it = node (b .term); left = encodeAll (partsOf (b .term)) ++ b .rest; is = begins-node }
-
   -- ---- its parts
 
   module _ (inner ink quoted : Bool) (ws : List ℕ) (opened : ℕ) (d : List ℕ) where
@@ -201,10 +137,10 @@ module _ (names : Said) where
       pub size : from + length (encodeAll todo) ≡ length (encode (whole .term))
       pub begun : 1 ≤ from
       pub sofar : List ℕ
-      pub text : partsText names quoted (gapFirst (node (whole .term))) (partsOf (whole .term)) ≡ sofar ++ partsText names quoted wanted todo
+      pub text : partsText names quoted false (partsOf (whole .term)) ≡ sofar ++ partsText names quoted wanted todo
       pub laid : Left ink sofar opened d e (P.Done to)
 
-    pub going-start : (b : Begins names inner ws) (s : Shape) → quoted ≡ s .quoted → Shaped (node (b .term)) s → opened ≤ length d → Going (s .own) (s .parts) opened (s .wanted) d
+    pub going-start : (b : Begins names inner ws) (s : Shape) → quoted ≡ s .quoted → Shaped (node (b .term)) s → opened ≤ length d → Going (s .own) (s .parts) opened false d
     unfolding spelling
     going-start b s q h l =
         let x = node (b .term) in
@@ -224,7 +160,7 @@ module _ (names : Said) where
           size = omega (arith, h .own);
           begun = omega (arith, h .own, node-some x);
           sofar = [];
-          text = ap (λ (z : Bool). partsText names quoted z (partsOf (b .term))) (sym (h .gap));
+          text = refl;
           laid = left-none ink opened d l;
         }
 
@@ -236,7 +172,7 @@ module _ (names : Said) where
       going-shorter = omega (arith, ap length (rest-is from ws) ∙ length-drop from ws, g .begun, going-inside)
 
       -- no part is left
-      pub going-end : left ≡ 0 → (from ≡ length (encode (g .whole .term))) × Left ink (partsText names quoted (gapFirst (node (g .whole .term))) (partsOf (g .whole .term))) opened d e (P.Done to)
+      pub going-end : left ≡ 0 → (from ≡ length (encode (g .whole .term))) × Left ink (partsText names quoted false (partsOf (g .whole .term))) opened d e (P.Done to)
       unfolding encode partsText count
       going-end h =
           let z : g .todo ≡ noneC = none-left (g .todo) (g .many ∙ h) in (
@@ -268,7 +204,7 @@ module _ (names : Said) where
         unfolding count
         next-count = sym (g .many) ∙ ap count (next .is)
 
-        next-text : partsText names quoted (gapFirst (node (g .whole .term))) (partsOf (g .whole .term))
+        next-text : partsText names quoted false (partsOf (g .whole .term))
             ≡ g .sofar ++ (gapText wanted ++ (textIn names quoted (next .first) ++ partsText names quoted true (next .rest)))
         unfolding partsText
         next-text = g .text ∙ ap (λ (ts : Plains). g .sofar ++ partsText names quoted wanted ts) (next .is)
@@ -282,7 +218,7 @@ module _ (names : Said) where
 
         module _ (f : List ℕ) (r : Put) (k : Left ink (gapText wanted) to e f r) where
           -- no room for the space before it
-          pub gap-full : r ≡ P.Full → Left ink (partsText names quoted (gapFirst (node (g .whole .term))) (partsOf (g .whole .term))) opened d f P.Full
+          pub gap-full : r ≡ P.Full → Left ink (partsText names quoted false (partsOf (g .whole .term))) opened d f P.Full
           gap-full q = left-is (sym next-text) (left-then (g .laid) to refl (left-full k _ q))
 
           module _ (m : ℕ) (q : r ≡ P.Done m) (f′ : List ℕ) (s : Step)
@@ -291,7 +227,7 @@ module _ (names : Said) where
             child = c (next .first) (encodeAll (next .rest) ++ g .whole .rest) next-fits (rest-is from ws ∙ next-place)
 
             -- nor for the part itself
-            pub part-full : s ≡ S.Full → Left ink (partsText names quoted (gapFirst (node (g .whole .term))) (partsOf (g .whole .term))) opened d f′ P.Full
+            pub part-full : s ≡ S.Full → Left ink (partsText names quoted false (partsOf (g .whole .term))) opened d f′ P.Full
             part-full u = left-is (sym next-text) (left-then (g .laid) to refl (left-then k m q (left-full (stopped-by child u) (partsText names quoted true (next .rest)) refl)))
 
             module _ (used end : ℕ) (u : s ≡ S.Done used end) where
@@ -333,7 +269,7 @@ module _ (names : Said) where
     opened-left = o (node (b .term)) _ (begins-node inner ws b)
 
     abbrev Parts : Bool → List ℕ
-    Parts q = partsText names q (gapFirst (node (b .term))) (partsOf (b .term))
+    Parts q = partsText names q false (partsOf (b .term))
 
     all-text : (q : Bool) → q ≡ isListNode (node (b .term)) → opening names inner (node (b .term)) ++ (Parts q ++ closing inner (node (b .term))) ≡ textIn names inner (b .term)
     all-text q h = ap (λ (z : Bool). opening names inner (node (b .term)) ++ (Parts z ++ closing inner (node (b .term)))) h ∙ sym (pieces names inner (b .term) (b .fits .datum))
@@ -343,15 +279,17 @@ module _ (names : Said) where
 
     -- a leaf has no parts, and nothing closes it
     module _ (h : getD ws 0 0 < listCode) where
-      leaf-shaped : Shaped (node (b .term)) (shape 2 0 false false)
-      leaf-shaped = shaped-leaf ws (node (b .term)) _ (begins-node inner ws b) h
+      leaf-shaped : Shaped (node (b .term)) (shapeBy 2 0 0 false)
+      leaf-shaped =
+          let r = encodeAll (partsOf (b .term)) ++ b .rest in
+          leaf-shape (node (b .term)) r (omega (arith, code-is ws (node (b .term)) r (begins-node inner ws b)))
 
       leaf-parts : partsOf (b .term) ≡ noneC
-      unfolding shape
+      unfolding shapeBy
       leaf-parts = none-left (partsOf (b .term)) (count-parts (b .term) ∙ sym (leaf-shaped .rest))
 
       leaf-size : 2 ≡ length (encode (b .term))
-      unfolding shape encode
+      unfolding shapeBy encode
       leaf-size =
           let x = node (b .term) in
           leaf-shaped .own ∙ sym (ap length (encode-parts (b .term) ∙ ap (λ (ts : Plains). nodeWords x ++ encodeAll ts) leaf-parts ∙ append-nil (nodeWords x)))
@@ -360,7 +298,7 @@ module _ (names : Said) where
       unfolding partsText
       leaf-text =
           let x = node (b .term) in
-          let p : Parts (isListNode x) ≡ [] = ap (partsText names (isListNode x) (gapFirst x)) leaf-parts in
+          let p : Parts (isListNode x) ≡ [] = ap (partsText names (isListNode x) false) leaf-parts in
           let c : [] ≡ Parts (isListNode x) ++ closing inner x = closes-leaf ws x _ (begins-node inner ws b) inner h ∙ ap (λ (z : List ℕ). z ++ closing inner x) (sym p) in
           sym (append-nil (opening names inner x)) ∙ ap (λ (z : List ℕ). opening names inner x ++ z) c ∙ all-text _ refl
 

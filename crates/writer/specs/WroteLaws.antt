@@ -35,7 +35,8 @@ use Rattle.writer.specs.declared.Writing.the-variants.{Written, NoTerm, 
 use Rattle.writer.specs.Laid.{Left}
 use Rattle.writer.specs.LaidLaws.{laid-dry, laid-first, done-is, full-is, left-done}
 use Rattle.writer.specs.Pieces.{textIn}
-use Rattle.writer.specs.Called.{namesFrom, calledIn, IsTerm, said}
+use Rattle.core_term.specs.Scan.{namesFrom, calledIn, IsTerm}
+use Rattle.writer.specs.Called.{said}
 use Rattle.writer.specs.Opened.{spelled, named}
 use Rattle.writer.specs.Walk.{spelling, Fits, Begins, Walked}
 use Rattle.writer.specs.WalkLaws.{walked-by, stopped-by}

@@ -3,9 +3,10 @@ ghost use mathlib.Core.Path.{_≡_};
 ghost use Prim.Native.Nat.{_+_, _≤_, _<_};
 ghost use lib.ListN.{length, getD, take};
 ghost use lib.Seq.{paste};
-ghost use Rattle.writer.specs.Called.{calledIn, calledBy, IsTerm, Tells};
+ghost use Rattle.core_term.specs.Scan.{calledIn, IsTerm};
+ghost use Rattle.writer.specs.Called.{calledBy, Tells};
 use crate::numbers::wide;
-use crate::shapes::own;
+use core_term::nodes::shape_at;
 
 // Names into the table, from `at` on.
 fn put(names: &[u32], table: &mut [u32], at: usize)
@@ -27,8 +28,8 @@ pub fn note(words: &[u32], count: usize, table: &mut [u32])
     let mut at = 0;
     let mut seen = 0;
     while seen < count {
-        let node = own(&words[at..]);
-        let end = at + node.size;
+        let node = shape_at(&words[at..]);
+        let end = at + node.own;
         put(&words[end - node.names..end], table, seen);
         seen = seen + node.names;
         at = end;
@@ -43,8 +44,8 @@ fn find(words: &[u32], n: usize) -> usize
     let mut at = 0;
     let mut seen = 0;
     while at < words.len() {
-        let node = own(&words[at..]);
-        let end = at + node.size;
+        let node = shape_at(&words[at..]);
+        let end = at + node.own;
         if n - seen < node.names {
             return wide(words[end - node.names + (n - seen)]);
         }

@@ -4,7 +4,6 @@ mod called; // the names of variables, by number
 mod names; // names as text
 pub mod numbers; // decimal text
 mod pieces; // what opens and closes a node
-mod shapes; // a node's own words and its parts
 mod term; // a term's text
 
 ghost use mathlib.Core.Path.{_≡_};
@@ -16,7 +15,8 @@ ghost use Rattle.datum.specs.NameTable.{nameAt, hasName};
 ghost use Rattle.core_term.specs.Term.{Plain};
 ghost use Rattle.core_term.specs.Check.{termOf, isTerm};
 ghost use Rattle.core_term.specs.Text.{text};
-ghost use Rattle.writer.specs.Called.{calledIn, calledBy, Tells, saidBy};
+ghost use Rattle.core_term.specs.Scan.{calledIn};
+ghost use Rattle.writer.specs.Called.{calledBy, Tells, saidBy};
 ghost use Rattle.writer.specs.Walk.{Begins};
 ghost use Rattle.writer.specs.Writing.{textOf};
 ghost use Rattle.writer.specs.Wrote.{hasRoom, Measured, Wrote};

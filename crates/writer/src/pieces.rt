@@ -44,7 +44,7 @@ fn name_opening(n: usize, names: &[u8], out: &mut [u8], at: usize, inner: bool, 
     byte(b')', out, b, ink)
 }
 
-// (lambda (v0.t v1.u)
+// (lambda (v0.t v1.u) and a space
 fn lambda_opening(
     first: usize,
     count: usize,
@@ -56,7 +56,7 @@ fn lambda_opening(
     direct: bool,
 ) -> usize
     requires { ⌜ (at ≤ length (now out)) × (first + count < 18446744073709551616) × (Naming (saidBy (now names) direct (now called)) (first + count)) × (Tells direct (now called)) ⌝ }
-    ensures { λ r. ⌜ Left ink (bytes "(lambda (" ++ (formalsText (saidBy (now (names .entry)) direct (now (called .entry))) false first count ++ bytes ")")) at (now (out .entry)) (now (out .exit)) (putOf r) ⌝ }
+    ensures { λ r. ⌜ Left ink (bytes "(lambda (" ++ (formalsText (saidBy (now (names .entry)) direct (now (called .entry))) false first count ++ bytes ") ")) at (now (out .entry)) (now (out .exit)) (putOf r) ⌝ }
 {
     let a = copy(b"(lambda (", out, at, ink);
     if a == FULL {
@@ -66,7 +66,7 @@ fn lambda_opening(
     if b == FULL {
         return FULL;
     }
-    byte(b')', out, b, ink)
+    copy(b") ", out, b, ink)
 }
 
 // What opens a datum: a constant, a name or a list.
@@ -142,7 +142,7 @@ pub fn begin(
 {
     let code = words[0];
     if code == codes::IF {
-        return copy(b"(if", out, at, ink);
+        return copy(b"(if ", out, at, ink);
     }
     let a = wide(words[1]);
     if code == codes::VARIABLE {

@@ -13,8 +13,8 @@ use crate::numbers::gap;
 use crate::pieces::begin;
 use crate::pieces::finish;
 use crate::pieces::leaf;
-use crate::shapes::parts_of;
 use core_term::codes;
+use core_term::nodes::shape_at;
 
 // How many words a term takes, and the place behind its text; or the output is too short.
 pub enum Step {
@@ -40,11 +40,11 @@ pub fn term(
     if opened == FULL {
         return Step::Full;
     }
-    let shape = parts_of(words);
+    let shape = shape_at(words);
     let quoted = shape.quoted;
     let mut from = shape.own;
     let mut left = shape.parts;
-    let mut wanted = shape.wanted;
+    let mut wanted = false;
     let mut to = opened;
     while left > 0 {
         let start = gap(wanted, out, to, ink);

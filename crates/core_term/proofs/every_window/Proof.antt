@@ -1,6 +1,9 @@
 -- Every window is walked through. The invariant is Walked of specs/CheckLaws.antt.
 use Rattle.core_term.proofs.every_window.Statement.{statement}
 use Rattle.core_term.proofs.every_window.Tie as tie
+use Rattle.core_term.proofs.every_window.Reads as reads
+use Rattle.core_term.proofs.every_window.Lts as lts
+use Rattle.core_term.proofs.term.term.Reads as term-reads
 use borrow.Author.Needs.{needs}
 use native.Mathlib.Omega.{arith}
 use mathlib.Core.Path.{sym, _∙_}
@@ -26,29 +29,27 @@ returns c =
 
 term-requires : tie.Need-term-requires Inv-loop μ-loop
 term-requires c κs =
-    let s = c .before .before .before .before .before in noFlags-clear (length (s .args .flags .now)) _ (s .pre .1) 0 0
+    noFlags-clear (length (c .before .before .before .before .before .args .flags .now)) _ (c .before .before .before .before .before .pre .1) 0 0
 
 same-length : tie.Need-same-length Inv-loop μ-loop
 same-length c =
-    c .before .before .before .before .term .kept .1 .1 .1 .1 .1 .1 .0
+    c .before .before .before .before .term .kept .1 .1 .0
 
 returns-2 : tie.Need-returns-2 Inv-loop μ-loop
 returns-2 c =
-    let s = c .before .before .before .before .before .before .before .before .before .before in none-counted _ (none-no _ _ (length (s .args .flags .now)) (s .args .words .now) 0 _ (s .pre .1) (shaped-none _ _ _ _ _ _ (c .before .before .before .before .term .ensures .0) (c .enum-told .given .1)))
+    none-counted _ (none-no _ _ (length (c .before .before .before .before .before .before .before .before .before .before .args .flags .now)) (c .before .before .before .before .before .before .before .before .before .before .args .words .now) 0 _ (c .before .before .before .before .before .before .before .before .before .before .pre .1) (shaped-none _ _ _ _ _ _ (c .before .before .before .before .term .ensures .0) (c .enum-told .given .1)))
 
 same-length-2 : tie.Need-same-length-2 Inv-loop μ-loop
 same-length-2 c =
-    c .before .before .before .before .before .before .term .kept .1 .1 .1 .1 .1 .1 .0
+    c .before .before .before .before .before .before .term .kept .1 .1 .0
 
 returns-3 : tie.Need-returns-3 Inv-loop μ-loop
 returns-3 c =
-    let s = c .before .before .before .before .before .before .before .before .before .before .before .before in
-    let w = clean-whole _ _ (length (s .args .flags .now)) (s .args .words .now) 0 _ (s .pre .1) _ _ (shaped-term _ _ _ _ _ _ (c .before .before .before .before .before .before .term .ensures .0) _ _ (c .before .before .used .given .1)) in
-    none-counted _ (left-no _ _ (length (s .args .flags .now)) (s .args .words .now) _ _ w (c .if2 .taken))
+    none-counted _ (left-no _ _ (length (c .before .before .before .before .before .before .before .before .before .before .before .before .args .flags .now)) (c .before .before .before .before .before .before .before .before .before .before .before .before .args .words .now) _ _ (clean-whole _ _ (length (c .before .before .before .before .before .before .before .before .before .before .before .before .args .flags .now)) (c .before .before .before .before .before .before .before .before .before .before .before .before .args .words .now) 0 _ (c .before .before .before .before .before .before .before .before .before .before .before .before .pre .1) _ _ (shaped-term _ _ _ _ _ _ (c .before .before .before .before .before .before .term .ensures .0) _ _ (c .before .before .used .given .1))) (c .if2 .taken))
 
 loop-holds : tie.Need-loop-holds Inv-loop μ-loop
 loop-holds c =
-    let h = c .before .before .used .given .1 in walked-first _ _ _ _ _ _ _ (c .before .before .before .before .before .before .before .before .before .before .before .before .pre .1) (shaped-term _ _ _ _ _ _ (c .before .before .before .before .before .before .term .ensures .0) _ _ h) (kept-term _ _ _ _ _ (c .before .before .before .before .before .before .term .ensures .1) h)
+    walked-first _ _ _ _ _ _ _ (c .before .before .before .before .before .before .before .before .before .before .before .before .pre .1) (shaped-term _ _ _ _ _ _ (c .before .before .before .before .before .before .term .ensures .0) _ _ (c .before .before .used .given .1)) (kept-term _ _ _ _ _ (c .before .before .before .before .before .before .term .ensures .1) (c .before .before .used .given .1))
 
 term-requires-2 : tie.Need-term-requires-2 Inv-loop μ-loop
 term-requires-2 c κs =
@@ -56,15 +57,15 @@ term-requires-2 c κs =
 
 loop-less : tie.Need-loop-less Inv-loop μ-loop
 loop-less c =
-    omega (arith, c .before .before .before .before .before .before .before .before .before .before .before .before .before .before .before .before .before .before .before .before .before .pre .0, c .before .before .before .before .before .before .before .before .before .before .before .before .before .before .before .term .kept .1 .1 .1 .1 .1 .1 .0)
+    omega (arith, c .before .before .before .before .before .before .before .before .before .before .before .before .before .before .before .before .before .before .before .before .before .pre .0, c .before .before .before .before .before .before .before .before .before .before .before .before .before .before .before .term .kept .1 .1 .0)
 
 loop-again : tie.Need-loop-again Inv-loop μ-loop
 loop-again c =
-    let h = c .before .again .given .1 in walked-more _ _ _ _ _ _ _ _ (c .before .before .before .before .before .before .before .before .loop .inv) _ _ _ (omega arith) (shaped-term _ _ _ _ _ _ (c .before .before .before .before .before .term2 .ensures .0) _ _ h) (kept-term _ _ _ _ _ (c .before .before .before .before .before .term2 .ensures .1) h)
+    walked-more _ _ _ _ _ _ _ _ (c .before .before .before .before .before .before .before .before .loop .inv) _ _ _ (omega arith) (shaped-term _ _ _ _ _ _ (c .before .before .before .before .before .term2 .ensures .0) _ _ (c .before .again .given .1)) (kept-term _ _ _ _ _ (c .before .before .before .before .before .term2 .ensures .1) (c .before .again .given .1))
 
 same-length-3 : tie.Need-same-length-3 Inv-loop μ-loop
 same-length-3 c =
-    c .before .before .before .before .term2 .kept .1 .1 .1 .1 .1 .1 .0 ∙ walked-length _ _ _ _ _ _ _ _ (c .before .before .before .before .before .before .before .loop .inv) ∙ c .before .before .before .before .before .before .before .before .before .before .before .before .before .before .term .kept .1 .1 .1 .1 .1 .1 .0
+    c .before .before .before .before .term2 .kept .1 .1 .0 ∙ walked-length _ _ _ _ _ _ _ _ (c .before .before .before .before .before .before .before .loop .inv) ∙ c .before .before .before .before .before .before .before .before .before .before .before .before .before .before .term .kept .1 .1 .0
 
 returns-4 : tie.Need-returns-4 Inv-loop μ-loop
 returns-4 c =
@@ -72,7 +73,7 @@ returns-4 c =
 
 same-length-4 : tie.Need-same-length-4 Inv-loop μ-loop
 same-length-4 c =
-    walked-length _ _ _ _ _ _ _ _ (c .before .loop .inv) ∙ c .before .before .before .before .before .before .before .before .term .kept .1 .1 .1 .1 .1 .1 .0
+    walked-length _ _ _ _ _ _ _ _ (c .before .loop .inv) ∙ c .before .before .before .before .before .before .before .before .term .kept .1 .1 .0
 
 returns-5 : tie.Need-returns-5 Inv-loop μ-loop
 returns-5 c =

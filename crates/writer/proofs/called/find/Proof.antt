@@ -4,13 +4,14 @@ use Rattle.writer.proofs.called.find.Tie as tie
 use Rattle.writer.proofs.called.find.Reads as reads
 use Rattle.writer.proofs.called.find.Lts as lts
 use Rattle.writer.proofs.numbers.wide.Reads as wide-reads
-use Rattle.writer.proofs.shapes.own.Reads as own-reads
+use Rattle.core_term.proofs.nodes.shape_at.Reads as shape-at-reads
 use borrow.Author.Needs.{needs}
 use native.Mathlib.Omega.{arith}
 use mathlib.Core.Path.{_≡_, ap, _∙_}
 use Prim.Native.Nat.{_≤_, _-_}
 use lib.ListN.{length}
-use Rattle.writer.specs.CalledLaws.{Scan, scan-start, scan-end, scan-here, scan-sizes, scan-next, scan-names, name-here}
+use Rattle.core_term.specs.Scan.{Scan, scan-start, scan-end, scan-sizes, scan-next, scan-names}
+use Rattle.writer.specs.CalledLaws.{name-here}
 
 abbrev Inv-loop : tie.InvT-loop
 Inv-loop words n at₀ seen₀ at seen =
@@ -24,13 +25,9 @@ loop-holds : tie.Need-loop-holds Inv-loop μ-loop
 loop-holds c =
     (scan-start (c .before .args .words .now) (c .before .pre .0), omega arith)
 
-own-requires : tie.Need-own-requires Inv-loop μ-loop
-own-requires c κs =
-    scan-here (c .before .before .before .before .args .words .now) _ _ (c .before .before .loop .inv .0) (c .before .loop-test .taken)
-
 add-end : tie.Need-add-end Inv-loop μ-loop
 add-end c =
-    let z = scan-sizes (c .before .before .before .before .before .before .args .words .now) _ _ (c .before .before .before .before .loop .inv .0) (c .before .before .before .loop-test .taken) (c .before .own .result .size) (c .before .own .result .names) (c .before .own .ensures) in omega (arith, z .2, c .before .before .before .before .before .before .good .1)
+    let z = scan-sizes (c .before .before .before .before .before .before .args .words .now) _ _ (c .before .before .before .before .loop .inv .0) (c .before .before .before .loop-test .taken) (c .before .shape-at .result) (c .before .shape-at .ensures) in omega (arith, z .2, c .before .before .before .before .before .before .good .1)
 
 sub-if1 : tie.Need-sub-if1 Inv-loop μ-loop
 sub-if1 c =
@@ -38,7 +35,7 @@ sub-if1 c =
 
 sub-wide : tie.Need-sub-wide Inv-loop μ-loop
 sub-wide c =
-    let z = scan-sizes (c .before .before .before .before .before .before .before .before .before .args .words .now) _ _ (c .before .before .before .before .before .before .before .loop .inv .0) (c .before .before .before .before .before .before .loop-test .taken) (c .before .before .before .before .own .result .size) (c .before .before .before .before .own .result .names) (c .before .before .before .before .own .ensures) in omega (arith, z .1)
+    let z = scan-sizes (c .before .before .before .before .before .before .before .before .before .args .words .now) _ _ (c .before .before .before .before .before .before .before .loop .inv .0) (c .before .before .before .before .before .before .loop-test .taken) (c .before .before .before .before .shape-at .result) (c .before .before .before .before .shape-at .ensures) in omega (arith, z .1)
 
 sub-wide-2 : tie.Need-sub-wide-2 Inv-loop μ-loop
 sub-wide-2 c =
@@ -46,20 +43,20 @@ sub-wide-2 c =
 
 add-wide : tie.Need-add-wide Inv-loop μ-loop
 add-wide c =
-    let z = scan-sizes (c .before .before .before .before .before .before .before .before .before .args .words .now) _ _ (c .before .before .before .before .before .before .before .loop .inv .0) (c .before .before .before .before .before .before .loop-test .taken) (c .before .before .before .before .own .result .size) (c .before .before .before .before .own .result .names) (c .before .before .before .before .own .ensures) in omega (arith, z .1, z .2, c .before .if1 .taken, c .before .before .before .before .before .before .before .before .before .good .1)
+    let z = scan-sizes (c .before .before .before .before .before .before .before .before .before .args .words .now) _ _ (c .before .before .before .before .before .before .before .loop .inv .0) (c .before .before .before .before .before .before .loop-test .taken) (c .before .before .before .before .shape-at .result) (c .before .before .before .before .shape-at .ensures) in omega (arith, z .1, z .2, c .before .if1 .taken, c .before .before .before .before .before .before .before .before .before .good .1)
 
 mul-wide : tie.Need-mul-wide Inv-loop μ-loop
 mul-wide c =
-    let z = scan-sizes (c .before .before .before .before .before .before .before .before .before .args .words .now) _ _ (c .before .before .before .before .before .before .before .loop .inv .0) (c .before .before .before .before .before .before .loop-test .taken) (c .before .before .before .before .own .result .size) (c .before .before .before .before .own .result .names) (c .before .before .before .before .own .ensures) in omega (arith, z .1, z .2, c .before .if1 .taken, c .before .before .before .before .before .before .before .before .before .good .1)
+    let z = scan-sizes (c .before .before .before .before .before .before .before .before .before .args .words .now) _ _ (c .before .before .before .before .before .before .before .loop .inv .0) (c .before .before .before .before .before .before .loop-test .taken) (c .before .before .before .before .shape-at .result) (c .before .before .before .before .shape-at .ensures) in omega (arith, z .1, z .2, c .before .if1 .taken, c .before .before .before .before .before .before .before .before .before .good .1)
 
 shared-slice-read-wide : tie.Need-shared-slice-read-wide Inv-loop μ-loop
 shared-slice-read-wide c =
-    let z = scan-sizes (c .before .before .before .before .before .before .before .before .before .before .args .words .now) _ _ (c .before .before .before .before .before .before .before .before .loop .inv .0) (c .before .before .before .before .before .before .before .loop-test .taken) (c .before .before .before .before .before .own .result .size) (c .before .before .before .before .before .own .result .names) (c .before .before .before .before .before .own .ensures) in omega (arith, z .1, z .2, c .before .before .if1 .taken, c .before .before .before .before .before .before .before .before .loop .inv .1)
+    let z = scan-sizes (c .before .before .before .before .before .before .before .before .before .before .args .words .now) _ _ (c .before .before .before .before .before .before .before .before .loop .inv .0) (c .before .before .before .before .before .before .before .loop-test .taken) (c .before .before .before .before .before .shape-at .result) (c .before .before .before .before .before .shape-at .ensures) in omega (arith, z .1, z .2, c .before .before .if1 .taken, c .before .before .before .before .before .before .before .before .loop .inv .1)
 
 returns : tie.Need-returns Inv-loop μ-loop
 returns c =
-    let z = scan-sizes (c .before .before .before .before .before .before .before .before .before .before .before .args .words .now) _ _ (c .before .before .before .before .before .before .before .before .before .loop .inv .0) (c .before .before .before .before .before .before .before .before .loop-test .taken) (c .before .before .before .before .before .before .own .result .size) (c .before .before .before .before .before .before .own .result .names) (c .before .before .before .before .before .before .own .ensures) in
-    c .wide .ensures ∙ name-here (c .before .before .before .before .before .before .before .before .before .before .before .args .words .now) (c .before .before .before .before .before .before .before .before .before .loop .at) (c .before .before .before .before .before .before .before .before .before .loop .seen) (c .before .before .before .before .before .before .own .result .size) (c .before .before .before .before .before .before .own .result .names) (c .before .before .before .before .before .before .before .before .before .before .before .args .n) (scan-names (c .before .before .before .before .before .before .before .before .before .before .before .args .words .now) _ _ (c .before .before .before .before .before .before .before .before .before .loop .inv .0) (c .before .before .before .before .before .before .before .before .loop-test .taken) (c .before .before .before .before .before .before .own .result .size) (c .before .before .before .before .before .before .own .result .names) (c .before .before .before .before .before .before .own .ensures)) (c .before .before .before .before .before .before .before .before .before .loop .inv .1) (c .before .before .before .if1 .taken) (z .1)
+    let z = scan-sizes (c .before .before .before .before .before .before .before .before .before .before .before .args .words .now) _ _ (c .before .before .before .before .before .before .before .before .before .loop .inv .0) (c .before .before .before .before .before .before .before .before .loop-test .taken) (c .before .before .before .before .before .before .shape-at .result) (c .before .before .before .before .before .before .shape-at .ensures) in
+    c .wide .ensures ∙ name-here (c .before .before .before .before .before .before .before .before .before .before .before .args .words .now) (c .before .before .before .before .before .before .before .before .before .loop .at) (c .before .before .before .before .before .before .before .before .before .loop .seen) (c .before .before .before .before .before .before .shape-at .result .own) (c .before .before .before .before .before .before .shape-at .result .names) (c .before .before .before .before .before .before .before .before .before .before .before .args .n) (scan-names (c .before .before .before .before .before .before .before .before .before .before .before .args .words .now) _ _ (c .before .before .before .before .before .before .before .before .before .loop .inv .0) (c .before .before .before .before .before .before .before .before .loop-test .taken) (c .before .before .before .before .before .before .shape-at .result) (c .before .before .before .before .before .before .shape-at .ensures)) (c .before .before .before .before .before .before .before .before .before .loop .inv .1) (c .before .before .before .if1 .taken) (z .1)
 
 add-seen : tie.Need-add-seen Inv-loop μ-loop
 add-seen c =
@@ -67,11 +64,11 @@ add-seen c =
 
 loop-less : tie.Need-loop-less Inv-loop μ-loop
 loop-less c =
-    let z = scan-sizes (c .before .before .before .before .before .before .before .before .before .args .words .now) _ _ (c .before .before .before .before .before .before .before .loop .inv .0) (c .before .before .before .before .before .before .loop-test .taken) (c .before .before .before .before .own .result .size) (c .before .before .before .before .own .result .names) (c .before .before .before .before .own .ensures) in omega (arith, z .0, z .2)
+    let z = scan-sizes (c .before .before .before .before .before .before .before .before .before .args .words .now) _ _ (c .before .before .before .before .before .before .before .loop .inv .0) (c .before .before .before .before .before .before .loop-test .taken) (c .before .before .before .before .shape-at .result) (c .before .before .before .before .shape-at .ensures) in omega (arith, z .0, z .2)
 
 loop-again : tie.Need-loop-again Inv-loop μ-loop
 loop-again c =
-    (scan-next (c .before .before .before .before .before .before .before .before .before .args .words .now) _ _ (c .before .before .before .before .before .before .before .loop .inv .0) (c .before .before .before .before .before .before .loop-test .taken) (c .before .before .before .before .own .result .size) (c .before .before .before .before .own .result .names) (c .before .before .before .before .own .ensures), omega (arith, c .before .if1 .left, c .before .before .before .before .before .before .before .loop .inv .1))
+    (scan-next (c .before .before .before .before .before .before .before .before .before .args .words .now) _ _ (c .before .before .before .before .before .before .before .loop .inv .0) (c .before .before .before .before .before .before .loop-test .taken) (c .before .before .before .before .shape-at .result) (c .before .before .before .before .shape-at .ensures), omega (arith, c .before .if1 .left, c .before .before .before .before .before .before .before .loop .inv .1))
 
 returns-2 : tie.Need-returns-2 Inv-loop μ-loop
 returns-2 c =
@@ -84,11 +81,11 @@ find-spec =
     Inv-loop
     μ-loop
     loop-holds
-    (λ c. search needs)  -- mul-own
-    (λ c. search needs)  -- sub-own
-    (λ c. search needs)  -- part-own-start
-    (λ c. search needs)  -- part-own-end
-    own-requires
+    (λ c. search needs)  -- mul-shape-at
+    (λ c. search needs)  -- sub-shape-at
+    (λ c. search needs)  -- part-shape-at-start
+    (λ c. search needs)  -- part-shape-at-end
+    (λ c κs. search needs)  -- shape-at-requires
     add-end
     sub-if1
     sub-wide

@@ -4,13 +4,14 @@ use Rattle.writer.proofs.called.note.Tie as tie
 use Rattle.writer.proofs.called.note.Reads as reads
 use Rattle.writer.proofs.called.note.Lts as lts
 use Rattle.writer.proofs.called.put.Reads as put-reads
-use Rattle.writer.proofs.shapes.own.Reads as own-reads
+use Rattle.core_term.proofs.nodes.shape_at.Reads as shape-at-reads
 use borrow.Author.Needs.{needs}
 use native.Mathlib.Omega.{arith}
 use mathlib.Core.Path.{_≡_, refl, sym, ap, _∙_}
 use Prim.Native.Nat.{_+_, _-_}
 use lib.ListN.{length, take, drop}
-use Rattle.writer.specs.CalledLaws.{Scan, Notes, scan-start, scan-more, scan-here, scan-sizes, scan-next, scan-names, scan-count, notes-more, notes-all}
+use Rattle.core_term.specs.Scan.{Scan, scan-start, scan-more, scan-sizes, scan-next, scan-names, scan-count}
+use Rattle.writer.specs.CalledLaws.{Notes, notes-more, notes-all}
 
 abbrev Inv-loop : tie.InvT-loop
 Inv-loop words count table₀ at₀ seen₀ table at seen =
@@ -24,68 +25,64 @@ loop-holds : tie.Need-loop-holds Inv-loop μ-loop
 loop-holds c =
     (scan-start (c .before .before .args .words .now) (c .before .before .pre .0), refl, refl)
 
-mul-own : tie.Need-mul-own Inv-loop μ-loop
-mul-own c =
+mul-shape-at : tie.Need-mul-shape-at Inv-loop μ-loop
+mul-shape-at c =
     let m = scan-more (c .before .before .before .before .args .words .now) _ _ (c .before .loop .inv .0) (omega (arith, c .loop-test .taken, c .before .before .before .before .pre .1)) in omega (arith, c .before .loop .inv .0 .inside, c .before .before .before .before .good)
 
-sub-own : tie.Need-sub-own Inv-loop μ-loop
-sub-own c =
+sub-shape-at : tie.Need-sub-shape-at Inv-loop μ-loop
+sub-shape-at c =
     c .before .loop .inv .0 .inside
 
-part-own-start : tie.Need-part-own-start Inv-loop μ-loop
-part-own-start c =
+part-shape-at-start : tie.Need-part-shape-at-start Inv-loop μ-loop
+part-shape-at-start c =
     c .before .loop .inv .0 .inside
-
-own-requires : tie.Need-own-requires Inv-loop μ-loop
-own-requires c κs =
-    let m = scan-more (c .before .before .before .before .before .args .words .now) _ _ (c .before .before .loop .inv .0) (omega (arith, c .before .loop-test .taken, c .before .before .before .before .before .pre .1)) in scan-here (c .before .before .before .before .before .args .words .now) _ _ (c .before .before .loop .inv .0) m
 
 add-end : tie.Need-add-end Inv-loop μ-loop
 add-end c =
     let m = scan-more (c .before .before .before .before .before .before .before .args .words .now) _ _ (c .before .before .before .before .loop .inv .0) (omega (arith, c .before .before .before .loop-test .taken, c .before .before .before .before .before .before .before .pre .1)) in
-    let z = scan-sizes (c .before .before .before .before .before .before .before .args .words .now) _ _ (c .before .before .before .before .loop .inv .0) m (c .before .own .result .size) (c .before .own .result .names) (c .before .own .ensures) in omega (arith, z .2, c .before .before .before .before .before .before .before .good)
+    let z = scan-sizes (c .before .before .before .before .before .before .before .args .words .now) _ _ (c .before .before .before .before .loop .inv .0) m (c .before .shape-at .result) (c .before .shape-at .ensures) in omega (arith, z .2, c .before .before .before .before .before .before .before .good)
 
 sub-put : tie.Need-sub-put Inv-loop μ-loop
 sub-put c =
     let m = scan-more (c .before .before .before .before .before .before .before .before .args .words .now) _ _ (c .before .before .before .before .before .loop .inv .0) (omega (arith, c .before .before .before .before .loop-test .taken, c .before .before .before .before .before .before .before .before .pre .1)) in
-    let z = scan-sizes (c .before .before .before .before .before .before .before .before .args .words .now) _ _ (c .before .before .before .before .before .loop .inv .0) m (c .before .before .own .result .size) (c .before .before .own .result .names) (c .before .before .own .ensures) in omega (arith, z .1)
+    let z = scan-sizes (c .before .before .before .before .before .before .before .before .args .words .now) _ _ (c .before .before .before .before .before .loop .inv .0) m (c .before .before .shape-at .result) (c .before .before .shape-at .ensures) in omega (arith, z .1)
 
 mul-put : tie.Need-mul-put Inv-loop μ-loop
 mul-put c =
     let m = scan-more (c .before .before .before .before .before .before .before .before .args .words .now) _ _ (c .before .before .before .before .before .loop .inv .0) (omega (arith, c .before .before .before .before .loop-test .taken, c .before .before .before .before .before .before .before .before .pre .1)) in
-    let z = scan-sizes (c .before .before .before .before .before .before .before .before .args .words .now) _ _ (c .before .before .before .before .before .loop .inv .0) m (c .before .before .own .result .size) (c .before .before .own .result .names) (c .before .before .own .ensures) in omega (arith, z .1, z .2, c .before .before .before .before .before .before .before .before .good)
+    let z = scan-sizes (c .before .before .before .before .before .before .before .before .args .words .now) _ _ (c .before .before .before .before .before .loop .inv .0) m (c .before .before .shape-at .result) (c .before .before .shape-at .ensures) in omega (arith, z .1, z .2, c .before .before .before .before .before .before .before .before .good)
 
 part-put-start : tie.Need-part-put-start Inv-loop μ-loop
 part-put-start c =
     let m = scan-more (c .before .before .before .before .before .before .before .before .args .words .now) _ _ (c .before .before .before .before .before .loop .inv .0) (omega (arith, c .before .before .before .before .loop-test .taken, c .before .before .before .before .before .before .before .before .pre .1)) in
-    let z = scan-sizes (c .before .before .before .before .before .before .before .before .args .words .now) _ _ (c .before .before .before .before .before .loop .inv .0) m (c .before .before .own .result .size) (c .before .before .own .result .names) (c .before .before .own .ensures) in omega (arith, z .1)
+    let z = scan-sizes (c .before .before .before .before .before .before .before .before .args .words .now) _ _ (c .before .before .before .before .before .loop .inv .0) m (c .before .before .shape-at .result) (c .before .before .shape-at .ensures) in omega (arith, z .1)
 
 part-put-end : tie.Need-part-put-end Inv-loop μ-loop
 part-put-end c =
     let m = scan-more (c .before .before .before .before .before .before .before .before .args .words .now) _ _ (c .before .before .before .before .before .loop .inv .0) (omega (arith, c .before .before .before .before .loop-test .taken, c .before .before .before .before .before .before .before .before .pre .1)) in
-    let z = scan-sizes (c .before .before .before .before .before .before .before .before .args .words .now) _ _ (c .before .before .before .before .before .loop .inv .0) m (c .before .before .own .result .size) (c .before .before .own .result .names) (c .before .before .own .ensures) in omega (arith, z .2)
+    let z = scan-sizes (c .before .before .before .before .before .before .before .before .args .words .now) _ _ (c .before .before .before .before .before .loop .inv .0) m (c .before .before .shape-at .result) (c .before .before .shape-at .ensures) in omega (arith, z .2)
 
 put-requires : tie.Need-put-requires Inv-loop μ-loop
 put-requires c κs =
     let m = scan-more (c .before .before .before .before .before .before .before .before .before .before .args .words .now) _ _ (c .before .before .before .before .before .before .before .loop .inv .0) (omega (arith, c .before .before .before .before .before .before .loop-test .taken, c .before .before .before .before .before .before .before .before .before .before .pre .1)) in
-    let z = scan-sizes (c .before .before .before .before .before .before .before .before .before .before .args .words .now) _ _ (c .before .before .before .before .before .before .before .loop .inv .0) m (c .before .before .before .before .own .result .size) (c .before .before .before .before .own .result .names) (c .before .before .before .before .own .ensures) in omega (arith, z .3, scan-count (c .before .before .before .before .before .before .before .before .before .before .args .words .now) _ _ (c .before .before .before .before .before .before .before .loop .inv .0) m (c .before .before .before .before .own .result .size) (c .before .before .before .before .own .result .names) (c .before .before .before .before .own .ensures), c .before .before .before .before .before .before .before .loop .inv .1, c .before .before .before .before .before .before .before .before .before .before .pre .1, c .before .before .before .before .before .before .before .before .before .before .pre .2)
+    let z = scan-sizes (c .before .before .before .before .before .before .before .before .before .before .args .words .now) _ _ (c .before .before .before .before .before .before .before .loop .inv .0) m (c .before .before .before .before .shape-at .result) (c .before .before .before .before .shape-at .ensures) in omega (arith, z .3, scan-count (c .before .before .before .before .before .before .before .before .before .before .args .words .now) _ _ (c .before .before .before .before .before .before .before .loop .inv .0) m (c .before .before .before .before .shape-at .result) (c .before .before .before .before .shape-at .ensures), c .before .before .before .before .before .before .before .loop .inv .1, c .before .before .before .before .before .before .before .before .before .before .pre .1, c .before .before .before .before .before .before .before .before .before .before .pre .2)
 
 add-seen : tie.Need-add-seen Inv-loop μ-loop
 add-seen c =
     let m = scan-more (c .before .before .before .before .before .before .before .before .before .before .before .before .before .before .args .words .now) _ _ (c .before .before .before .before .before .before .before .before .before .before .before .loop .inv .0) (omega (arith, c .before .before .before .before .before .before .before .before .before .before .loop-test .taken, c .before .before .before .before .before .before .before .before .before .before .before .before .before .before .pre .1)) in
-    let z = scan-sizes (c .before .before .before .before .before .before .before .before .before .before .before .before .before .before .args .words .now) _ _ (c .before .before .before .before .before .before .before .before .before .before .before .loop .inv .0) m (c .before .before .before .before .before .before .before .before .own .result .size) (c .before .before .before .before .before .before .before .before .own .result .names) (c .before .before .before .before .before .before .before .before .own .ensures) in omega (arith, z .3, c .before .before .before .before .before .before .before .before .before .before .before .before .before .before .pre .1, c .before .before .before .before .before .before .before .before .before .before .before .before .before .before .pre .2, c .before .before .before .before .before .before .before .before .before .before .before .before .before .before .good)
+    let z = scan-sizes (c .before .before .before .before .before .before .before .before .before .before .before .before .before .before .args .words .now) _ _ (c .before .before .before .before .before .before .before .before .before .before .before .loop .inv .0) m (c .before .before .before .before .before .before .before .before .shape-at .result) (c .before .before .before .before .before .before .before .before .shape-at .ensures) in omega (arith, z .3, c .before .before .before .before .before .before .before .before .before .before .before .before .before .before .pre .1, c .before .before .before .before .before .before .before .before .before .before .before .before .before .before .pre .2, c .before .before .before .before .before .before .before .before .before .before .before .before .before .before .good)
 
 loop-less : tie.Need-loop-less Inv-loop μ-loop
 loop-less c =
     let m = scan-more (c .before .before .before .before .before .before .before .before .before .before .before .before .before .before .args .words .now) _ _ (c .before .before .before .before .before .before .before .before .before .before .before .loop .inv .0) (omega (arith, c .before .before .before .before .before .before .before .before .before .before .loop-test .taken, c .before .before .before .before .before .before .before .before .before .before .before .before .before .before .pre .1)) in
-    let z = scan-sizes (c .before .before .before .before .before .before .before .before .before .before .before .before .before .before .args .words .now) _ _ (c .before .before .before .before .before .before .before .before .before .before .before .loop .inv .0) m (c .before .before .before .before .before .before .before .before .own .result .size) (c .before .before .before .before .before .before .before .before .own .result .names) (c .before .before .before .before .before .before .before .before .own .ensures) in omega (arith, z .0, z .2)
+    let z = scan-sizes (c .before .before .before .before .before .before .before .before .before .before .before .before .before .before .args .words .now) _ _ (c .before .before .before .before .before .before .before .before .before .before .before .loop .inv .0) m (c .before .before .before .before .before .before .before .before .shape-at .result) (c .before .before .before .before .before .before .before .before .shape-at .ensures) in omega (arith, z .0, z .2)
 
 loop-again : tie.Need-loop-again Inv-loop μ-loop
 loop-again c =
     let m = scan-more (c .before .before .before .before .before .before .before .before .before .before .before .before .before .before .args .words .now) _ _ (c .before .before .before .before .before .before .before .before .before .before .before .loop .inv .0) (omega (arith, c .before .before .before .before .before .before .before .before .before .before .loop-test .taken, c .before .before .before .before .before .before .before .before .before .before .before .before .before .before .pre .1)) in
-    let z = scan-sizes (c .before .before .before .before .before .before .before .before .before .before .before .before .before .before .args .words .now) _ _ (c .before .before .before .before .before .before .before .before .before .before .before .loop .inv .0) m (c .before .before .before .before .before .before .before .before .own .result .size) (c .before .before .before .before .before .before .before .before .own .result .names) (c .before .before .before .before .before .before .before .before .own .ensures) in
-    let end = c .before .before .before .before .before .before .before .before .before .before .before .loop .at + c .before .before .before .before .before .before .before .before .own .result .size in
-    (scan-next (c .before .before .before .before .before .before .before .before .before .before .before .before .before .before .args .words .now) _ _ (c .before .before .before .before .before .before .before .before .before .before .before .loop .inv .0) m (c .before .before .before .before .before .before .before .before .own .result .size) (c .before .before .before .before .before .before .before .before .own .result .names) (c .before .before .before .before .before .before .before .before .own .ensures), c .before .before .before .put .kept .1 .0 ∙ c .before .before .before .before .before .before .before .before .before .before .before .loop .inv .1, ap (take (c .before .before .before .before .before .before .before .before .before .before .before .loop .seen + c .before .before .before .before .before .before .before .before .own .result .names)) (c .before .before .before .put .ensures) ∙ notes-more (c .before .before .before .before .before .before .before .before .before .before .before .before .before .before .args .words .now) (c .before .before .before .before .before .before .before .before .before .before .before .loop .table) (take (end - (end - c .before .before .before .before .before .before .before .before .own .result .names)) (drop (end - c .before .before .before .before .before .before .before .before .own .result .names) (c .before .before .before .before .before .before .before .before .before .before .before .before .before .before .args .words .now))) (c .before .before .before .before .before .before .before .before .before .before .before .loop .seen) (c .before .before .before .before .before .before .before .before .own .result .names) (c .before .before .before .before .before .before .before .before .before .before .before .loop .inv .2) (omega (arith, z .3, c .before .before .before .before .before .before .before .before .before .before .before .loop .inv .1, c .before .before .before .before .before .before .before .before .before .before .before .before .before .before .pre .1, c .before .before .before .before .before .before .before .before .before .before .before .before .before .before .pre .2)) (z .3) (scan-count (c .before .before .before .before .before .before .before .before .before .before .before .before .before .before .args .words .now) _ _ (c .before .before .before .before .before .before .before .before .before .before .before .loop .inv .0) m (c .before .before .before .before .before .before .before .before .own .result .size) (c .before .before .before .before .before .before .before .before .own .result .names) (c .before .before .before .before .before .before .before .before .own .ensures)) (scan-names (c .before .before .before .before .before .before .before .before .before .before .before .before .before .before .args .words .now) _ _ (c .before .before .before .before .before .before .before .before .before .before .before .loop .inv .0) m (c .before .before .before .before .before .before .before .before .own .result .size) (c .before .before .before .before .before .before .before .before .own .result .names) (c .before .before .before .before .before .before .before .before .own .ensures)))
+    let z = scan-sizes (c .before .before .before .before .before .before .before .before .before .before .before .before .before .before .args .words .now) _ _ (c .before .before .before .before .before .before .before .before .before .before .before .loop .inv .0) m (c .before .before .before .before .before .before .before .before .shape-at .result) (c .before .before .before .before .before .before .before .before .shape-at .ensures) in
+    let end = c .before .before .before .before .before .before .before .before .before .before .before .loop .at + c .before .before .before .before .before .before .before .before .shape-at .result .own in
+    (scan-next (c .before .before .before .before .before .before .before .before .before .before .before .before .before .before .args .words .now) _ _ (c .before .before .before .before .before .before .before .before .before .before .before .loop .inv .0) m (c .before .before .before .before .before .before .before .before .shape-at .result) (c .before .before .before .before .before .before .before .before .shape-at .ensures), c .before .before .before .put .kept .1 .0 ∙ c .before .before .before .before .before .before .before .before .before .before .before .loop .inv .1, ap (take (c .before .before .before .before .before .before .before .before .before .before .before .loop .seen + c .before .before .before .before .before .before .before .before .shape-at .result .names)) (c .before .before .before .put .ensures) ∙ notes-more (c .before .before .before .before .before .before .before .before .before .before .before .before .before .before .args .words .now) (c .before .before .before .before .before .before .before .before .before .before .before .loop .table) (take (end - (end - c .before .before .before .before .before .before .before .before .shape-at .result .names)) (drop (end - c .before .before .before .before .before .before .before .before .shape-at .result .names) (c .before .before .before .before .before .before .before .before .before .before .before .before .before .before .args .words .now))) (c .before .before .before .before .before .before .before .before .before .before .before .loop .seen) (c .before .before .before .before .before .before .before .before .shape-at .result .names) (c .before .before .before .before .before .before .before .before .before .before .before .loop .inv .2) (omega (arith, z .3, c .before .before .before .before .before .before .before .before .before .before .before .loop .inv .1, c .before .before .before .before .before .before .before .before .before .before .before .before .before .before .pre .1, c .before .before .before .before .before .before .before .before .before .before .before .before .before .before .pre .2)) (z .3) (scan-count (c .before .before .before .before .before .before .before .before .before .before .before .before .before .before .args .words .now) _ _ (c .before .before .before .before .before .before .before .before .before .before .before .loop .inv .0) m (c .before .before .before .before .before .before .before .before .shape-at .result) (c .before .before .before .before .before .before .before .before .shape-at .ensures)) (scan-names (c .before .before .before .before .before .before .before .before .before .before .before .before .before .before .args .words .now) _ _ (c .before .before .before .before .before .before .before .before .before .before .before .loop .inv .0) m (c .before .before .before .before .before .before .before .before .shape-at .result) (c .before .before .before .before .before .before .before .before .shape-at .ensures)))
 
 same-length : tie.Need-same-length Inv-loop μ-loop
 same-length c =
@@ -103,11 +100,11 @@ note-spec =
     Inv-loop
     μ-loop
     loop-holds
-    mul-own
-    sub-own
-    part-own-start
-    (λ c. search needs)  -- part-own-end
-    own-requires
+    mul-shape-at
+    sub-shape-at
+    part-shape-at-start
+    (λ c. search needs)  -- part-shape-at-end
+    (λ c κs. search needs)  -- shape-at-requires
     add-end
     sub-put
     mul-put

@@ -13,7 +13,7 @@ use Rattle.writer.proofs.numbers.gap.Reads as gap-reads
 use Rattle.writer.proofs.pieces.begin.Reads as begin-reads
 use Rattle.writer.proofs.pieces.finish.Reads as finish-reads
 use Rattle.writer.proofs.pieces.leaf.Reads as leaf-reads
-use Rattle.writer.proofs.shapes.parts_of.Reads as parts-of-reads
+use Rattle.core_term.proofs.nodes.shape_at.Reads as shape-at-reads
 use Rattle.writer.proofs.term.+part+term.{statement}
 use Rattle.writer.proofs.term.+part+term.Tie.{close}
 use borrow.Author.Needs.{needs}
@@ -22,7 +22,7 @@ use mathlib.Core.Path.{refl, _∙_}
 use Rattle.writer.specs.LaidLaws.{left-length, left-room, put-done, put-full, place-room}
 use lib.ListN.{length}
 use Rattle.writer.specs.OpenedLaws.{some-words}
-use Rattle.writer.specs.WalkLaws.{for-any, begins-node, begins-opened, Going, going-start, going-inside, going-shorter, going-next, going-on, going-end, gap-full, part-full, part-inside, open-stops, leaf-walked, parts-stop, close-stops, all-walked, begins-here}
+use Rattle.writer.specs.WalkLaws.{for-any, begins-node, begins-opened, Going, going-start, going-inside, going-shorter, going-next, going-on, going-end, gap-full, part-full, part-inside, open-stops, leaf-walked, parts-stop, close-stops, all-walked}
 use Rattle.writer.specs.Called.{saidBy}
 
 abbrev μ-part : Measures 4 part-kinds.ps ℕ
@@ -50,7 +50,7 @@ abbrev P : ℕ → part-lts.Claims
 P t = (leaf-reads.Asked, leaf-reads.Learnt, term-below t, term.Post)
 
 abbrev E : ℕ → term-lts.Claims
-E t = (begin-reads.Asked, begin-reads.Learnt, parts-of-reads.Asked, parts-of-reads.Learnt, gap-reads.Asked, gap-reads.Learnt, part-below t, part.Post, finish-reads.Asked, finish-reads.Learnt)
+E t = (begin-reads.Asked, begin-reads.Learnt, shape-at-reads.Asked, shape-at-reads.Learnt, gap-reads.Asked, gap-reads.Learnt, part-below t, part.Post, finish-reads.Asked, finish-reads.Learnt)
 
 part-shared-slice-read-if1 : (t : ℕ) → part-lts.Need-shared-slice-read-if1 (P t) (part-at t) part.Post
 part-shared-slice-read-if1 t c =
@@ -106,13 +106,9 @@ term-returns : (t : ℕ) → term-lts.Need-returns (E t) (term-at t) term.Post t
 term-returns t c =
     for-any _ _ _ (c .before .before .before .before .before .before .before .before .before .args .words .now) (c .before .before .before .before .before .before .before .before .before .pre .1 .1) _ _ _ _ (open-stops _ _ _ (c .before .before .before .before .before .before .before .before .before .args .words .now) (c .before .before .before .before .before .before .before .before .before .pre .1 .1) _ _ _ _ (c .before .before .before .begin .ensures) (put-full _ (c .if1 .taken)))
 
-term-parts-of-requires : (t : ℕ) → term-lts.Need-parts-of-requires (E t) (term-at t) term.Post term-Inv-loop term-μ-loop
-term-parts-of-requires t c κs =
-    begins-here _ _ _ (c .before .before .before .before .before .before .before .before .before .pre .1 .1)
-
 term-loop-holds : (t : ℕ) → term-lts.Need-loop-holds (E t) (term-at t) term.Post term-Inv-loop term-μ-loop
 term-loop-holds t c =
-    going-start _ _ _ _ (c .before .before .before .before .before .before .before .before .before .before .args .words .now) _ _ (c .before .before .before .before .before .before .before .before .before .before .pre .1 .1) (c .parts-of .result) refl (c .parts-of .ensures _ _ (begins-node _ _ (c .before .before .before .before .before .before .before .before .before .before .args .words .now) (c .before .before .before .before .before .before .before .before .before .before .pre .1 .1))) (place-room (c .before .before .before .before .begin .ensures _ _ (begins-node _ _ (c .before .before .before .before .before .before .before .before .before .before .args .words .now) (c .before .before .before .before .before .before .before .before .before .before .pre .1 .1))) (c .before .if1 .left))
+    going-start _ _ _ _ (c .before .before .before .before .before .before .before .before .before .before .args .words .now) _ _ (c .before .before .before .before .before .before .before .before .before .before .pre .1 .1) (c .shape-at .result) refl (c .shape-at .ensures _ _ (begins-node _ _ (c .before .before .before .before .before .before .before .before .before .before .args .words .now) (c .before .before .before .before .before .before .before .before .before .before .pre .1 .1))) (place-room (c .before .before .before .before .begin .ensures _ _ (begins-node _ _ (c .before .before .before .before .before .before .before .before .before .before .args .words .now) (c .before .before .before .before .before .before .before .before .before .before .pre .1 .1))) (c .before .if1 .left))
 
 term-gap-requires : (t : ℕ) → term-lts.Need-gap-requires (E t) (term-at t) term.Post term-Inv-loop term-μ-loop
 term-gap-requires t c κs =
@@ -199,7 +195,7 @@ pub +part+term-spec : {M : Type 1} → statement M
     (term-begin-requires t)
     (term-same-length t)
     (term-returns t)
-    (term-parts-of-requires t)
+    (λ c κs. search needs)  -- term-shape-at-requires
     (term-loop-holds t)
     (term-gap-requires t)
     (term-same-length-2 t)

@@ -1,40 +1,33 @@
 use borrow.Author.Needs.{needs}
-use Rattle.core_term.proofs.nodes.decimal.Statement.{statement}
-use Rattle.core_term.proofs.nodes.decimal.Tie as tie
-use Rattle.core_term.proofs.nodes.decimal.Reads as reads
-use Rattle.core_term.proofs.nodes.decimal.Lts as lts
+use Rattle.core_term.proofs.read.decimal.Statement.{statement}
+use Rattle.core_term.proofs.read.decimal.Tie as tie
+use Rattle.core_term.proofs.read.decimal.Reads as reads
+use Rattle.core_term.proofs.read.decimal.Lts as lts
 use native.Mathlib.Omega.{arith}
 use Rattle.words.specs.TestLaws.{outside-below, outside-above}
-use Rattle.core_term.specs.HeadLaws.{decimal-short}
-use Rattle.core_term.specs.Opened.{opened-none, opened-decimal, opened-no-decimal}
+use Rattle.core_term.specs.CodeLaws.{decimal-short}
+use Rattle.core_term.specs.OpenedLaws.{opened-none, opened-decimal, opened-no-decimal}
 
-
--- src/nodes.rt:43:9
 returns : tie.Need-returns
 returns c =
     opened-none _ (decimal-short _ (c .before .pre) (c .if1 .taken))
 
--- src/nodes.rt:45:18
 shared-slice-read-places : tie.Need-shared-slice-read-places
 shared-slice-read-places c =
     search needs
 
--- src/nodes.rt:47:9
 returns-2 : tie.Need-returns-2
 returns-2 c =
     opened-no-decimal _ (c .before .before .if1 .left) (c .before .before .before .pre) (outside-below 1 4 _ (c .if2 .taken))
 
--- src/nodes.rt:50:9
 returns-3 : tie.Need-returns-3
 returns-3 c =
     opened-no-decimal _ (c .before .before .before .if1 .left) (c .before .before .before .before .pre) (outside-above 1 4 _ (c .if3 .taken))
 
--- src/nodes.rt:52:19
 shared-slice-read-t6 : tie.Need-shared-slice-read-t6
 shared-slice-read-t6 c =
     search needs
 
--- src/nodes.rt:38:1
 returns-4 : tie.Need-returns-4
 returns-4 c =
     opened-decimal _ (c .before .before .before .before .if1 .left) (c .before .before .before .before .before .pre) (c .before .before .if2 .left) (c .before .if3 .left)
