@@ -16,7 +16,7 @@ use Rattle.rule_cells.proofs.patterns.+pattern.{statement}
 use Rattle.rule_cells.proofs.patterns.+pattern.Tie.{close}
 use borrow.Author.Needs.{needs}
 use Rattle.rule_cells.specs.ParseLaws.{asks-head, asks-tail, asks-rest, room-pair, head-below, rest-below}
-use Rattle.rule_cells.specs.PatternLaws.{pair-here, left-leaf, left-taken, left-crowded, left-bad, made-head, left-bad-rest, made-rest, left-list, small-head, small-tail, small-rest, literals-still, dots-still, begins-still}
+use Rattle.rule_cells.specs.PatternLaws.{PairHere, pair-here, left-leaf, left-taken, left-crowded, left-bad, made-head, left-bad-rest, made-rest, left-list, small-head, small-tail, small-rest, literals-still, dots-still, begins-still}
 use Rattle.recipe.specs.TreeLaws.{size-positive}
 use Rattle.arena.specs.Arena.{treeAt}
 use mathlib.Core.Bool.{false≢true}
@@ -55,38 +55,44 @@ pattern-returns t c =
     let l = at-pattern-leaf .pattern-leaf in
     left-leaf (dotsOf (a .work .now) (a .form)) (literalsOf (a .work .now) (a .form)) (a .k) (a .taken) (a .work .now) (a .node) (a .form .wrap) (a .top) (l .last .0) (l .result) (λ z. at-if1 .if1 .taken (at-word .word .ensures ∙ z)) (l .ensures)
 
+-- the entry, from where the pair at hand is opened
+abbrev entry : (t : ℕ) → pattern-lts.After-reference2 (pattern-claims t) (pattern-at t) pattern.Post → pattern-lts.Start (pattern-claims t) (pattern-at t) pattern.Post
+entry t c = c .before .before .before .before .before .before .before .before
+
+-- that pair
+abbrev Opened : (t : ℕ) → pattern-lts.After-reference2 (pattern-claims t) (pattern-at t) pattern.Post → Type 0
+Opened t c =
+    let a = entry t c .args in
+    PairHere (a .work .now) (a .form) (a .node) (a .top) (c .before .before .reference .result) (c .reference2 .result)
+
+opened : (t : ℕ) (c : pattern-lts.After-reference2 (pattern-claims t) (pattern-at t) pattern.Post) → Opened t c
+opened t c =
+    let at-reference = c .before .before in
+    let at-if1 = at-reference .before .before in
+    let at-word = at-if1 .before in
+    let at-args = entry t c in
+    let a = at-args .args in
+    let p = at-args .pre in
+    pair-here (a .work .now) (a .form) (a .node) (a .top) (p .1 .0) (p .1 .1) (p .1 .2) (sym (at-word .word .ensures) ∙ at-if1 .if1 .left) (at-reference .reference .ensures) (c .reference2 .ensures)
+
 pattern-pattern-requires : (t : ℕ) → pattern-lts.Need-pattern-requires (pattern-claims t) (pattern-at t) pattern.Post
 pattern-pattern-requires t c κs =
     let at-reference2 = c .before .before in
-    let at-reference = at-reference2 .before .before in
-    let at-if1 = at-reference .before .before in
-    let at-word = at-if1 .before in
-    let at-args = at-word .before .before .before in
+    let at-args = entry t at-reference2 in
     let a = at-args .args in
     let p = at-args .pre in
-    let asks = p .1 .0 in
-    let is-pair = sym (at-word .word .ensures) ∙ at-if1 .if1 .left in
-    let head-is = at-reference .reference .ensures in
-    let rest-is = at-reference2 .reference2 .ensures in
-    let here = pair-here (a .work .now) (a .form) (a .node) (a .top) asks (p .1 .1) (p .1 .2) is-pair head-is rest-is in
-    (omega (arith, p .0, rest-below (a .work .now) (a .node) (a .form .wrap) (a .top) asks _ _ is-pair head-is rest-is), (asks-tail (a .work .now) (a .node) (a .form .wrap) (a .top) asks _ _ is-pair head-is rest-is, p .1 .1, p .1 .2, small-tail here (a .k) (p .1 .3), λ z. absurd (false≢true z)))
+    let here = opened t at-reference2 in
+    (omega (arith, p .0, rest-below (a .work .now) (a .node) (a .form .wrap) (a .top) (here .asks) _ _ (here .is-pair) (here .head-is) (here .rest-is)), (asks-tail (a .work .now) (a .node) (a .form .wrap) (a .top) (here .asks) _ _ (here .is-pair) (here .head-is) (here .rest-is), p .1 .1, p .1 .2, small-tail here (a .k) (p .1 .3), λ z. absurd (false≢true z)))
 
 pattern-returns-2 : (t : ℕ) → pattern-lts.Need-returns-2 (pattern-claims t) (pattern-at t) pattern.Post
 pattern-returns-2 t c =
     let at-pattern = c .before .before in
     let at-if2 = at-pattern .before .before in
     let at-reference2 = at-if2 .before in
-    let at-reference = at-reference2 .before .before in
-    let at-if1 = at-reference .before .before in
-    let at-word = at-if1 .before in
-    let at-args = at-word .before .before .before in
+    let at-args = entry t at-reference2 in
     let a = at-args .args in
     let p = at-args .pre in
-    let asks = p .1 .0 in
-    let is-pair = sym (at-word .word .ensures) ∙ at-if1 .if1 .left in
-    let head-is = at-reference .reference .ensures in
-    let rest-is = at-reference2 .reference2 .ensures in
-    let here = pair-here (a .work .now) (a .form) (a .node) (a .top) asks (p .1 .1) (p .1 .2) is-pair head-is rest-is in
+    let here = opened t at-reference2 in
     let l = at-pattern .pattern in
     left-taken here (a .k) (a .taken) (l .last .0) (l .result) (at-if2 .if2 .taken) (p .1 .4) (l .ensures)
 
@@ -96,36 +102,20 @@ pattern-returns-3 t c =
     let at-dots-next = at-crowded .before .before in
     let at-if2 = at-dots-next .before .before in
     let at-reference2 = at-if2 .before in
-    let at-reference = at-reference2 .before .before in
-    let at-if1 = at-reference .before .before in
-    let at-word = at-if1 .before in
-    let at-args = at-word .before .before .before in
-    let a = at-args .args in
-    let p = at-args .pre in
-    let asks = p .1 .0 in
-    let is-pair = sym (at-word .word .ensures) ∙ at-if1 .if1 .left in
-    let head-is = at-reference .reference .ensures in
-    let rest-is = at-reference2 .reference2 .ensures in
+    let a = entry t at-reference2 .args in
+    let here = opened t at-reference2 in
     let untaken = at-if2 .if2 .left in
     let next = at-dots-next .dots-next .ensures in
-    let here = pair-here (a .work .now) (a .form) (a .node) (a .top) asks (p .1 .1) (p .1 .2) is-pair head-is rest-is in
     left-crowded here (a .k) untaken next (sym (c .if3 .taken) ∙ at-crowded .crowded .ensures)
 
 pattern-pattern-requires-2 : (t : ℕ) → pattern-lts.Need-pattern-requires-2 (pattern-claims t) (pattern-at t) pattern.Post
 pattern-pattern-requires-2 t c κs =
     let at-reference2 = c .before .before .before .before .before .before .before .before .before in
-    let at-reference = at-reference2 .before .before in
-    let at-if1 = at-reference .before .before in
-    let at-word = at-if1 .before in
-    let at-args = at-word .before .before .before in
+    let at-args = entry t at-reference2 in
     let a = at-args .args in
     let p = at-args .pre in
-    let asks = p .1 .0 in
-    let is-pair = sym (at-word .word .ensures) ∙ at-if1 .if1 .left in
-    let head-is = at-reference .reference .ensures in
-    let rest-is = at-reference2 .reference2 .ensures in
-    let here = pair-here (a .work .now) (a .form) (a .node) (a .top) asks (p .1 .1) (p .1 .2) is-pair head-is rest-is in
-    (omega (arith, p .0, head-below (a .work .now) (a .node) (a .form .wrap) (a .top) asks _ _ is-pair head-is rest-is), (asks-head (a .work .now) (a .node) (a .form .wrap) (a .top) asks _ _ is-pair head-is rest-is, p .1 .1, p .1 .2, small-head here (a .k) (p .1 .3), λ z. absurd (false≢true z)))
+    let here = opened t at-reference2 in
+    (omega (arith, p .0, head-below (a .work .now) (a .node) (a .form .wrap) (a .top) (here .asks) _ _ (here .is-pair) (here .head-is) (here .rest-is)), (asks-head (a .work .now) (a .node) (a .form .wrap) (a .top) (here .asks) _ _ (here .is-pair) (here .head-is) (here .rest-is), p .1 .1, p .1 .2, small-head here (a .k) (p .1 .3), λ z. absurd (false≢true z)))
 
 pattern-returns-4 : (t : ℕ) → pattern-lts.Need-returns-4 (pattern-claims t) (pattern-at t) pattern.Post
 pattern-returns-4 t c =
@@ -133,19 +123,10 @@ pattern-returns-4 t c =
     let at-dots-next = at-pattern2 .before .before .before .before .before .before .before in
     let at-if2 = at-dots-next .before .before in
     let at-reference2 = at-if2 .before in
-    let at-reference = at-reference2 .before .before in
-    let at-if1 = at-reference .before .before in
-    let at-word = at-if1 .before in
-    let at-args = at-word .before .before .before in
-    let a = at-args .args in
-    let p = at-args .pre in
-    let asks = p .1 .0 in
-    let is-pair = sym (at-word .word .ensures) ∙ at-if1 .if1 .left in
-    let head-is = at-reference .reference .ensures in
-    let rest-is = at-reference2 .reference2 .ensures in
+    let a = entry t at-reference2 .args in
+    let here = opened t at-reference2 in
     let untaken = at-if2 .if2 .left in
     let next = at-dots-next .dots-next .ensures in
-    let here = pair-here (a .work .now) (a .form) (a .node) (a .top) asks (p .1 .1) (p .1 .2) is-pair head-is rest-is in
     let first = at-pattern2 .pattern2 in
     left-bad here (a .k) untaken next (first .last .0) _ (c .enum-told .given .1) (first .ensures)
 
@@ -156,23 +137,16 @@ pattern-pattern-requires-3 t c κs =
     let at-dots-next = at-pattern2 .before .before .before .before .before .before .before in
     let at-if2 = at-dots-next .before .before in
     let at-reference2 = at-if2 .before in
-    let at-reference = at-reference2 .before .before in
-    let at-if1 = at-reference .before .before in
-    let at-word = at-if1 .before in
-    let at-args = at-word .before .before .before in
+    let at-args = entry t at-reference2 in
     let a = at-args .args in
     let p = at-args .pre in
-    let asks = p .1 .0 in
-    let is-pair = sym (at-word .word .ensures) ∙ at-if1 .if1 .left in
-    let head-is = at-reference .reference .ensures in
-    let rest-is = at-reference2 .reference2 .ensures in
+    let here = opened t at-reference2 in
     let untaken = at-if2 .if2 .left in
     let next = at-dots-next .dots-next .ensures in
-    let here = pair-here (a .work .now) (a .form) (a .node) (a .top) asks (p .1 .1) (p .1 .2) is-pair head-is rest-is in
     let first = at-pattern2 .pattern2 in
     let head = made-head here (a .k) untaken next (first .last .0) _ _ _ _ (at-a .a .given .1) (first .ensures) in
-    let below = rest-below (a .work .now) (a .node) (a .form .wrap) (a .top) asks _ _ is-pair head-is rest-is in
-    let asks-next = asks-rest (a .work .now) (a .node) (a .form .wrap) (a .top) asks _ _ is-pair head-is rest-is _ _ _ (first .kept .0) (head .grows) in
+    let below = rest-below (a .work .now) (a .node) (a .form .wrap) (a .top) (here .asks) _ _ (here .is-pair) (here .head-is) (here .rest-is) in
+    let asks-next = asks-rest (a .work .now) (a .node) (a .form .wrap) (a .top) (here .asks) _ _ (here .is-pair) (here .head-is) (here .rest-is) _ _ _ (first .kept .0) (head .grows) in
     let dots-left = dots-still here (a .k) untaken next (first .kept .0) head in
     let literals-left = literals-still here (a .k) untaken next (first .kept .0) head in
     let small = small-rest here (a .k) untaken next (first .kept .0) head (p .1 .3) in
@@ -187,19 +161,10 @@ pattern-returns-5 t c =
     let at-dots-next = at-pattern2 .before .before .before .before .before .before .before in
     let at-if2 = at-dots-next .before .before in
     let at-reference2 = at-if2 .before in
-    let at-reference = at-reference2 .before .before in
-    let at-if1 = at-reference .before .before in
-    let at-word = at-if1 .before in
-    let at-args = at-word .before .before .before in
-    let a = at-args .args in
-    let p = at-args .pre in
-    let asks = p .1 .0 in
-    let is-pair = sym (at-word .word .ensures) ∙ at-if1 .if1 .left in
-    let head-is = at-reference .reference .ensures in
-    let rest-is = at-reference2 .reference2 .ensures in
+    let a = entry t at-reference2 .args in
+    let here = opened t at-reference2 in
     let untaken = at-if2 .if2 .left in
     let next = at-dots-next .dots-next .ensures in
-    let here = pair-here (a .work .now) (a .form) (a .node) (a .top) asks (p .1 .1) (p .1 .2) is-pair head-is rest-is in
     let first = at-pattern2 .pattern2 in
     let head = made-head here (a .k) untaken next (first .last .0) _ _ _ _ (at-a .a .given .1) (first .ensures) in
     let second = at-pattern3 .pattern3 in
@@ -214,24 +179,15 @@ pattern-put-list-requires t c κs =
     let at-dots-next = at-pattern2 .before .before .before .before .before .before .before in
     let at-if2 = at-dots-next .before .before in
     let at-reference2 = at-if2 .before in
-    let at-reference = at-reference2 .before .before in
-    let at-if1 = at-reference .before .before in
-    let at-word = at-if1 .before in
-    let at-args = at-word .before .before .before in
-    let a = at-args .args in
-    let p = at-args .pre in
-    let asks = p .1 .0 in
-    let is-pair = sym (at-word .word .ensures) ∙ at-if1 .if1 .left in
-    let head-is = at-reference .reference .ensures in
-    let rest-is = at-reference2 .reference2 .ensures in
+    let a = entry t at-reference2 .args in
+    let here = opened t at-reference2 in
     let untaken = at-if2 .if2 .left in
     let next = at-dots-next .dots-next .ensures in
-    let here = pair-here (a .work .now) (a .form) (a .node) (a .top) asks (p .1 .1) (p .1 .2) is-pair head-is rest-is in
     let first = at-pattern2 .pattern2 in
     let head = made-head here (a .k) untaken next (first .last .0) _ _ _ _ (at-a .a .given .1) (first .ensures) in
     let second = at-pattern3 .pattern3 in
     let later = made-rest here (a .k) untaken next (first .kept .0) head (second .last .0) _ _ _ _ (at-b .b .given .1) (second .ensures) in
-    (room-pair (a .work .now) (a .node) (a .form .wrap) (a .top) asks _ _ is-pair head-is rest-is _ _ _ (first .kept .0) (head .grows) _ _ _ (second .kept .0) (later .grows), omega (arith, head .grows .at-most, later .grows .up), later .grows .at-most)
+    (room-pair (a .work .now) (a .node) (a .form .wrap) (a .top) (here .asks) _ _ (here .is-pair) (here .head-is) (here .rest-is) _ _ _ (first .kept .0) (head .grows) _ _ _ (second .kept .0) (later .grows), omega (arith, head .grows .at-most, later .grows .up), later .grows .at-most)
 
 pattern-returns-6 : (t : ℕ) → pattern-lts.Need-returns-6 (pattern-claims t) (pattern-at t) pattern.Post
 pattern-returns-6 t c =
@@ -246,19 +202,10 @@ pattern-returns-6 t c =
     let at-dots-next = at-crowded .before .before in
     let at-if2 = at-dots-next .before .before in
     let at-reference2 = at-if2 .before in
-    let at-reference = at-reference2 .before .before in
-    let at-if1 = at-reference .before .before in
-    let at-word = at-if1 .before in
-    let at-args = at-word .before .before .before in
-    let a = at-args .args in
-    let p = at-args .pre in
-    let asks = p .1 .0 in
-    let is-pair = sym (at-word .word .ensures) ∙ at-if1 .if1 .left in
-    let head-is = at-reference .reference .ensures in
-    let rest-is = at-reference2 .reference2 .ensures in
+    let a = entry t at-reference2 .args in
+    let here = opened t at-reference2 in
     let untaken = at-if2 .if2 .left in
     let next = at-dots-next .dots-next .ensures in
-    let here = pair-here (a .work .now) (a .form) (a .node) (a .top) asks (p .1 .1) (p .1 .2) is-pair head-is rest-is in
     let first = at-pattern2 .pattern2 in
     let head = made-head here (a .k) untaken next (first .last .0) _ _ _ _ (at-a .a .given .1) (first .ensures) in
     let second = at-pattern3 .pattern3 in

@@ -16,7 +16,7 @@ use borrow.Author.Needs.{needs}
 use Rattle.words.specs.Packed.{builtOf}
 use Rattle.rule_cells.specs.ParseLaws.{packs-at, packs, asks-tail, rest-below}
 use Rattle.rule_cells.specs.RuleParse.{RulesLeft}
-use Rattle.rule_cells.specs.PatternLaws.{pair-here}
+use Rattle.rule_cells.specs.PatternLaws.{PairHere, pair-here}
 use Rattle.rule_cells.specs.RuleListLaws.{left-end, left-later, made-later, asks-first, literals-still, left-both, dots-still}
 use mathlib.Core.Path.{sym, _∙_}
 use native.Mathlib.Omega.{arith}
@@ -45,20 +45,34 @@ rule-list-returns t c =
     let left = left-end (a .work .now) (a .form) (a .node) (a .top) (λ z. at-if1 .if1 .taken (at-word .word .ensures ∙ z)) in
     packs-at (RulesLeft _ _ _ _ _) _ _ _ _ (packs (a .work .now) (a .node) (a .form .wrap) (a .top) (p .1 .0)) (c .pair .ensures) (left .words) left
 
+-- the entry, from where the pair at hand is opened
+abbrev entry : (t : ℕ) → rule-list-lts.After-reference2 (rule-list-claims t) (rule-list-at t) rule-list.Post → rule-list-lts.Start (rule-list-claims t) (rule-list-at t) rule-list.Post
+entry t c = c .before .before .before .before .before .before .before .before
+
+-- that pair
+abbrev Opened : (t : ℕ) → rule-list-lts.After-reference2 (rule-list-claims t) (rule-list-at t) rule-list.Post → Type 0
+Opened t c =
+    let a = entry t c .args in
+    PairHere (a .work .now) (a .form) (a .node) (a .top) (c .before .before .reference .result) (c .reference2 .result)
+
+opened : (t : ℕ) (c : rule-list-lts.After-reference2 (rule-list-claims t) (rule-list-at t) rule-list.Post) → Opened t c
+opened t c =
+    let at-reference = c .before .before in
+    let at-if1 = at-reference .before .before in
+    let at-word = at-if1 .before in
+    let at-args = entry t c in
+    let a = at-args .args in
+    let p = at-args .pre in
+    pair-here (a .work .now) (a .form) (a .node) (a .top) (p .1 .0) (p .1 .1) (p .1 .2) (sym (at-word .word .ensures) ∙ at-if1 .if1 .left) (at-reference .reference .ensures) (c .reference2 .ensures)
+
 rule-list-rule-list-requires : (t : ℕ) → rule-list-lts.Need-rule-list-requires (rule-list-claims t) (rule-list-at t) rule-list.Post
 rule-list-rule-list-requires t c κs =
     let at-reference2 = c .before in
-    let at-reference = at-reference2 .before .before in
-    let at-if1 = at-reference .before .before in
-    let at-word = at-if1 .before in
-    let at-args = at-word .before .before .before in
+    let at-args = entry t at-reference2 in
     let a = at-args .args in
     let p = at-args .pre in
-    let asks = p .1 .0 in
-    let is-pair = sym (at-word .word .ensures) ∙ at-if1 .if1 .left in
-    let head-is = at-reference .reference .ensures in
-    let rest-is = at-reference2 .reference2 .ensures in
-    (omega (arith, p .0, rest-below (a .work .now) (a .node) (a .form .wrap) (a .top) asks _ _ is-pair head-is rest-is), (asks-tail (a .work .now) (a .node) (a .form .wrap) (a .top) asks _ _ is-pair head-is rest-is, p .1 .1, p .1 .2))
+    let here = opened t at-reference2 in
+    (omega (arith, p .0, rest-below (a .work .now) (a .node) (a .form .wrap) (a .top) (here .asks) _ _ (here .is-pair) (here .head-is) (here .rest-is)), (asks-tail (a .work .now) (a .node) (a .form .wrap) (a .top) (here .asks) _ _ (here .is-pair) (here .head-is) (here .rest-is), p .1 .1, p .1 .2))
 
 rule-list-returns-2 : (t : ℕ) → rule-list-lts.Need-returns-2 (rule-list-claims t) (rule-list-at t) rule-list.Post
 unfolding builtOf
@@ -66,17 +80,8 @@ rule-list-returns-2 t c =
     let at-parts = c .before .before in
     let at-rule-list = at-parts .before .before .before in
     let at-reference2 = at-rule-list .before .before in
-    let at-reference = at-reference2 .before .before in
-    let at-if1 = at-reference .before .before in
-    let at-word = at-if1 .before in
-    let at-args = at-word .before .before .before in
-    let a = at-args .args in
-    let p = at-args .pre in
-    let asks = p .1 .0 in
-    let is-pair = sym (at-word .word .ensures) ∙ at-if1 .if1 .left in
-    let head-is = at-reference .reference .ensures in
-    let rest-is = at-reference2 .reference2 .ensures in
-    let here = pair-here (a .work .now) (a .form) (a .node) (a .top) asks (p .1 .1) (p .1 .2) is-pair head-is rest-is in
+    let a = entry t at-reference2 .args in
+    let here = opened t at-reference2 in
     let l = at-rule-list .rule-list in
     left-later here (l .last .0) (builtOf (l .result)) (sym (at-parts .parts .ensures) ∙ c .enum-told .given .1) (l .ensures)
 
@@ -86,17 +91,8 @@ rule-list-rule-requires t c κs =
     let at-parts = at-next .before .before in
     let at-rule-list = at-parts .before .before .before in
     let at-reference2 = at-rule-list .before .before in
-    let at-reference = at-reference2 .before .before in
-    let at-if1 = at-reference .before .before in
-    let at-word = at-if1 .before in
-    let at-args = at-word .before .before .before in
-    let a = at-args .args in
-    let p = at-args .pre in
-    let asks = p .1 .0 in
-    let is-pair = sym (at-word .word .ensures) ∙ at-if1 .if1 .left in
-    let head-is = at-reference .reference .ensures in
-    let rest-is = at-reference2 .reference2 .ensures in
-    let here = pair-here (a .work .now) (a .form) (a .node) (a .top) asks (p .1 .1) (p .1 .2) is-pair head-is rest-is in
+    let a = entry t at-reference2 .args in
+    let here = opened t at-reference2 in
     let l = at-rule-list .rule-list in
     let later = made-later here (l .last .0) (builtOf (l .result)) _ _ (sym (at-parts .parts .ensures) ∙ at-next .next .given .1) (l .ensures) in
     (asks-first here (l .kept .0) later, dots-still here (l .kept .0) later, literals-still here (l .kept .0) later, later .at-most)
@@ -108,17 +104,8 @@ rule-list-returns-3 t c =
     let at-parts = at-next .before .before in
     let at-rule-list = at-parts .before .before .before in
     let at-reference2 = at-rule-list .before .before in
-    let at-reference = at-reference2 .before .before in
-    let at-if1 = at-reference .before .before in
-    let at-word = at-if1 .before in
-    let at-args = at-word .before .before .before in
-    let a = at-args .args in
-    let p = at-args .pre in
-    let asks = p .1 .0 in
-    let is-pair = sym (at-word .word .ensures) ∙ at-if1 .if1 .left in
-    let head-is = at-reference .reference .ensures in
-    let rest-is = at-reference2 .reference2 .ensures in
-    let here = pair-here (a .work .now) (a .form) (a .node) (a .top) asks (p .1 .1) (p .1 .2) is-pair head-is rest-is in
+    let a = entry t at-reference2 .args in
+    let here = opened t at-reference2 in
     let l = at-rule-list .rule-list in
     let later = made-later here (l .last .0) (builtOf (l .result)) _ _ (sym (at-parts .parts .ensures) ∙ at-next .next .given .1) (l .ensures) in
     left-both here (l .kept .0) later (at-rule .rule .last .0) (builtOf (at-rule .rule .result)) (at-rule .rule .ensures)

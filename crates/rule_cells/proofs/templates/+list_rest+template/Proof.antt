@@ -30,7 +30,7 @@ use Rattle.rule_cells.specs.Parse.{TemplateLeft, restPlace}
 use mathlib.Core.Path.{sym, _∙_, refl}
 use native.Mathlib.Omega.{arith}
 use Rattle.arena.specs.Arena.{treeAt}
-use Rattle.rule_cells.specs.TemplateLaws.{template-here, left-leaf, left-taken, left-bad, made-head, left-undriven, under-still, dots-still, left-bad-rest, made-rest, left-list, left-plain, left-unescaped, inside-below, asks-inside, some-top, left-escape}
+use Rattle.rule_cells.specs.TemplateLaws.{TemplateHere, template-here, left-leaf, left-taken, left-bad, made-head, left-undriven, under-still, dots-still, left-bad-rest, made-rest, left-list, left-plain, left-unescaped, inside-below, asks-inside, some-top, left-escape}
 use Rattle.rule_cells.specs.Scopes.{dotsUnder, variablesUnder}
 
 abbrev μ-list-rest : Measures 2 list-rest-kinds.ps ℕ
@@ -75,74 +75,67 @@ list-rest-returns t c =
     let l = at-template-leaf .template-leaf in
     left-leaf (dotsUnder (a .work .now) (a .scope)) (variablesUnder (a .work .now) (a .vars .now) (a .scope)) (a .scope .d) (restPlace (a .taken)) (a .work .now) (a .node) (a .scope .wrap) (a .top) (l .last .0) (builtOf (l .result)) (λ z. at-if1 .if1 .taken (at-word .word .ensures ∙ z)) (l .ensures)
 
+-- the entry, from where the pair at hand is opened
+abbrev entry : (t : ℕ) → list-rest-lts.After-reference2 (list-rest-claims t) (list-rest-at t) list-rest.Post → list-rest-lts.Start (list-rest-claims t) (list-rest-at t) list-rest.Post
+entry t c = c .before .before .before .before .before .before .before .before .before
+
+-- that pair
+abbrev Opened : (t : ℕ) → list-rest-lts.After-reference2 (list-rest-claims t) (list-rest-at t) list-rest.Post → Type 0
+Opened t c =
+    let a = entry t c .args in
+    TemplateHere (a .work .now) (a .vars .now) (a .scope) (a .node) (a .top) (c .before .before .reference .result) (c .reference2 .result)
+
+opened : (t : ℕ) (c : list-rest-lts.After-reference2 (list-rest-claims t) (list-rest-at t) list-rest.Post) → Opened t c
+opened t c =
+    let at-reference = c .before .before in
+    let at-if1 = at-reference .before .before in
+    let at-word = at-if1 .before in
+    let at-args = entry t c in
+    let a = at-args .args in
+    let p = at-args .pre in
+    template-here (a .work .now) (a .vars .now) (a .scope) (a .node) (a .top) (p .1 .0) (p .1 .3) (p .1 .4) (sym (at-word .word .ensures) ∙ at-if1 .if1 .left) (at-reference .reference .ensures) (c .reference2 .ensures)
+
 list-rest-list-rest-requires : (t : ℕ) → list-rest-lts.Need-list-rest-requires (list-rest-claims t) (list-rest-at t) list-rest.Post
 list-rest-list-rest-requires t c κs =
     let at-reference2 = c .before .before in
-    let at-reference = at-reference2 .before .before in
-    let at-if1 = at-reference .before .before in
-    let at-word = at-if1 .before in
-    let at-args = at-word .before .before .before .before in
+    let at-args = entry t at-reference2 in
     let a = at-args .args in
     let p = at-args .pre in
-    let asks = p .1 .0 in
-    let is-pair = sym (at-word .word .ensures) ∙ at-if1 .if1 .left in
-    let head-is = at-reference .reference .ensures in
-    let rest-is = at-reference2 .reference2 .ensures in
-    let below = rest-below (a .work .now) (a .node) (a .scope .wrap) (a .top) asks _ _ is-pair head-is rest-is in
-    (omega (arith, p .0, below), (asks-tail (a .work .now) (a .node) (a .scope .wrap) (a .top) asks _ _ is-pair head-is rest-is, p .1 .1, p .1 .2, p .1 .3, p .1 .4, omega (arith, p .1 .5, below)))
+    let here = opened t at-reference2 in
+    let below = rest-below (a .work .now) (a .node) (a .scope .wrap) (a .top) (here .asks) _ _ (here .is-pair) (here .head-is) (here .rest-is) in
+    (omega (arith, p .0, below), (asks-tail (a .work .now) (a .node) (a .scope .wrap) (a .top) (here .asks) _ _ (here .is-pair) (here .head-is) (here .rest-is), p .1 .1, p .1 .2, p .1 .3, p .1 .4, omega (arith, p .1 .5, below)))
 
 list-rest-returns-2 : (t : ℕ) → list-rest-lts.Need-returns-2 (list-rest-claims t) (list-rest-at t) list-rest.Post
 list-rest-returns-2 t c =
     let at-list-rest = c .before .before in
     let at-if2 = at-list-rest .before .before in
     let at-reference2 = at-if2 .before in
-    let at-reference = at-reference2 .before .before in
-    let at-if1 = at-reference .before .before in
-    let at-word = at-if1 .before in
-    let at-args = at-word .before .before .before .before in
-    let a = at-args .args in
-    let p = at-args .pre in
-    let asks = p .1 .0 in
-    let is-pair = sym (at-word .word .ensures) ∙ at-if1 .if1 .left in
-    let head-is = at-reference .reference .ensures in
-    let rest-is = at-reference2 .reference2 .ensures in
-    let here = template-here (a .work .now) (a .vars .now) (a .scope) (a .node) (a .top) asks (p .1 .3) (p .1 .4) is-pair head-is rest-is in
+    let a = entry t at-reference2 .args in
+    let here = opened t at-reference2 in
     let l = at-list-rest .list-rest in
     left-taken here (a .taken) (l .last .0) (builtOf (l .result)) (at-if2 .if2 .taken) (l .ensures)
 
 list-rest-element-depth-requires : (t : ℕ) → list-rest-lts.Need-element-depth-requires (list-rest-claims t) (list-rest-at t) list-rest.Post
 list-rest-element-depth-requires t c κs =
     let at-reference2 = c .before .before .before in
-    let at-reference = at-reference2 .before .before in
-    let at-if1 = at-reference .before .before in
-    let at-word = at-if1 .before in
-    let at-args = at-word .before .before .before .before in
+    let at-args = entry t at-reference2 in
     let a = at-args .args in
     let p = at-args .pre in
-    let asks = p .1 .0 in
-    let is-pair = sym (at-word .word .ensures) ∙ at-if1 .if1 .left in
-    let head-is = at-reference .reference .ensures in
-    let rest-is = at-reference2 .reference2 .ensures in
-    omega (arith, p .1 .5, head-below (a .work .now) (a .node) (a .scope .wrap) (a .top) asks _ _ is-pair head-is rest-is)
+    let here = opened t at-reference2 in
+    omega (arith, p .1 .5, head-below (a .work .now) (a .node) (a .scope .wrap) (a .top) (here .asks) _ _ (here .is-pair) (here .head-is) (here .rest-is))
 
 list-rest-template-requires : (t : ℕ) → list-rest-lts.Need-template-requires (list-rest-claims t) (list-rest-at t) list-rest.Post
 list-rest-template-requires t c κs =
     let at-element-depth = c .before in
     let at-dots-next = at-element-depth .before in
     let at-reference2 = at-dots-next .before .before .before in
-    let at-reference = at-reference2 .before .before in
-    let at-if1 = at-reference .before .before in
-    let at-word = at-if1 .before in
-    let at-args = at-word .before .before .before .before in
+    let at-args = entry t at-reference2 in
     let a = at-args .args in
     let p = at-args .pre in
-    let asks = p .1 .0 in
-    let is-pair = sym (at-word .word .ensures) ∙ at-if1 .if1 .left in
-    let head-is = at-reference .reference .ensures in
-    let rest-is = at-reference2 .reference2 .ensures in
-    let below = head-below (a .work .now) (a .node) (a .scope .wrap) (a .top) asks _ _ is-pair head-is rest-is in
+    let here = opened t at-reference2 in
+    let below = head-below (a .work .now) (a .node) (a .scope .wrap) (a .top) (here .asks) _ _ (here .is-pair) (here .head-is) (here .rest-is) in
     let deeper = deeper-by (dotsUnder (a .work .now) (a .scope)) (treeAt (a .work .now) _ (a .scope .wrap)) (a .scope .d) _ _ (at-element-depth .element-depth .ensures) (at-dots-next .dots-next .ensures) in
-    (omega (arith, p .0, below), (asks-head (a .work .now) (a .node) (a .scope .wrap) (a .top) asks _ _ is-pair head-is rest-is, p .1 .1, p .1 .2, p .1 .3, p .1 .4, omega (arith, p .1 .5, below, deeper-most _ _ _ _ deeper)))
+    (omega (arith, p .0, below), (asks-head (a .work .now) (a .node) (a .scope .wrap) (a .top) (here .asks) _ _ (here .is-pair) (here .head-is) (here .rest-is), p .1 .1, p .1 .2, p .1 .3, p .1 .4, omega (arith, p .1 .5, below, deeper-most _ _ _ _ deeper)))
 
 list-rest-returns-3 : (t : ℕ) → list-rest-lts.Need-returns-3 (list-rest-claims t) (list-rest-at t) list-rest.Post
 unfolding builtOf
@@ -153,17 +146,8 @@ list-rest-returns-3 t c =
     let at-dots-next = at-element-depth .before in
     let at-if2 = at-dots-next .before .before in
     let at-reference2 = at-if2 .before in
-    let at-reference = at-reference2 .before .before in
-    let at-if1 = at-reference .before .before in
-    let at-word = at-if1 .before in
-    let at-args = at-word .before .before .before .before in
-    let a = at-args .args in
-    let p = at-args .pre in
-    let asks = p .1 .0 in
-    let is-pair = sym (at-word .word .ensures) ∙ at-if1 .if1 .left in
-    let head-is = at-reference .reference .ensures in
-    let rest-is = at-reference2 .reference2 .ensures in
-    let here = template-here (a .work .now) (a .vars .now) (a .scope) (a .node) (a .top) asks (p .1 .3) (p .1 .4) is-pair head-is rest-is in
+    let a = entry t at-reference2 .args in
+    let here = opened t at-reference2 in
     let untaken = at-if2 .if2 .left in
     let next = at-dots-next .dots-next .ensures in
     let deeper = deeper-by (dotsUnder (a .work .now) (a .scope)) (treeAt (a .work .now) _ (a .scope .wrap)) (a .scope .d) _ _ (at-element-depth .element-depth .ensures) next in
@@ -179,24 +163,17 @@ list-rest-list-rest-requires-2 t c κs =
     let at-dots-next = at-element-depth .before in
     let at-if2 = at-dots-next .before .before in
     let at-reference2 = at-if2 .before in
-    let at-reference = at-reference2 .before .before in
-    let at-if1 = at-reference .before .before in
-    let at-word = at-if1 .before in
-    let at-args = at-word .before .before .before .before in
+    let at-args = entry t at-reference2 in
     let a = at-args .args in
     let p = at-args .pre in
-    let asks = p .1 .0 in
-    let is-pair = sym (at-word .word .ensures) ∙ at-if1 .if1 .left in
-    let head-is = at-reference .reference .ensures in
-    let rest-is = at-reference2 .reference2 .ensures in
-    let here = template-here (a .work .now) (a .vars .now) (a .scope) (a .node) (a .top) asks (p .1 .3) (p .1 .4) is-pair head-is rest-is in
+    let here = opened t at-reference2 in
     let untaken = at-if2 .if2 .left in
     let next = at-dots-next .dots-next .ensures in
     let deeper = deeper-by (dotsUnder (a .work .now) (a .scope)) (treeAt (a .work .now) _ (a .scope .wrap)) (a .scope .d) _ _ (at-element-depth .element-depth .ensures) next in
     let first = at-template .template in
     let head = made-head here untaken next deeper (first .last .0) (builtOf (first .result)) _ _ (sym (at-parts .parts .ensures) ∙ at-a .a .given .1) (first .ensures) in
-    let below = rest-below (a .work .now) (a .node) (a .scope .wrap) (a .top) asks _ _ is-pair head-is rest-is in
-    (omega (arith, p .0, below), (asks-rest (a .work .now) (a .node) (a .scope .wrap) (a .top) asks _ _ is-pair head-is rest-is _ _ _ (first .kept .0) (head .grows), p .1 .1, p .1 .2, under-still here untaken next deeper (first .kept .0) head, dots-still here untaken next deeper (first .kept .0) head, omega (arith, p .1 .5, below)))
+    let below = rest-below (a .work .now) (a .node) (a .scope .wrap) (a .top) (here .asks) _ _ (here .is-pair) (here .head-is) (here .rest-is) in
+    (omega (arith, p .0, below), (asks-rest (a .work .now) (a .node) (a .scope .wrap) (a .top) (here .asks) _ _ (here .is-pair) (here .head-is) (here .rest-is) _ _ _ (first .kept .0) (head .grows), p .1 .1, p .1 .2, under-still here untaken next deeper (first .kept .0) head, dots-still here untaken next deeper (first .kept .0) head, omega (arith, p .1 .5, below)))
 
 list-rest-returns-4 : (t : ℕ) → list-rest-lts.Need-returns-4 (list-rest-claims t) (list-rest-at t) list-rest.Post
 unfolding builtOf
@@ -210,17 +187,8 @@ list-rest-returns-4 t c =
     let at-dots-next = at-element-depth .before in
     let at-if2 = at-dots-next .before .before in
     let at-reference2 = at-if2 .before in
-    let at-reference = at-reference2 .before .before in
-    let at-if1 = at-reference .before .before in
-    let at-word = at-if1 .before in
-    let at-args = at-word .before .before .before .before in
-    let a = at-args .args in
-    let p = at-args .pre in
-    let asks = p .1 .0 in
-    let is-pair = sym (at-word .word .ensures) ∙ at-if1 .if1 .left in
-    let head-is = at-reference .reference .ensures in
-    let rest-is = at-reference2 .reference2 .ensures in
-    let here = template-here (a .work .now) (a .vars .now) (a .scope) (a .node) (a .top) asks (p .1 .3) (p .1 .4) is-pair head-is rest-is in
+    let a = entry t at-reference2 .args in
+    let here = opened t at-reference2 in
     let untaken = at-if2 .if2 .left in
     let next = at-dots-next .dots-next .ensures in
     let deeper = deeper-by (dotsUnder (a .work .now) (a .scope)) (treeAt (a .work .now) _ (a .scope .wrap)) (a .scope .d) _ _ (at-element-depth .element-depth .ensures) next in
@@ -241,17 +209,8 @@ list-rest-put-list-requires t c κs =
     let at-dots-next = at-element-depth .before in
     let at-if2 = at-dots-next .before .before in
     let at-reference2 = at-if2 .before in
-    let at-reference = at-reference2 .before .before in
-    let at-if1 = at-reference .before .before in
-    let at-word = at-if1 .before in
-    let at-args = at-word .before .before .before .before in
-    let a = at-args .args in
-    let p = at-args .pre in
-    let asks = p .1 .0 in
-    let is-pair = sym (at-word .word .ensures) ∙ at-if1 .if1 .left in
-    let head-is = at-reference .reference .ensures in
-    let rest-is = at-reference2 .reference2 .ensures in
-    let here = template-here (a .work .now) (a .vars .now) (a .scope) (a .node) (a .top) asks (p .1 .3) (p .1 .4) is-pair head-is rest-is in
+    let a = entry t at-reference2 .args in
+    let here = opened t at-reference2 in
     let untaken = at-if2 .if2 .left in
     let next = at-dots-next .dots-next .ensures in
     let deeper = deeper-by (dotsUnder (a .work .now) (a .scope)) (treeAt (a .work .now) _ (a .scope .wrap)) (a .scope .d) _ _ (at-element-depth .element-depth .ensures) next in
@@ -259,7 +218,7 @@ list-rest-put-list-requires t c κs =
     let head = made-head here untaken next deeper (first .last .0) (builtOf (first .result)) _ _ (sym (at-parts .parts .ensures) ∙ at-a .a .given .1) (first .ensures) in
     let second = at-list-rest2 .list-rest2 in
     let later = made-rest here untaken next deeper (first .kept .0) head (second .last .0) (builtOf (second .result)) _ _ (sym (at-parts2 .parts2 .ensures) ∙ at-b .b .given .1) (second .ensures) in
-    (room-pair (a .work .now) (a .node) (a .scope .wrap) (a .top) asks _ _ is-pair head-is rest-is _ _ _ (first .kept .0) (head .grows) _ _ _ (second .kept .0) (later .grows), omega (arith, head .grows .at-most, later .grows .up), later .grows .at-most)
+    (room-pair (a .work .now) (a .node) (a .scope .wrap) (a .top) (here .asks) _ _ (here .is-pair) (here .head-is) (here .rest-is) _ _ _ (first .kept .0) (head .grows) _ _ _ (second .kept .0) (later .grows), omega (arith, head .grows .at-most, later .grows .up), later .grows .at-most)
 
 list-rest-returns-5 : (t : ℕ) → list-rest-lts.Need-returns-5 (list-rest-claims t) (list-rest-at t) list-rest.Post
 list-rest-returns-5 t c =
@@ -276,17 +235,8 @@ list-rest-returns-5 t c =
     let at-dots-next = at-element-depth .before in
     let at-if2 = at-dots-next .before .before in
     let at-reference2 = at-if2 .before in
-    let at-reference = at-reference2 .before .before in
-    let at-if1 = at-reference .before .before in
-    let at-word = at-if1 .before in
-    let at-args = at-word .before .before .before .before in
-    let a = at-args .args in
-    let p = at-args .pre in
-    let asks = p .1 .0 in
-    let is-pair = sym (at-word .word .ensures) ∙ at-if1 .if1 .left in
-    let head-is = at-reference .reference .ensures in
-    let rest-is = at-reference2 .reference2 .ensures in
-    let here = template-here (a .work .now) (a .vars .now) (a .scope) (a .node) (a .top) asks (p .1 .3) (p .1 .4) is-pair head-is rest-is in
+    let a = entry t at-reference2 .args in
+    let here = opened t at-reference2 in
     let untaken = at-if2 .if2 .left in
     let next = at-dots-next .dots-next .ensures in
     let deeper = deeper-by (dotsUnder (a .work .now) (a .scope)) (treeAt (a .work .now) _ (a .scope .wrap)) (a .scope .d) _ _ (at-element-depth .element-depth .ensures) next in
@@ -295,7 +245,7 @@ list-rest-returns-5 t c =
     let second = at-list-rest2 .list-rest2 in
     let later = made-rest here untaken next deeper (first .kept .0) head (second .last .0) (builtOf (second .result)) _ _ (sym (at-parts2 .parts2 .ensures) ∙ at-b .b .given .1) (second .ensures) in
     let left = left-list here untaken next deeper (first .kept .0) head _ _ _ _ _ (sym (at-if3 .if3 .taken) ∙ at-accepted .accepted .ensures) later (at-put-list .put-list .ensures .1) in
-    packs-at (TemplateLeft _ _ _ _ _ _ _ _) _ _ _ _ (packs (a .work .now) (a .node) (a .scope .wrap) (a .top) asks) (c .pair .ensures) (left .grows .words) left
+    packs-at (TemplateLeft _ _ _ _ _ _ _ _) _ _ _ _ (packs (a .work .now) (a .node) (a .scope .wrap) (a .top) (here .asks)) (c .pair .ensures) (left .grows .words) left
 
 list-rest-returns-6 : (t : ℕ) → list-rest-lts.Need-returns-6 (list-rest-claims t) (list-rest-at t) list-rest.Post
 unfolding builtOf
@@ -308,17 +258,8 @@ list-rest-returns-6 t c =
     let at-dots-next = at-element-depth .before in
     let at-if2 = at-dots-next .before .before in
     let at-reference2 = at-if2 .before in
-    let at-reference = at-reference2 .before .before in
-    let at-if1 = at-reference .before .before in
-    let at-word = at-if1 .before in
-    let at-args = at-word .before .before .before .before in
-    let a = at-args .args in
-    let p = at-args .pre in
-    let asks = p .1 .0 in
-    let is-pair = sym (at-word .word .ensures) ∙ at-if1 .if1 .left in
-    let head-is = at-reference .reference .ensures in
-    let rest-is = at-reference2 .reference2 .ensures in
-    let here = template-here (a .work .now) (a .vars .now) (a .scope) (a .node) (a .top) asks (p .1 .3) (p .1 .4) is-pair head-is rest-is in
+    let a = entry t at-reference2 .args in
+    let here = opened t at-reference2 in
     let untaken = at-if2 .if2 .left in
     let next = at-dots-next .dots-next .ensures in
     let deeper = deeper-by (dotsUnder (a .work .now) (a .scope)) (treeAt (a .work .now) _ (a .scope .wrap)) (a .scope .d) _ _ (at-element-depth .element-depth .ensures) next in
