@@ -37,7 +37,9 @@ same-length c =
 
 returns-2 : tie.Need-returns-2 Inv-loop μ-loop
 returns-2 c =
-    none-counted _ (none-no _ _ (length (c .before .before .before .before .before .before .before .before .before .before .args .flags .now)) (c .before .before .before .before .before .before .before .before .before .before .args .words .now) 0 _ (c .before .before .before .before .before .before .before .before .before .before .pre .1) (shaped-none _ _ _ _ _ _ (c .before .before .before .before .term .ensures .0) (c .enum-told .given .1)))
+    let at-term = c .before .before .before .before in
+    let at-args = at-term .before .before .before .before .before .before in
+    none-counted _ (none-no _ _ (length (at-args .args .flags .now)) (at-args .args .words .now) 0 _ (at-args .pre .1) (shaped-none _ _ _ _ _ _ (at-term .term .ensures .0) (c .enum-told .given .1)))
 
 same-length-2 : tie.Need-same-length-2 Inv-loop μ-loop
 same-length-2 c =
@@ -45,11 +47,16 @@ same-length-2 c =
 
 returns-3 : tie.Need-returns-3 Inv-loop μ-loop
 returns-3 c =
-    none-counted _ (left-no _ _ (length (c .before .before .before .before .before .before .before .before .before .before .before .before .args .flags .now)) (c .before .before .before .before .before .before .before .before .before .before .before .before .args .words .now) _ _ (clean-whole _ _ (length (c .before .before .before .before .before .before .before .before .before .before .before .before .args .flags .now)) (c .before .before .before .before .before .before .before .before .before .before .before .before .args .words .now) 0 _ (c .before .before .before .before .before .before .before .before .before .before .before .before .pre .1) _ _ (shaped-term _ _ _ _ _ _ (c .before .before .before .before .before .before .term .ensures .0) _ _ (c .before .before .used .given .1))) (c .if2 .taken))
+    let at-used = c .before .before in
+    let at-term = at-used .before .before .before .before in
+    let at-args = at-term .before .before .before .before .before .before in
+    none-counted _ (left-no _ _ (length (at-args .args .flags .now)) (at-args .args .words .now) _ _ (clean-whole _ _ (length (at-args .args .flags .now)) (at-args .args .words .now) 0 _ (at-args .pre .1) _ _ (shaped-term _ _ _ _ _ _ (at-term .term .ensures .0) _ _ (at-used .used .given .1))) (c .if2 .taken))
 
 loop-holds : tie.Need-loop-holds Inv-loop μ-loop
 loop-holds c =
-    walked-first _ _ _ _ _ _ _ (c .before .before .before .before .before .before .before .before .before .before .before .before .pre .1) (shaped-term _ _ _ _ _ _ (c .before .before .before .before .before .before .term .ensures .0) _ _ (c .before .before .used .given .1)) (kept-term _ _ _ _ _ (c .before .before .before .before .before .before .term .ensures .1) (c .before .before .used .given .1))
+    let at-used = c .before .before in
+    let at-term = at-used .before .before .before .before in
+    walked-first _ _ _ _ _ _ _ (at-term .before .before .before .before .before .before .pre .1) (shaped-term _ _ _ _ _ _ (at-term .term .ensures .0) _ _ (at-used .used .given .1)) (kept-term _ _ _ _ _ (at-term .term .ensures .1) (at-used .used .given .1))
 
 term-requires-2 : tie.Need-term-requires-2 Inv-loop μ-loop
 term-requires-2 c κs =
@@ -57,15 +64,20 @@ term-requires-2 c κs =
 
 loop-less : tie.Need-loop-less Inv-loop μ-loop
 loop-less c =
-    omega (arith, c .before .before .before .before .before .before .before .before .before .before .before .before .before .before .before .before .before .before .before .before .before .pre .0, c .before .before .before .before .before .before .before .before .before .before .before .before .before .before .before .term .kept .1 .1 .0)
+    let at-term = c .before .before .before .before .before .before .before .before .before .before .before .before .before .before .before in
+    omega (arith, at-term .before .before .before .before .before .before .pre .0, at-term .term .kept .1 .1 .0)
 
 loop-again : tie.Need-loop-again Inv-loop μ-loop
 loop-again c =
-    walked-more _ _ _ _ _ _ _ _ (c .before .before .before .before .before .before .before .before .loop .inv) _ _ _ (omega arith) (shaped-term _ _ _ _ _ _ (c .before .before .before .before .before .term2 .ensures .0) _ _ (c .before .again .given .1)) (kept-term _ _ _ _ _ (c .before .before .before .before .before .term2 .ensures .1) (c .before .again .given .1))
+    let at-again = c .before in
+    let at-term2 = at-again .before .before .before .before in
+    walked-more _ _ _ _ _ _ _ _ (at-term2 .before .before .before .loop .inv) _ _ _ (omega arith) (shaped-term _ _ _ _ _ _ (at-term2 .term2 .ensures .0) _ _ (at-again .again .given .1)) (kept-term _ _ _ _ _ (at-term2 .term2 .ensures .1) (at-again .again .given .1))
 
 same-length-3 : tie.Need-same-length-3 Inv-loop μ-loop
 same-length-3 c =
-    c .before .before .before .before .term2 .kept .1 .1 .0 ∙ walked-length _ _ _ _ _ _ _ _ (c .before .before .before .before .before .before .before .loop .inv) ∙ c .before .before .before .before .before .before .before .before .before .before .before .before .before .before .term .kept .1 .1 .0
+    let at-term2 = c .before .before .before .before in
+    let at-loop = at-term2 .before .before .before in
+    at-term2 .term2 .kept .1 .1 .0 ∙ walked-length _ _ _ _ _ _ _ _ (at-loop .loop .inv) ∙ at-loop .before .before .before .before .before .before .before .term .kept .1 .1 .0
 
 returns-4 : tie.Need-returns-4 Inv-loop μ-loop
 returns-4 c =
@@ -77,7 +89,9 @@ same-length-4 c =
 
 returns-5 : tie.Need-returns-5 Inv-loop μ-loop
 returns-5 c =
-    sym (walked-all _ _ _ _ _ _ _ _ (c .before .loop .inv) (omega arith) (c .before .before .if2 .left) (c .before .before .before .before .before .before .before .before .before .before .if1 .left))
+    let at-loop = c .before in
+    let at-if2 = at-loop .before in
+    sym (walked-all _ _ _ _ _ _ _ _ (at-loop .loop .inv) (omega arith) (at-if2 .if2 .left) (at-if2 .before .before .before .before .before .before .before .before .if1 .left))
 
 pub every-window-spec : {M : Type 1} → statement M
 every-window-spec =

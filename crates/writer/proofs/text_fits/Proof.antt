@@ -16,15 +16,19 @@ returns c =
 
 term-requires : tie.Need-term-requires
 term-requires c κs =
-    (omega arith, c .before .before .before .before .before .before .before .before .pre .0, c .before .before .before .before .before .before .before .before .pre .1)
+    let pre′ = c .before .before .before .before .before .before .before .before .pre in
+    (omega arith, pre′ .0, pre′ .1)
 
 returns-2 : tie.Need-returns-2
 returns-2 c =
-    λ operations. walk-short _ operations _ _ (c .before .before .before .before .before .before .before .before .before .before .before .before .before .pre .2) (c .before .before .before .before .term .ensures) (c .enum-told .given .1)
+    let at-term = c .before .before .before .before in
+    λ operations. walk-short _ operations _ _ (at-term .before .before .before .before .before .before .before .before .before .pre .2) (at-term .term .ensures) (c .enum-told .given .1)
 
 returns-3 : tie.Need-returns-3
 returns-3 c =
-    λ operations. walk-fits _ operations _ _ (c .before .before .before .before .before .before .before .before .before .before .before .before .before .before .pre .2) (c .before .before .before .before .before .term .ensures) _ _ (c .before .used .given .1)
+    let at-used = c .before in
+    let at-term = at-used .before .before .before .before in
+    λ operations. walk-fits _ operations _ _ (at-term .before .before .before .before .before .before .before .before .before .pre .2) (at-term .term .ensures) _ _ (at-used .used .given .1)
 
 pub text-fits-spec : {M : Type 1} → statement M
 text-fits-spec =

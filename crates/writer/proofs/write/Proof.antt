@@ -19,15 +19,24 @@ returns c =
 
 write-noting-requires : tie.Need-write-noting-requires
 write-noting-requires c κs =
-    let k = sym (c .before .before .before .before .before .before .count-variables .ensures) ∙ c .before .before .before .before .count .given .1 in (counted-term (c .before .before .before .before .before .before .before .before .before .before .args .words .now) (c .before .before .before .before .before .before .before .before .before .before .args .operations) (c .before .before .before .before .before .before .before .before .before .before .args .names .now) _ k, counted-names (c .before .before .before .before .before .before .before .before .before .before .args .words .now) (c .before .before .before .before .before .before .before .before .before .before .args .operations) (c .before .before .before .before .before .before .before .before .before .before .args .names .now) _ k, search needs)
+    let at-count = c .before .before .before .before in
+    let at-count-variables = at-count .before .before in
+    let args′ = at-count-variables .before .before .before .before .args in
+    let k = sym (at-count-variables .count-variables .ensures) ∙ at-count .count .given .1 in (counted-term (args′ .words .now) (args′ .operations) (args′ .names .now) _ k, counted-names (args′ .words .now) (args′ .operations) (args′ .names .now) _ k, search needs)
 
 write-noting-requires-2 : tie.Need-write-noting-requires-2
 write-noting-requires-2 c κs =
-    let k = sym (c .before .before .before .before .before .before .before .count-variables .ensures) ∙ c .before .before .before .before .before .count .given .1 in (counted-term (c .before .before .before .before .before .before .before .before .before .before .before .args .words .now) (c .before .before .before .before .before .before .before .before .before .before .before .args .operations) (c .before .before .before .before .before .before .before .before .before .before .before .args .names .now) _ k, counted-names (c .before .before .before .before .before .before .before .before .before .before .before .args .words .now) (c .before .before .before .before .before .before .before .before .before .before .before .args .operations) (c .before .before .before .before .before .before .before .before .before .before .before .args .names .now) _ k, search needs)
+    let at-count = c .before .before .before .before .before in
+    let at-count-variables = at-count .before .before in
+    let args′ = at-count-variables .before .before .before .before .args in
+    let k = sym (at-count-variables .count-variables .ensures) ∙ at-count .count .given .1 in (counted-term (args′ .words .now) (args′ .operations) (args′ .names .now) _ k, counted-names (args′ .words .now) (args′ .operations) (args′ .names .now) _ k, search needs)
 
 write-called-requires : tie.Need-write-called-requires
 write-called-requires c κs =
-    let k = sym (c .before .before .before .before .before .before .count-variables .ensures) ∙ c .before .before .before .before .count .given .1 in (counted-term (c .before .before .before .before .before .before .before .before .before .before .args .words .now) (c .before .before .before .before .before .before .before .before .before .before .args .operations) (c .before .before .before .before .before .before .before .before .before .before .args .names .now) _ k, λ e. is-told (c .before .before .before .before .before .before .before .before .before .before .args .words .now) (c .before .before .before .before .before .before .before .before .before .before .args .operations) (c .before .before .before .before .before .before .before .before .before .before .args .names .now) (counted-term (c .before .before .before .before .before .before .before .before .before .before .args .words .now) (c .before .before .before .before .before .before .before .before .before .before .args .operations) (c .before .before .before .before .before .before .before .before .before .before .args .names .now) _ k), called-words false (c .before .before .before .before .before .before .before .before .before .before .args .words .now) refl)
+    let at-count = c .before .before .before .before in
+    let at-count-variables = at-count .before .before in
+    let args′ = at-count-variables .before .before .before .before .args in
+    let k = sym (at-count-variables .count-variables .ensures) ∙ at-count .count .given .1 in (counted-term (args′ .words .now) (args′ .operations) (args′ .names .now) _ k, λ e. is-told (args′ .words .now) (args′ .operations) (args′ .names .now) (counted-term (args′ .words .now) (args′ .operations) (args′ .names .now) _ k), called-words false (args′ .words .now) refl)
 
 pub write-spec : {M : Type 1} → statement M
 write-spec =

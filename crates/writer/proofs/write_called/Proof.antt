@@ -13,31 +13,46 @@ use Rattle.writer.specs.WroteLaws.{term-begins, no-room, no-second, wrot
 
 text-fits-requires : tie.Need-text-fits-requires
 text-fits-requires c κs =
-    (term-begins (c .before .before .before .before .before .args .words .now) _ _ (c .before .before .before .before .before .pre .0) _ (c .before .before .before .before .before .pre .2), c .before .before .before .before .before .pre .1, c .before .before .before .before .before .pre .2)
+    let at-args = c .before .before .before .before .before in
+    (term-begins (at-args .args .words .now) _ _ (at-args .pre .0) _ (at-args .pre .2), at-args .pre .1, at-args .pre .2)
 
 returns : tie.Need-returns
 returns c =
-    no-room (c .before .before .before .before .before .before .before .before .before .args .words .now) _ _ (c .before .before .before .before .before .before .before .before .before .pre .0) (c .before .before .before .text-fits .ensures) (not-true (c .before .before .before .text-fits .result) (c .if1 .taken))
+    let at-text-fits = c .before .before .before in
+    let at-args = at-text-fits .before .before .before .before .before .before in
+    no-room (at-args .args .words .now) _ _ (at-args .pre .0) (at-text-fits .text-fits .ensures) (not-true (at-text-fits .text-fits .result) (c .if1 .taken))
 
 term-requires : tie.Need-term-requires
 term-requires c κs =
-    (omega arith, term-begins (c .before .before .before .before .before .before .before .before .before .before .args .words .now) _ _ (c .before .before .before .before .before .before .before .before .before .before .pre .0) _ (c .before .before .before .before .before .before .before .before .before .before .pre .2), c .before .before .before .before .before .before .before .before .before .before .pre .1)
+    let at-args = c .before .before .before .before .before .before .before .before .before .before in
+    (omega arith, term-begins (at-args .args .words .now) _ _ (at-args .pre .0) _ (at-args .pre .2), at-args .pre .1)
 
 same-length-2 : tie.Need-same-length-2
 same-length-2 c =
-    c .before .before .before .before .term .kept .1 .1 .0 ∙ c .before .before .before .before .before .before .before .before .before .text-fits .kept .1 .1 .0
+    let at-term = c .before .before .before .before in
+    at-term .term .kept .1 .1 .0 ∙ at-term .before .before .before .before .before .text-fits .kept .1 .1 .0
 
 returns-2 : tie.Need-returns-2
 returns-2 c =
-    no-second (c .before .before .before .before .before .before .before .before .before .before .before .before .before .before .before .args .words .now) _ _ (c .before .before .before .before .before .before .before .before .before .before .before .before .before .before .before .pre .0) (c .before .before .before .before .before .before .before .before .before .text-fits .ensures) (not-false (c .before .before .before .before .before .before .before .before .before .text-fits .result) (c .before .before .before .before .before .before .if1 .left)) _ (c .before .before .before .before .before .before .before .before .before .before .before .before .before .before .before .pre .2) (c .before .before .before .before .term .ensures) (c .enum-told .given .1)
+    let at-term = c .before .before .before .before in
+    let at-if1 = at-term .before .before in
+    let at-text-fits = at-if1 .before .before .before in
+    let at-args = at-text-fits .before .before .before .before .before .before in
+    no-second (at-args .args .words .now) _ _ (at-args .pre .0) (at-text-fits .text-fits .ensures) (not-false (at-text-fits .text-fits .result) (at-if1 .if1 .left)) _ (at-args .pre .2) (at-term .term .ensures) (c .enum-told .given .1)
 
 same-length-3 : tie.Need-same-length-3
 same-length-3 c =
-    c .before .before .before .before .before .term .kept .1 .1 .0 ∙ c .before .before .before .before .before .before .before .before .before .before .text-fits .kept .1 .1 .0
+    let at-term = c .before .before .before .before .before in
+    at-term .term .kept .1 .1 .0 ∙ at-term .before .before .before .before .before .text-fits .kept .1 .1 .0
 
 returns-3 : tie.Need-returns-3
 returns-3 c =
-    wrote-text (c .before .before .before .before .before .before .before .before .before .before .before .before .before .before .before .before .args .words .now) _ _ (c .before .before .before .before .before .before .before .before .before .before .before .before .before .before .before .before .pre .0) (c .before .before .before .before .before .before .before .before .before .before .text-fits .ensures) (not-false (c .before .before .before .before .before .before .before .before .before .before .text-fits .result) (c .before .before .before .before .before .before .before .if1 .left)) _ (c .before .before .before .before .before .before .before .before .before .before .before .before .before .before .before .before .pre .2) (c .before .before .before .before .before .term .ensures) _ _ (c .before .used .given .1)
+    let at-used = c .before in
+    let at-term = at-used .before .before .before .before in
+    let at-if1 = at-term .before .before in
+    let at-text-fits = at-if1 .before .before .before in
+    let at-args = at-text-fits .before .before .before .before .before .before in
+    wrote-text (at-args .args .words .now) _ _ (at-args .pre .0) (at-text-fits .text-fits .ensures) (not-false (at-text-fits .text-fits .result) (at-if1 .if1 .left)) _ (at-args .pre .2) (at-term .term .ensures) _ _ (at-used .used .given .1)
 
 pub write-called-spec : {M : Type 1} → statement M
 write-called-spec =

@@ -17,16 +17,20 @@ use Rattle.writer.specs.WroteLaws.{is-told}
 
 note-requires : tie.Need-note-requires
 note-requires c κs =
-    (is-told (c .before .before .before .before .before .args .words .now) (c .before .before .before .before .before .args .operations) (c .before .before .before .before .before .args .names .now) (c .before .before .before .before .before .pre .0), c .before .before .before .before .before .pre .1, c .before .before .before .before .before .pre .2)
+    let at-args = c .before .before .before .before .before in
+    (is-told (at-args .args .words .now) (at-args .args .operations) (at-args .args .names .now) (at-args .pre .0), at-args .pre .1, at-args .pre .2)
 
 slice-aggregate-write-called : tie.Need-slice-aggregate-write-called
 slice-aggregate-write-called c =
-    let h : c .before .before .before .before .before .before .before .before .before .before .args .count ≤ length (c .before .before .before .before .note .last .1 .1 .0) = omega (arith, c .before .before .before .before .before .before .before .before .before .before .pre .2, c .before .before .before .before .note .kept .1 .1 .0) in
-    sym (length-take-le (c .before .before .before .before .before .before .before .before .before .before .args .count) (c .before .before .before .before .note .last .1 .1 .0) h)
+    let at-note = c .before .before .before .before in
+    let at-args = at-note .before .before .before .before .before .before in
+    let h : at-args .args .count ≤ length (at-note .note .last .1 .1 .0) = omega (arith, at-args .pre .2, at-note .note .kept .1 .1 .0) in
+    sym (length-take-le (at-args .args .count) (at-note .note .last .1 .1 .0) h)
 
 write-called-requires : tie.Need-write-called-requires
 write-called-requires c κs =
-    (c .before .before .before .before .before .before .before .before .before .before .pre .0, λ e. absurd (true≢false e), called-table true _ refl ∙ c .before .before .before .before .note .ensures)
+    let at-note = c .before .before .before .before in
+    (at-note .before .before .before .before .before .before .pre .0, λ e. absurd (true≢false e), called-table true _ refl ∙ at-note .note .ensures)
 
 pub write-noting-spec : {M : Type 1} → statement M
 write-noting-spec =

@@ -28,7 +28,9 @@ loop-holds c =
 
 loop-again : tie.Need-loop-again Inv-loop μ-loop
 loop-again c =
-    let a = c .before .before .before .before .before .before .before .args in let l = c .before .before .before .before .before .loop in let e = c .before .before .set .ensures ∙ ap (λ (s : List ℕ). put (a .base) (l .k) (a .value) s) (l .inv .3) ∙ marked-more (a .base) (a .from) (l .k) (a .value) (a .flags .now) (l .inv .1) in (c .before .before .set .kept .0 ∙ l .inv .0, omega arith, omega arith, e)
+    let at-set = c .before .before in
+    let at-loop = at-set .before .before .before in
+    let a = at-loop .before .before .args in let l = at-loop .loop in let e = at-set .set .ensures ∙ ap (λ (s : List ℕ). put (a .base) (l .k) (a .value) s) (l .inv .3) ∙ marked-more (a .base) (a .from) (l .k) (a .value) (a .flags .now) (l .inv .1) in (at-set .set .kept .0 ∙ l .inv .0, omega arith, omega arith, e)
 
 same-length : tie.Need-same-length Inv-loop μ-loop
 same-length c =

@@ -23,11 +23,19 @@ returns-3 c =
 
 returns-4 : tie.Need-returns-4
 returns-4 c =
-    sym (good-some _ _ _ _ (c .before .size .ensures) (c .before .before .before .before .before .if1 .left) (not-false (c .before .before .before .before .before .before .before .args .tabled) (c .before .before .before .before .if2 .left)) (c .before .before .before .if3 .left) (c .if4 .taken))
+    let at-size = c .before in
+    let at-if3 = at-size .before .before in
+    let at-if2 = at-if3 .before in
+    let at-if1 = at-if2 .before in
+    sym (good-some _ _ _ _ (at-size .size .ensures) (at-if1 .if1 .left) (not-false (at-if1 .before .before .args .tabled) (at-if2 .if2 .left)) (at-if3 .if3 .left) (c .if4 .taken))
 
 returns-5 : tie.Need-returns-5
 returns-5 c =
-    sym (good-empty _ _ _ _ (c .before .size .ensures) (c .before .before .before .before .before .if1 .left) (not-false (c .before .before .before .before .before .before .before .args .tabled) (c .before .before .before .before .if2 .left)) (c .before .before .before .if3 .left) (c .if4 .left))
+    let at-size = c .before in
+    let at-if3 = at-size .before .before in
+    let at-if2 = at-if3 .before in
+    let at-if1 = at-if2 .before in
+    sym (good-empty _ _ _ _ (at-size .size .ensures) (at-if1 .if1 .left) (not-false (at-if1 .before .before .args .tabled) (at-if2 .if2 .left)) (at-if3 .if3 .left) (c .if4 .left))
 
 pub name-good-spec : {M : Type 1} → statement M
 name-good-spec =

@@ -29,11 +29,19 @@ loop-holds c =
 
 returns : tie.Need-returns Inv-loop μ-loop
 returns c =
-    names-bad _ (c .before .before .before .before .before .before .before .before .args .formals .now) _ (c .before .before .before .before .before .loop .inv .1) (c .before .before .before .before .loop-test .taken) (sym (ap (goodName _ _) (c .before .before .wide .ensures)) ∙ sym (c .before .name-good .ensures) ∙ not-true _ (c .if1 .taken))
+    let at-name-good = c .before in
+    let at-wide = at-name-good .before in
+    let at-loop-test = at-wide .before .before in
+    let at-loop = at-loop-test .before in
+    names-bad _ (at-loop .before .before .before .args .formals .now) _ (at-loop .loop .inv .1) (at-loop-test .loop-test .taken) (sym (ap (goodName _ _) (at-wide .wide .ensures)) ∙ sym (at-name-good .name-good .ensures) ∙ not-true _ (c .if1 .taken))
 
 loop-again : tie.Need-loop-again Inv-loop μ-loop
 loop-again c =
-    (omega (arith, c .before .before .before .before .loop-test .taken), names-next _ (c .before .before .before .before .before .before .before .before .args .formals .now) _ (c .before .before .before .before .before .loop .inv .1) (c .before .before .before .before .loop-test .taken) (sym (ap (goodName _ _) (c .before .before .wide .ensures)) ∙ sym (c .before .name-good .ensures) ∙ not-false _ (c .if1 .left)))
+    let at-name-good = c .before in
+    let at-wide = at-name-good .before in
+    let at-loop-test = at-wide .before .before in
+    let at-loop = at-loop-test .before in
+    (omega (arith, at-loop-test .loop-test .taken), names-next _ (at-loop .before .before .before .args .formals .now) _ (at-loop .loop .inv .1) (at-loop-test .loop-test .taken) (sym (ap (goodName _ _) (at-wide .wide .ensures)) ∙ sym (at-name-good .name-good .ensures) ∙ not-false _ (c .if1 .left)))
 
 returns-2 : tie.Need-returns-2 Inv-loop μ-loop
 returns-2 c =

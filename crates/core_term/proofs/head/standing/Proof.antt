@@ -24,25 +24,36 @@ enum-known-node c =
 returns : tie.Need-returns
 unfolding nodeIn isDatumNode
 returns c =
-    head-quoted _ _ _ _ _ _ (c .before .before .before .before .before .before .before .args .words .now) (c .before .before .before .before .before .before .before .args .node) _ _ (ap (nodeIn (c .before .before .before .before .before .before .before .args .words .now)) (c .before .before .node .given .1)) refl (c .if1 .taken)
+    let at-node = c .before .before in
+    let args′ = at-node .before .before .before .before .before .args in
+    head-quoted _ _ _ _ _ _ (args′ .words .now) (args′ .node) _ _ (ap (nodeIn (args′ .words .now)) (at-node .node .given .1)) refl (c .if1 .taken)
 
 returns-2 : tie.Need-returns-2
 unfolding nodeIn isDatumNode
 returns-2 c =
-    head-quoted _ _ _ _ _ _ (c .before .before .before .before .before .before .before .args .words .now) (c .before .before .before .before .before .before .before .args .node) _ _ (ap (nodeIn (c .before .before .before .before .before .before .before .args .words .now)) (c .before .before .node2 .given .1)) refl (c .if2 .taken)
+    let at-node2 = c .before .before in
+    let args′ = at-node2 .before .before .before .before .before .args in
+    head-quoted _ _ _ _ _ _ (args′ .words .now) (args′ .node) _ _ (ap (nodeIn (args′ .words .now)) (at-node2 .node2 .given .1)) refl (c .if2 .taken)
 
 returns-3 : tie.Need-returns-3
 unfolding nodeIn isDatumNode
 returns-3 c =
-    head-quoted _ _ _ _ _ _ (c .before .before .before .before .before .before .before .args .words .now) (c .before .before .before .before .before .before .before .args .node) _ _ (ap (nodeIn (c .before .before .before .before .before .before .before .args .words .now)) (c .before .before .node4 .given .1)) refl (c .if3 .taken)
+    let at-node4 = c .before .before in
+    let args′ = at-node4 .before .before .before .before .before .args in
+    head-quoted _ _ _ _ _ _ (args′ .words .now) (args′ .node) _ _ (ap (nodeIn (args′ .words .now)) (at-node4 .node4 .given .1)) refl (c .if3 .taken)
 
 returns-4 : tie.Need-returns-4
 returns-4 c =
-    lambda-other _ _ _ _ _ _ _ _ (c .before .before .before .before .before .before .before .before .before .pre) _ _ (c .before .before .before .before .node4 .given .1) (c .before .before .if3 .left) (λ e. c .if4 .taken (c .before .wide3 .ensures ∙ e))
+    let at-wide3 = c .before in
+    let at-if3 = at-wide3 .before in
+    let at-node4 = at-if3 .before .before in
+    lambda-other _ _ _ _ _ _ _ _ (at-node4 .before .before .before .before .before .pre) _ _ (at-node4 .node4 .given .1) (at-if3 .if3 .left) (λ e. c .if4 .taken (at-wide3 .wide3 .ensures ∙ e))
 
 part-names-good-end : tie.Need-part-names-good-end
 part-names-good-end c =
-    omega (arith, c .wide4 .ensures, lambda-room 0 0 (λ n. true) [] 0 true (c .before .before .before .before .before .before .before .before .before .before .args .words .now) (c .before .before .before .before .before .before .before .before .before .before .args .node) (c .before .before .before .before .before .before .before .before .before .before .pre) _ _ (c .before .before .before .before .before .node4 .given .1))
+    let at-node4 = c .before .before .before .before .before in
+    let at-args = at-node4 .before .before .before .before .before in
+    omega (arith, c .wide4 .ensures, lambda-room 0 0 (λ n. true) [] 0 true (at-args .args .words .now) (at-args .args .node) (at-args .pre) _ _ (at-node4 .node4 .given .1))
 
 returns-5 : tie.Need-returns-5
 returns-5 c =
@@ -55,17 +66,20 @@ returns-6 c =
 returns-7 : tie.Need-returns-7
 unfolding nodeIn
 returns-7 c =
-    head-constant _ _ _ _ _ _ (c .before .before .before .before .before .args .words .now) (c .before .before .before .before .before .args .node) (c .before .before .before .before .before .pre) _ _ (ap (nodeIn (c .before .before .before .before .before .args .words .now)) (c .enum-told .given .1))
+    let at-args = c .before .before .before .before .before in
+    head-constant _ _ _ _ _ _ (at-args .args .words .now) (at-args .args .node) (at-args .pre) _ _ (ap (nodeIn (at-args .args .words .now)) (c .enum-told .given .1))
 
 returns-8 : tie.Need-returns-8
 unfolding nodeIn
 returns-8 c =
-    head-constant _ _ _ _ _ _ (c .before .before .before .before .before .args .words .now) (c .before .before .before .before .before .args .node) (c .before .before .before .before .before .pre) _ _ (ap (nodeIn (c .before .before .before .before .before .args .words .now)) (c .enum-told2 .given .1))
+    let at-args = c .before .before .before .before .before in
+    head-constant _ _ _ _ _ _ (at-args .args .words .now) (at-args .args .node) (at-args .pre) _ _ (ap (nodeIn (at-args .args .words .now)) (c .enum-told2 .given .1))
 
 returns-9 : tie.Need-returns-9
 unfolding nodeIn
 returns-9 c =
-    head-constant _ _ _ _ _ _ (c .before .before .before .before .before .args .words .now) (c .before .before .before .before .before .args .node) (c .before .before .before .before .before .pre) _ _ (ap (nodeIn (c .before .before .before .before .before .args .words .now)) (c .enum-told3 .given .1))
+    let at-args = c .before .before .before .before .before in
+    head-constant _ _ _ _ _ _ (at-args .args .words .now) (at-args .args .node) (at-args .pre) _ _ (ap (nodeIn (at-args .args .words .now)) (c .enum-told3 .given .1))
 
 returns-10 : tie.Need-returns-10
 returns-10 c =
@@ -81,7 +95,14 @@ returns-12 c =
 
 returns-13 : tie.Need-returns-13
 returns-13 c =
-    rw (c .stand5 .ensures, c .before .before .names-good .ensures) (head-lambda _ _ _ _ _ _ _ _ (c .before .before .before .before .before .before .before .before .before .before .before .before .before .before .pre) _ _ (c .before .before .before .before .before .before .before .before .before .node4 .given .1) _ _ (c .before .before .before .before .wide4 .ensures) (c .before .wide5 .ensures) (c .before .before .before .before .before .before .before .if3 .left) (sym (c .before .before .before .before .before .before .wide3 .ensures) ∙ c .before .before .before .before .before .if4 .left))
+    let at-wide5 = c .before in
+    let at-names-good = at-wide5 .before in
+    let at-wide4 = at-names-good .before .before in
+    let at-if4 = at-wide4 .before in
+    let at-wide3 = at-if4 .before in
+    let at-if3 = at-wide3 .before in
+    let at-node4 = at-if3 .before .before in
+    rw (c .stand5 .ensures, at-names-good .names-good .ensures) (head-lambda _ _ _ _ _ _ _ _ (at-node4 .before .before .before .before .before .pre) _ _ (at-node4 .node4 .given .1) _ _ (at-wide4 .wide4 .ensures) (at-wide5 .wide5 .ensures) (at-if3 .if3 .left) (sym (at-wide3 .wide3 .ensures) ∙ at-if4 .if4 .left))
 
 returns-14 : tie.Need-returns-14
 returns-14 c =

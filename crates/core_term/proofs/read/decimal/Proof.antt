@@ -30,7 +30,10 @@ shared-slice-read-t6 c =
 
 returns-4 : tie.Need-returns-4
 returns-4 c =
-    opened-decimal _ (c .before .before .before .before .if1 .left) (c .before .before .before .before .before .pre) (c .before .before .if2 .left) (c .before .if3 .left)
+    let at-if3 = c .before in
+    let at-if2 = at-if3 .before in
+    let at-if1 = at-if2 .before .before in
+    opened-decimal _ (at-if1 .if1 .left) (at-if1 .before .pre) (at-if2 .if2 .left) (at-if3 .if3 .left)
 
 pub decimal-spec : {M : Type 1} → statement M
 decimal-spec =

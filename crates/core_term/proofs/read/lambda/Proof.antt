@@ -14,15 +14,24 @@ returns c =
 
 returns-2 : tie.Need-returns-2
 returns-2 c =
-    opened-none _ (lambda-cut _ (c .before .before .before .before .before .pre) (c .before .before .before .if1 .left) (omega (arith, c .before .before .before .if1 .left, c .if2 .taken, c .before .wide .ensures)))
+    let at-wide = c .before in
+    let at-if1 = at-wide .before .before in
+    opened-none _ (lambda-cut _ (at-if1 .before .before .pre) (at-if1 .if1 .left) (omega (arith, at-if1 .if1 .left, c .if2 .taken, at-wide .wide .ensures)))
 
 returns-3 : tie.Need-returns-3
 returns-3 c =
-    opened-no-lambda _ (omega (arith, c .before .before .before .before .if1 .left, c .before .if2 .left, c .before .before .wide .ensures)) (c .before .before .before .before .before .before .pre) (c .if3 .taken)
+    let at-if2 = c .before in
+    let at-wide = at-if2 .before in
+    let at-if1 = at-wide .before .before in
+    opened-no-lambda _ (omega (arith, at-if1 .if1 .left, at-if2 .if2 .left, at-wide .wide .ensures)) (at-if1 .before .before .pre) (c .if3 .taken)
 
 returns-4 : tie.Need-returns-4
 returns-4 c =
-    opened-lambda _ (omega (arith, c .before .before .before .before .before .if1 .left, c .before .before .if2 .left, c .before .before .before .wide .ensures)) (c .before .before .before .before .before .before .before .pre) (c .before .if3 .left)
+    let at-if3 = c .before in
+    let at-if2 = at-if3 .before in
+    let at-wide = at-if2 .before in
+    let at-if1 = at-wide .before .before in
+    opened-lambda _ (omega (arith, at-if1 .if1 .left, at-if2 .if2 .left, at-wide .wide .ensures)) (at-if1 .before .before .pre) (at-if3 .if3 .left)
 
 pub lambda-spec : {M : Type 1} → statement M
 lambda-spec =

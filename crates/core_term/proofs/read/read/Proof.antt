@@ -60,7 +60,15 @@ returns-12 c =
 
 returns-13 : tie.Need-returns-13
 returns-13 c =
-    opened-past _ (past-codes _ (c .before .before .before .before .before .if7 .left) (c .before .before .before .before .if8 .left) (c .before .before .before .if9 .left) (c .before .before .before .before .before .before .before .if6 .left) (c .before .before .if10 .left) (c .before .if11 .left) (c .before .before .before .before .before .before .before .before .before .before .before .if2 .left) (c .before .before .before .before .before .before .before .before .before .before .if3 .left) (c .if12 .left) (c .before .before .before .before .before .before .before .before .before .if4 .left))
+    let at-if11 = c .before in
+    let at-if10 = at-if11 .before in
+    let at-if9 = at-if10 .before in
+    let at-if8 = at-if9 .before in
+    let at-if7 = at-if8 .before in
+    let at-if6 = at-if7 .before .before in
+    let at-if4 = at-if6 .before .before in
+    let at-if3 = at-if4 .before in
+    opened-past _ (past-codes _ (at-if7 .if7 .left) (at-if8 .if8 .left) (at-if9 .if9 .left) (at-if6 .if6 .left) (at-if10 .if10 .left) (at-if11 .if11 .left) (at-if3 .before .if2 .left) (at-if3 .if3 .left) (c .if12 .left) (at-if4 .if4 .left))
 
 pub read-spec : {M : Type 1} → statement M
 read-spec =

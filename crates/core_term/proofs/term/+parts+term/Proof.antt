@@ -61,15 +61,23 @@ parts-μ-loop words names flags₀ walk bound within quoted at₀ left₀ now₀
 
 parts-loop-holds : (t : ℕ) → parts-lts.Need-loop-holds (P t) (parts-at t) parts.Post parts-Inv-loop parts-μ-loop
 parts-loop-holds t c =
-    walk-start _ _ _ _ _ _ _ _ _ _ refl (set-clear _ _ _ _ _ _ (c .before .before .before .before .before .before .before .pre .1 .1) (c .before .before .before .before .before .before .before .pre .1 .0) (c .before .before .mark .ensures)) (c .before .before .before .before .before .before .before .pre .1 .3) (c .before .before .before .before .before .before .before .pre .1 .2)
+    let at-mark = c .before .before in
+    let pre′ = at-mark .before .before .before .before .before .pre in
+    walk-start _ _ _ _ _ _ _ _ _ _ refl (set-clear _ _ _ _ _ _ (pre′ .1 .1) (pre′ .1 .0) (at-mark .mark .ensures)) (pre′ .1 .3) (pre′ .1 .2)
 
 parts-same-length : (t : ℕ) → parts-lts.Need-same-length (P t) (parts-at t) parts.Post parts-Inv-loop parts-μ-loop
 parts-same-length t c =
-    c .before .before .before .before .term .kept .1 .1 .0 ∙ ap length (c .before .before .before .before .before .before .before .before .loop .inv .same) ∙ c .before .before .before .before .before .before .before .before .before .before .before .mark .kept .0
+    let at-term = c .before .before .before .before in
+    let at-loop = at-term .before .before .before .before in
+    at-term .term .kept .1 .1 .0 ∙ ap length (at-loop .loop .inv .same) ∙ at-loop .before .before .before .mark .kept .0
 
 parts-returns : (t : ℕ) → parts-lts.Need-returns (P t) (parts-at t) parts.Post parts-Inv-loop parts-μ-loop
 parts-returns t c =
-    (set-row _ _ _ _ _ _ (c .before .before .before .before .before .before .before .before .before .before .before .before .before .before .before .before .pre .1 .1) (c .before .before .before .before .before .before .before .before .before .before .before .before .before .before .before .before .pre .1 .0) (c .before .before .before .before .before .before .before .before .before .before .before .mark .ensures) _ (c .before .before .before .before .before .before .before .before .before .before .before .before .before .before .before .before .args .shape .quoted) (c .before .before .before .before .before .before .before .before .before .before .before .before .before .before .before .before .args .within) (c .before .before .before .before .before .before .before .before .before .before .before .before .before .before .before .before .args .words .now) (c .before .before .before .before .before .before .before .before .before .before .before .before .before .before .before .before .args .shape .own) (c .before .before .before .before .before .before .before .before .before .before .before .before .before .before .before .before .args .shape .parts) C.No (walk-stop _ _ _ _ _ _ _ _ _ _ _ _ _ (c .before .before .before .before .before .before .before .before .loop .inv) (omega arith) (shaped-none _ _ _ _ _ _ (c .before .before .before .before .term .ensures .0) (c .enum-told .given .1))), tt)
+    let at-term = c .before .before .before .before in
+    let at-loop = at-term .before .before .before .before in
+    let at-mark = at-loop .before .before .before in
+    let at-args = at-mark .before .before .before .before .before in
+    (set-row _ _ _ _ _ _ (at-args .pre .1 .1) (at-args .pre .1 .0) (at-mark .mark .ensures) _ (at-args .args .shape .quoted) (at-args .args .within) (at-args .args .words .now) (at-args .args .shape .own) (at-args .args .shape .parts) C.No (walk-stop _ _ _ _ _ _ _ _ _ _ _ _ _ (at-loop .loop .inv) (omega arith) (shaped-none _ _ _ _ _ _ (at-term .term .ensures .0) (c .enum-told .given .1))), tt)
 
 parts-add-at : (t : ℕ) → parts-lts.Need-add-at (P t) (parts-at t) parts.Post parts-Inv-loop parts-μ-loop
 parts-add-at t c =
@@ -77,15 +85,23 @@ parts-add-at t c =
 
 parts-loop-again : (t : ℕ) → parts-lts.Need-loop-again (P t) (parts-at t) parts.Post parts-Inv-loop parts-μ-loop
 parts-loop-again t c =
-    walk-on _ _ _ _ _ _ _ _ _ _ _ _ _ (c .before .before .before .before .before .before .before .before .before .loop .inv) _ _ (shaped-term _ _ _ _ _ _ (c .before .before .before .before .before .term .ensures .0) _ _ (c .before .used .given .1)) (omega arith) _ (kept-term _ _ _ _ _ (c .before .before .before .before .before .term .ensures .1) (c .before .used .given .1))
+    let at-used = c .before in
+    let at-term = at-used .before .before .before .before in
+    walk-on _ _ _ _ _ _ _ _ _ _ _ _ _ (at-term .before .before .before .before .loop .inv) _ _ (shaped-term _ _ _ _ _ _ (at-term .term .ensures .0) _ _ (at-used .used .given .1)) (omega arith) _ (kept-term _ _ _ _ _ (at-term .term .ensures .1) (at-used .used .given .1))
 
 parts-same-length-2 : (t : ℕ) → parts-lts.Need-same-length-2 (P t) (parts-at t) parts.Post parts-Inv-loop parts-μ-loop
 parts-same-length-2 t c =
-    c .before .before .mark2 .kept .0 ∙ ap length (c .before .before .before .before .before .loop .inv .same) ∙ c .before .before .before .before .before .before .before .before .mark .kept .0
+    let at-mark2 = c .before .before in
+    let at-loop = at-mark2 .before .before .before in
+    at-mark2 .mark2 .kept .0 ∙ ap length (at-loop .loop .inv .same) ∙ at-loop .before .before .before .mark .kept .0
 
 parts-returns-2 : (t : ℕ) → parts-lts.Need-returns-2 (P t) (parts-at t) parts.Post parts-Inv-loop parts-μ-loop
 parts-returns-2 t c =
-    (set-row _ _ _ _ _ _ (c .before .before .before .before .before .before .before .before .before .before .before .before .before .pre .1 .1) (c .before .before .before .before .before .before .before .before .before .before .before .before .before .pre .1 .0) (c .before .before .before .before .before .before .before .before .mark .ensures) _ _ _ _ _ _ (C.Term _ _) (walk-end _ _ _ _ _ _ _ _ _ _ _ _ _ (c .before .before .before .before .before .loop .inv) (omega arith)), set-undone _ _ _ _ _ _ (c .before .before .before .before .before .before .before .before .before .before .before .before .before .pre .1 .1) (c .before .before .before .before .before .before .before .before .before .before .before .before .before .pre .1 .0) (c .before .before .before .before .before .before .before .before .mark .ensures) _ _ (c .before .before .before .before .before .loop .inv .same) (c .before .before .mark2 .ensures))
+    let at-mark2 = c .before .before in
+    let at-loop = at-mark2 .before .before .before in
+    let at-mark = at-loop .before .before .before in
+    let pre′ = at-mark .before .before .before .before .before .pre in
+    (set-row _ _ _ _ _ _ (pre′ .1 .1) (pre′ .1 .0) (at-mark .mark .ensures) _ _ _ _ _ _ (C.Term _ _) (walk-end _ _ _ _ _ _ _ _ _ _ _ _ _ (at-loop .loop .inv) (omega arith)), set-undone _ _ _ _ _ _ (pre′ .1 .1) (pre′ .1 .0) (at-mark .mark .ensures) _ _ (at-loop .loop .inv .same) (at-mark2 .mark2 .ensures))
 
 term-standing-requires : (t : ℕ) → term-lts.Need-standing-requires (T t) (term-at t) term.Post
 term-standing-requires t c κs =
@@ -97,11 +113,19 @@ term-returns t c =
 
 term-returns-2 : (t : ℕ) → term-lts.Need-returns-2 (T t) (term-at t) term.Post
 term-returns-2 t c =
-    (walk-leaf _ _ _ _ _ _ _ _ (c .before .before .before .before .before .before .before .before .read .ensures) _ (sym (c .before .before .before .before .within .given .1) ∙ c .before .before .before .before .before .before .standing .ensures) _ (c .before .before .shape-of .ensures) (c .if1 .taken), refl)
+    let at-shape-of = c .before .before in
+    let at-within = at-shape-of .before .before in
+    let at-standing = at-within .before .before in
+    (walk-leaf _ _ _ _ _ _ _ _ (at-standing .before .before .read .ensures) _ (sym (at-within .within .given .1) ∙ at-standing .standing .ensures) _ (at-shape-of .shape-of .ensures) (c .if1 .taken), refl)
 
 term-parts-requires : (t : ℕ) → term-lts.Need-parts-requires (T t) (term-at t) term.Post
 term-parts-requires t c κs =
-    let o = walk-own _ _ _ _ _ _ _ _ (c .before .before .before .before .before .before .before .before .before .read .ensures) _ (sym (c .before .before .before .before .before .within .given .1) ∙ c .before .before .before .before .before .before .before .standing .ensures) _ (c .before .before .before .shape-of .ensures) in (omega (arith, c .before .before .before .before .before .before .before .before .before .before .before .before .before .pre .0), (c .before .before .before .before .before .before .before .before .before .before .before .before .before .pre .1, walk-within _ _ _ _ _ _ _ _ (c .before .before .before .before .before .before .before .before .before .read .ensures) _ (sym (c .before .before .before .before .before .within .given .1) ∙ c .before .before .before .before .before .before .before .standing .ensures) _ (c .before .before .before .shape-of .ensures), o .0, o .1))
+    let at-shape-of = c .before .before .before in
+    let at-within = at-shape-of .before .before in
+    let at-standing = at-within .before .before in
+    let at-read = at-standing .before .before in
+    let pre′ = at-read .before .before .before .before .pre in
+    let o = walk-own _ _ _ _ _ _ _ _ (at-read .read .ensures) _ (sym (at-within .within .given .1) ∙ at-standing .standing .ensures) _ (at-shape-of .shape-of .ensures) in (omega (arith, pre′ .0), (pre′ .1, walk-within _ _ _ _ _ _ _ _ (at-read .read .ensures) _ (sym (at-within .within .given .1) ∙ at-standing .standing .ensures) _ (at-shape-of .shape-of .ensures), o .0, o .1))
 
 term-same-length-3 : (t : ℕ) → term-lts.Need-same-length-3 (T t) (term-at t) term.Post
 term-same-length-3 t c =
@@ -109,7 +133,11 @@ term-same-length-3 t c =
 
 term-returns-3 : (t : ℕ) → term-lts.Need-returns-3 (T t) (term-at t) term.Post
 term-returns-3 t c =
-    (walk-parts _ _ _ _ _ _ _ _ (c .before .before .before .before .before .before .before .before .before .before .before .before .read .ensures) _ (sym (c .before .before .before .before .before .before .before .before .within .given .1) ∙ c .before .before .before .before .before .before .before .before .before .before .standing .ensures) _ (c .before .before .before .before .before .before .shape-of .ensures) (c .before .before .parts .result) (c .before .before .parts .ensures .0), c .before .before .parts .ensures .1)
+    let at-parts = c .before .before in
+    let at-shape-of = at-parts .before .before .before .before in
+    let at-within = at-shape-of .before .before in
+    let at-standing = at-within .before .before in
+    (walk-parts _ _ _ _ _ _ _ _ (at-standing .before .before .read .ensures) _ (sym (at-within .within .given .1) ∙ at-standing .standing .ensures) _ (at-shape-of .shape-of .ensures) (at-parts .parts .result) (at-parts .parts .ensures .0), at-parts .parts .ensures .1)
 
 pub +parts+term-spec : {M : Type 1} → statement M
 +parts+term-spec = close μ-parts μ-term (λ t. parts-lts.spec (P t)

@@ -39,7 +39,9 @@ slice-write-out c =
 
 loop-again : tie.Need-loop-again Inv-loop μ-loop
 loop-again c =
-    (length-set (c .before .before .loop .out) _ _ ∙ c .before .before .loop .inv .0, omega arith, copy-more (c .before .before .before .before .before .args .out .now) _ (c .before .before .before .before .before .args .src .now) (c .before .before .loop .out) (c .before .before .loop .i) (omega arith) (omega arith) (c .before .before .loop .inv .2))
+    let at-loop = c .before .before in
+    let args′ = at-loop .before .before .before .args in
+    (length-set (at-loop .loop .out) _ _ ∙ at-loop .loop .inv .0, omega arith, copy-more (args′ .out .now) _ (args′ .src .now) (at-loop .loop .out) (at-loop .loop .i) (omega arith) (omega arith) (at-loop .loop .inv .2))
 
 same-length : tie.Need-same-length Inv-loop μ-loop
 same-length c =
@@ -47,7 +49,10 @@ same-length c =
 
 returns-3 : tie.Need-returns-3 Inv-loop μ-loop
 returns-3 c =
-    place-holds (Left _ _ _ _ _) (omega arith) (done refl (omega arith) (copy-done (c .before .before .before .before .args .out .now) _ (c .before .before .before .before .args .src .now) _ (c .before .loop .i) (c .before .before .before .before .args .ink) (omega arith) (not-false (c .before .before .before .before .args .ink) (c .before .before .if2 .left)) (c .before .loop .inv .2)))
+    let at-loop = c .before in
+    let at-if2 = at-loop .before in
+    let args′ = at-if2 .before .before .args in
+    place-holds (Left _ _ _ _ _) (omega arith) (done refl (omega arith) (copy-done (args′ .out .now) _ (args′ .src .now) _ (at-loop .loop .i) (args′ .ink) (omega arith) (not-false (args′ .ink) (at-if2 .if2 .left)) (at-loop .loop .inv .2)))
 
 pub copy-spec : {M : Type 1} → statement M
 copy-spec =

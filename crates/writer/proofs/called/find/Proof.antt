@@ -27,7 +27,11 @@ loop-holds c =
 
 add-end : tie.Need-add-end Inv-loop μ-loop
 add-end c =
-    let z = scan-sizes (c .before .before .before .before .before .before .args .words .now) _ _ (c .before .before .before .before .loop .inv .0) (c .before .before .before .loop-test .taken) (c .before .shape-at .result) (c .before .shape-at .ensures) in omega (arith, z .2, c .before .before .before .before .before .before .good .1)
+    let at-shape-at = c .before in
+    let at-loop-test = at-shape-at .before .before in
+    let at-loop = at-loop-test .before in
+    let at-args = at-loop .before .before in
+    let z = scan-sizes (at-args .args .words .now) _ _ (at-loop .loop .inv .0) (at-loop-test .loop-test .taken) (at-shape-at .shape-at .result) (at-shape-at .shape-at .ensures) in omega (arith, z .2, at-args .good .1)
 
 sub-if1 : tie.Need-sub-if1 Inv-loop μ-loop
 sub-if1 c =
@@ -35,7 +39,10 @@ sub-if1 c =
 
 sub-wide : tie.Need-sub-wide Inv-loop μ-loop
 sub-wide c =
-    let z = scan-sizes (c .before .before .before .before .before .before .before .before .before .args .words .now) _ _ (c .before .before .before .before .before .before .before .loop .inv .0) (c .before .before .before .before .before .before .loop-test .taken) (c .before .before .before .before .shape-at .result) (c .before .before .before .before .shape-at .ensures) in omega (arith, z .1)
+    let at-shape-at = c .before .before .before .before in
+    let at-loop-test = at-shape-at .before .before in
+    let at-loop = at-loop-test .before in
+    let z = scan-sizes (at-loop .before .before .args .words .now) _ _ (at-loop .loop .inv .0) (at-loop-test .loop-test .taken) (at-shape-at .shape-at .result) (at-shape-at .shape-at .ensures) in omega (arith, z .1)
 
 sub-wide-2 : tie.Need-sub-wide-2 Inv-loop μ-loop
 sub-wide-2 c =
@@ -43,20 +50,39 @@ sub-wide-2 c =
 
 add-wide : tie.Need-add-wide Inv-loop μ-loop
 add-wide c =
-    let z = scan-sizes (c .before .before .before .before .before .before .before .before .before .args .words .now) _ _ (c .before .before .before .before .before .before .before .loop .inv .0) (c .before .before .before .before .before .before .loop-test .taken) (c .before .before .before .before .shape-at .result) (c .before .before .before .before .shape-at .ensures) in omega (arith, z .1, z .2, c .before .if1 .taken, c .before .before .before .before .before .before .before .before .before .good .1)
+    let at-if1 = c .before in
+    let at-shape-at = at-if1 .before .before .before in
+    let at-loop-test = at-shape-at .before .before in
+    let at-loop = at-loop-test .before in
+    let at-args = at-loop .before .before in
+    let z = scan-sizes (at-args .args .words .now) _ _ (at-loop .loop .inv .0) (at-loop-test .loop-test .taken) (at-shape-at .shape-at .result) (at-shape-at .shape-at .ensures) in omega (arith, z .1, z .2, at-if1 .if1 .taken, at-args .good .1)
 
 mul-wide : tie.Need-mul-wide Inv-loop μ-loop
 mul-wide c =
-    let z = scan-sizes (c .before .before .before .before .before .before .before .before .before .args .words .now) _ _ (c .before .before .before .before .before .before .before .loop .inv .0) (c .before .before .before .before .before .before .loop-test .taken) (c .before .before .before .before .shape-at .result) (c .before .before .before .before .shape-at .ensures) in omega (arith, z .1, z .2, c .before .if1 .taken, c .before .before .before .before .before .before .before .before .before .good .1)
+    let at-if1 = c .before in
+    let at-shape-at = at-if1 .before .before .before in
+    let at-loop-test = at-shape-at .before .before in
+    let at-loop = at-loop-test .before in
+    let at-args = at-loop .before .before in
+    let z = scan-sizes (at-args .args .words .now) _ _ (at-loop .loop .inv .0) (at-loop-test .loop-test .taken) (at-shape-at .shape-at .result) (at-shape-at .shape-at .ensures) in omega (arith, z .1, z .2, at-if1 .if1 .taken, at-args .good .1)
 
 shared-slice-read-wide : tie.Need-shared-slice-read-wide Inv-loop μ-loop
 shared-slice-read-wide c =
-    let z = scan-sizes (c .before .before .before .before .before .before .before .before .before .before .args .words .now) _ _ (c .before .before .before .before .before .before .before .before .loop .inv .0) (c .before .before .before .before .before .before .before .loop-test .taken) (c .before .before .before .before .before .shape-at .result) (c .before .before .before .before .before .shape-at .ensures) in omega (arith, z .1, z .2, c .before .before .if1 .taken, c .before .before .before .before .before .before .before .before .loop .inv .1)
+    let at-if1 = c .before .before in
+    let at-shape-at = at-if1 .before .before .before in
+    let at-loop-test = at-shape-at .before .before in
+    let at-loop = at-loop-test .before in
+    let z = scan-sizes (at-loop .before .before .args .words .now) _ _ (at-loop .loop .inv .0) (at-loop-test .loop-test .taken) (at-shape-at .shape-at .result) (at-shape-at .shape-at .ensures) in omega (arith, z .1, z .2, at-if1 .if1 .taken, at-loop .loop .inv .1)
 
 returns : tie.Need-returns Inv-loop μ-loop
 returns c =
-    let z = scan-sizes (c .before .before .before .before .before .before .before .before .before .before .before .args .words .now) _ _ (c .before .before .before .before .before .before .before .before .before .loop .inv .0) (c .before .before .before .before .before .before .before .before .loop-test .taken) (c .before .before .before .before .before .before .shape-at .result) (c .before .before .before .before .before .before .shape-at .ensures) in
-    c .wide .ensures ∙ name-here (c .before .before .before .before .before .before .before .before .before .before .before .args .words .now) (c .before .before .before .before .before .before .before .before .before .loop .at) (c .before .before .before .before .before .before .before .before .before .loop .seen) (c .before .before .before .before .before .before .shape-at .result .own) (c .before .before .before .before .before .before .shape-at .result .names) (c .before .before .before .before .before .before .before .before .before .before .before .args .n) (scan-names (c .before .before .before .before .before .before .before .before .before .before .before .args .words .now) _ _ (c .before .before .before .before .before .before .before .before .before .loop .inv .0) (c .before .before .before .before .before .before .before .before .loop-test .taken) (c .before .before .before .before .before .before .shape-at .result) (c .before .before .before .before .before .before .shape-at .ensures)) (c .before .before .before .before .before .before .before .before .before .loop .inv .1) (c .before .before .before .if1 .taken) (z .1)
+    let at-if1 = c .before .before .before in
+    let at-shape-at = at-if1 .before .before .before in
+    let at-loop-test = at-shape-at .before .before in
+    let at-loop = at-loop-test .before in
+    let args′ = at-loop .before .before .args in
+    let z = scan-sizes (args′ .words .now) _ _ (at-loop .loop .inv .0) (at-loop-test .loop-test .taken) (at-shape-at .shape-at .result) (at-shape-at .shape-at .ensures) in
+    c .wide .ensures ∙ name-here (args′ .words .now) (at-loop .loop .at) (at-loop .loop .seen) (at-shape-at .shape-at .result .own) (at-shape-at .shape-at .result .names) (args′ .n) (scan-names (args′ .words .now) _ _ (at-loop .loop .inv .0) (at-loop-test .loop-test .taken) (at-shape-at .shape-at .result) (at-shape-at .shape-at .ensures)) (at-loop .loop .inv .1) (at-if1 .if1 .taken) (z .1)
 
 add-seen : tie.Need-add-seen Inv-loop μ-loop
 add-seen c =
@@ -64,15 +90,24 @@ add-seen c =
 
 loop-less : tie.Need-loop-less Inv-loop μ-loop
 loop-less c =
-    let z = scan-sizes (c .before .before .before .before .before .before .before .before .before .args .words .now) _ _ (c .before .before .before .before .before .before .before .loop .inv .0) (c .before .before .before .before .before .before .loop-test .taken) (c .before .before .before .before .shape-at .result) (c .before .before .before .before .shape-at .ensures) in omega (arith, z .0, z .2)
+    let at-shape-at = c .before .before .before .before in
+    let at-loop-test = at-shape-at .before .before in
+    let at-loop = at-loop-test .before in
+    let z = scan-sizes (at-loop .before .before .args .words .now) _ _ (at-loop .loop .inv .0) (at-loop-test .loop-test .taken) (at-shape-at .shape-at .result) (at-shape-at .shape-at .ensures) in omega (arith, z .0, z .2)
 
 loop-again : tie.Need-loop-again Inv-loop μ-loop
 loop-again c =
-    (scan-next (c .before .before .before .before .before .before .before .before .before .args .words .now) _ _ (c .before .before .before .before .before .before .before .loop .inv .0) (c .before .before .before .before .before .before .loop-test .taken) (c .before .before .before .before .shape-at .result) (c .before .before .before .before .shape-at .ensures), omega (arith, c .before .if1 .left, c .before .before .before .before .before .before .before .loop .inv .1))
+    let at-if1 = c .before in
+    let at-shape-at = at-if1 .before .before .before in
+    let at-loop-test = at-shape-at .before .before in
+    let at-loop = at-loop-test .before in
+    (scan-next (at-loop .before .before .args .words .now) _ _ (at-loop .loop .inv .0) (at-loop-test .loop-test .taken) (at-shape-at .shape-at .result) (at-shape-at .shape-at .ensures), omega (arith, at-if1 .if1 .left, at-loop .loop .inv .1))
 
 returns-2 : tie.Need-returns-2 Inv-loop μ-loop
 returns-2 c =
-    let e : c .before .loop .at ≡ length (c .before .before .before .args .words .now) = omega (arith, c .before .loop .inv .0 .inside, c .loop-test .left) in absurd (omega (arith, scan-end (c .before .before .before .args .words .now) _ _ (c .before .loop .inv .0) e, c .before .before .before .pre .1, c .before .loop .inv .1))
+    let at-loop = c .before in
+    let at-args = at-loop .before .before in
+    let e : at-loop .loop .at ≡ length (at-args .args .words .now) = omega (arith, at-loop .loop .inv .0 .inside, c .loop-test .left) in absurd (omega (arith, scan-end (at-args .args .words .now) _ _ (at-loop .loop .inv .0) e, at-args .pre .1, at-loop .loop .inv .1))
 
 pub find-spec : {M : Type 1} → statement M
 find-spec =

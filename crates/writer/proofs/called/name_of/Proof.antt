@@ -27,7 +27,9 @@ wide-requires c κs =
 
 returns : tie.Need-returns
 returns c =
-    c .wide .ensures ∙ ap (λ (l : List ℕ). getD l (c .before .before .before .before .args .n) 0) (sym (called-table (c .before .before .before .before .args .direct) (c .before .before .before .before .args .called .now) (c .before .before .if1 .taken)))
+    let at-if1 = c .before .before in
+    let args′ = at-if1 .before .before .args in
+    c .wide .ensures ∙ ap (λ (l : List ℕ). getD l (args′ .n) 0) (sym (called-table (args′ .direct) (args′ .called .now) (at-if1 .if1 .taken)))
 
 find-requires : tie.Need-find-requires
 find-requires c κs =

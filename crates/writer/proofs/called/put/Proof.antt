@@ -33,7 +33,9 @@ slice-write-table c =
 
 loop-again : tie.Need-loop-again Inv-loop μ-loop
 loop-again c =
-    (length-set (c .before .before .loop .table) _ _ ∙ c .before .before .loop .inv .0, omega arith, copy-more (c .before .before .before .args .table .now) _ (c .before .before .before .args .names .now) (c .before .before .loop .table) (c .before .before .loop .i) (c .before .before .before .pre) (omega arith) (c .before .before .loop .inv .2))
+    let at-loop = c .before .before in
+    let at-args = at-loop .before in
+    (length-set (at-loop .loop .table) _ _ ∙ at-loop .loop .inv .0, omega arith, copy-more (at-args .args .table .now) _ (at-args .args .names .now) (at-loop .loop .table) (at-loop .loop .i) (at-args .pre) (omega arith) (at-loop .loop .inv .2))
 
 same-length : tie.Need-same-length Inv-loop μ-loop
 same-length c =

@@ -33,7 +33,8 @@ E t = (gap-reads.Asked, gap-reads.Learnt, variable-reads.Asked, variable-reads.L
 
 formals-returns : (t : ℕ) → formals-lts.Need-returns (E t) (formals-at t) formals.Post
 formals-returns t c =
-    left-is (sym (formals-none (saidBy (c .before .before .before .before .args .names .now) (c .before .before .before .before .args .direct) (c .before .before .before .before .args .called .now)) (c .before .before .before .before .args .wanted) (c .before .before .before .before .args .first) _ (c .if1 .taken))) (place-holds (Left _ _ _ _ _) (omega arith) (left-none (c .before .before .before .before .args .ink) _ (c .before .before .before .before .args .out .now) (c .before .before .before .before .pre .1 .0)))
+    let at-args = c .before .before .before .before in
+    left-is (sym (formals-none (saidBy (at-args .args .names .now) (at-args .args .direct) (at-args .args .called .now)) (at-args .args .wanted) (at-args .args .first) _ (c .if1 .taken))) (place-holds (Left _ _ _ _ _) (omega arith) (left-none (at-args .args .ink) _ (at-args .args .out .now) (at-args .pre .1 .0)))
 
 formals-gap-requires : (t : ℕ) → formals-lts.Need-gap-requires (E t) (formals-at t) formals.Post
 formals-gap-requires t c κs =
@@ -45,11 +46,18 @@ formals-same-length t c =
 
 formals-returns-2 : (t : ℕ) → formals-lts.Need-returns-2 (E t) (formals-at t) formals.Post
 formals-returns-2 t c =
-    left-is (sym (formals-more (saidBy (c .before .before .before .before .before .before .before .before .before .args .names .now) (c .before .before .before .before .before .before .before .before .before .args .direct) (c .before .before .before .before .before .before .before .before .before .args .called .now)) _ _ _ (c .before .before .before .before .before .if1 .left))) (place-full (c .before .before .before .gap .ensures) _ (c .if2 .taken))
+    let at-gap = c .before .before .before in
+    let at-if1 = at-gap .before .before in
+    let args′ = at-if1 .before .before .before .before .args in
+    left-is (sym (formals-more (saidBy (args′ .names .now) (args′ .direct) (args′ .called .now)) _ _ _ (at-if1 .if1 .left))) (place-full (at-gap .gap .ensures) _ (c .if2 .taken))
 
 formals-variable-requires : (t : ℕ) → formals-lts.Need-variable-requires (E t) (formals-at t) formals.Post
 formals-variable-requires t c κs =
-    (place-room (c .before .before .before .before .gap .ensures) (c .before .if2 .left), record { many = omega (arith, c .before .before .before .before .before .before .before .before .before .before .pre .1 .2 .many, c .before .before .before .before .before .before .if1 .left); slots = c .before .before .before .before .before .before .before .before .before .before .pre .1 .2 .slots }, c .before .before .before .before .before .before .before .before .before .before .pre .1 .3)
+    let at-if2 = c .before in
+    let at-gap = at-if2 .before .before .before in
+    let at-if1 = at-gap .before .before in
+    let pre′ = at-if1 .before .before .before .before .pre in
+    (place-room (at-gap .gap .ensures) (at-if2 .if2 .left), record { many = omega (arith, pre′ .1 .2 .many, at-if1 .if1 .left); slots = pre′ .1 .2 .slots }, pre′ .1 .3)
 
 formals-same-length-2 : (t : ℕ) → formals-lts.Need-same-length-2 (E t) (formals-at t) formals.Post
 formals-same-length-2 t c =
@@ -57,23 +65,42 @@ formals-same-length-2 t c =
 
 formals-returns-3 : (t : ℕ) → formals-lts.Need-returns-3 (E t) (formals-at t) formals.Post
 formals-returns-3 t c =
-    left-is (sym (formals-more (saidBy (c .before .before .before .before .before .before .before .before .before .before .before .before .before .before .args .names .now) (c .before .before .before .before .before .before .before .before .before .before .before .before .before .before .args .direct) (c .before .before .before .before .before .before .before .before .before .before .before .before .before .before .args .called .now)) _ _ _ (c .before .before .before .before .before .before .before .before .before .before .if1 .left))) (place-then (c .before .before .before .before .before .before .before .before .gap .ensures) (c .before .before .before .before .before .if2 .left) (place-full (c .before .before .before .variable .ensures) _ (c .if3 .taken)))
+    let at-variable = c .before .before .before in
+    let at-if2 = at-variable .before .before in
+    let at-gap = at-if2 .before .before .before in
+    let at-if1 = at-gap .before .before in
+    let args′ = at-if1 .before .before .before .before .args in
+    left-is (sym (formals-more (saidBy (args′ .names .now) (args′ .direct) (args′ .called .now)) _ _ _ (at-if1 .if1 .left))) (place-then (at-gap .gap .ensures) (at-if2 .if2 .left) (place-full (at-variable .variable .ensures) _ (c .if3 .taken)))
 
 formals-add-formals : (t : ℕ) → formals-lts.Need-add-formals (E t) (formals-at t) formals.Post
 formals-add-formals t c =
-    omega (arith, c .before .before .before .before .before .before .before .before .before .before .before .before .before .before .pre .1 .1, c .before .before .before .before .before .before .before .before .before .before .if1 .left)
+    let at-if1 = c .before .before .before .before .before .before .before .before .before .before in
+    omega (arith, at-if1 .before .before .before .before .pre .1 .1, at-if1 .if1 .left)
 
 formals-formals-requires : (t : ℕ) → formals-lts.Need-formals-requires (E t) (formals-at t) formals.Post
 formals-formals-requires t c κs =
-    (omega (arith, c .before .before .before .before .before .before .before .before .before .before .before .if1 .left), (place-room (c .before .before .before .before .variable .ensures) (c .before .if3 .left), omega (arith, c .before .before .before .before .before .before .before .before .before .before .before .before .before .before .before .pre .1 .1, c .before .before .before .before .before .before .before .before .before .before .before .if1 .left), record { many = omega (arith, c .before .before .before .before .before .before .before .before .before .before .before .before .before .before .before .pre .1 .2 .many, c .before .before .before .before .before .before .before .before .before .before .before .if1 .left); slots = c .before .before .before .before .before .before .before .before .before .before .before .before .before .before .before .pre .1 .2 .slots }, c .before .before .before .before .before .before .before .before .before .before .before .before .before .before .before .pre .1 .3))
+    let at-if3 = c .before in
+    let at-variable = at-if3 .before .before .before in
+    let at-if1 = at-variable .before .before .before .before .before .before .before in
+    let pre′ = at-if1 .before .before .before .before .pre in
+    (omega (arith, at-if1 .if1 .left), (place-room (at-variable .variable .ensures) (at-if3 .if3 .left), omega (arith, pre′ .1 .1, at-if1 .if1 .left), record { many = omega (arith, pre′ .1 .2 .many, at-if1 .if1 .left); slots = pre′ .1 .2 .slots }, pre′ .1 .3))
 
 formals-same-length-3 : (t : ℕ) → formals-lts.Need-same-length-3 (E t) (formals-at t) formals.Post
 formals-same-length-3 t c =
-    c .before .before .formals .kept .1 .1 .1 .1 .0 ∙ c .before .before .before .before .before .before .before .variable .kept .1 .1 .0 ∙ c .before .before .before .before .before .before .before .before .before .before .before .before .gap .kept .1 .0
+    let at-formals = c .before .before in
+    let at-variable = at-formals .before .before .before .before .before in
+    at-formals .formals .kept .1 .1 .1 .1 .0 ∙ at-variable .variable .kept .1 .1 .0 ∙ at-variable .before .before .before .before .before .gap .kept .1 .0
 
 formals-returns-4 : (t : ℕ) → formals-lts.Need-returns-4 (E t) (formals-at t) formals.Post
 formals-returns-4 t c =
-    left-is (sym (formals-more (saidBy (c .before .before .before .before .before .before .before .before .before .before .before .before .before .before .before .before .before .before .args .names .now) (c .before .before .before .before .before .before .before .before .before .before .before .before .before .before .before .before .before .before .args .direct) (c .before .before .before .before .before .before .before .before .before .before .before .before .before .before .before .before .before .before .args .called .now)) _ _ _ (c .before .before .before .before .before .before .before .before .before .before .before .before .before .before .if1 .left))) (place-then (c .before .before .before .before .before .before .before .before .before .before .before .before .gap .ensures) (c .before .before .before .before .before .before .before .before .before .if2 .left) (place-then (c .before .before .before .before .before .before .before .variable .ensures) (c .before .before .before .before .if3 .left) (c .before .before .formals .ensures)))
+    let at-formals = c .before .before in
+    let at-if3 = at-formals .before .before in
+    let at-variable = at-if3 .before .before .before in
+    let at-if2 = at-variable .before .before in
+    let at-gap = at-if2 .before .before .before in
+    let at-if1 = at-gap .before .before in
+    let args′ = at-if1 .before .before .before .before .args in
+    left-is (sym (formals-more (saidBy (args′ .names .now) (args′ .direct) (args′ .called .now)) _ _ _ (at-if1 .if1 .left))) (place-then (at-gap .gap .ensures) (at-if2 .if2 .left) (place-then (at-variable .variable .ensures) (at-if3 .if3 .left) (at-formals .formals .ensures)))
 
 pub +formals-spec : {M : Type 1} → statement M
 +formals-spec = close μ-formals λ t. formals-lts.spec (E t)

@@ -40,7 +40,9 @@ same-length c =
 
 returns : tie.Need-returns
 returns c =
-    left-is (name-cut (c .before .before .before .before .before .before .before .before .before .args .names .now) _ _ (c .before .before .before .before .before .size .ensures)) (c .before .before .copy .ensures)
+    let at-copy = c .before .before in
+    let at-size = at-copy .before .before .before in
+    left-is (name-cut (at-size .before .before .before .before .args .names .now) _ _ (at-size .size .ensures)) (at-copy .copy .ensures)
 
 pub name-spec : {M : Type 1} → statement M
 name-spec =

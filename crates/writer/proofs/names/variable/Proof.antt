@@ -27,7 +27,9 @@ same-length c =
 
 returns : tie.Need-returns
 returns c =
-    left-is (sym (variable-text (saidBy (c .before .before .before .before .before .before .before .before .args .names .now) (c .before .before .before .before .before .before .before .before .args .direct) (c .before .before .before .before .before .before .before .before .args .called .now)) _)) (place-full (c .before .before .before .numbered .ensures) _ (c .if1 .taken))
+    let at-numbered = c .before .before .before in
+    let args′ = at-numbered .before .before .before .before .before .args in
+    left-is (sym (variable-text (saidBy (args′ .names .now) (args′ .direct) (args′ .called .now)) _)) (place-full (at-numbered .numbered .ensures) _ (c .if1 .taken))
 
 byte-requires : tie.Need-byte-requires
 byte-requires c κs =
@@ -39,23 +41,41 @@ same-length-2 c =
 
 returns-2 : tie.Need-returns-2
 returns-2 c =
-    left-is (sym (variable-text (saidBy (c .before .before .before .before .before .before .before .before .before .before .before .before .before .args .names .now) (c .before .before .before .before .before .before .before .before .before .before .before .before .before .args .direct) (c .before .before .before .before .before .before .before .before .before .before .before .before .before .args .called .now)) _)) (place-then (c .before .before .before .before .before .before .before .before .numbered .ensures) (c .before .before .before .before .before .if1 .left) (place-full (c .before .before .before .byte .ensures) _ (c .if2 .taken)))
+    let at-byte = c .before .before .before in
+    let at-if1 = at-byte .before .before in
+    let at-numbered = at-if1 .before .before .before in
+    let args′ = at-numbered .before .before .before .before .before .args in
+    left-is (sym (variable-text (saidBy (args′ .names .now) (args′ .direct) (args′ .called .now)) _)) (place-then (at-numbered .numbered .ensures) (at-if1 .if1 .left) (place-full (at-byte .byte .ensures) _ (c .if2 .taken)))
 
 name-of-requires : tie.Need-name-of-requires
 name-of-requires c κs =
-    (c .before .before .before .before .before .before .before .before .before .before .before .before .before .pre .1 .many, c .before .before .before .before .before .before .before .before .before .before .before .before .before .pre .2)
+    let pre′ = c .before .before .before .before .before .before .before .before .before .before .before .before .before .pre in
+    (pre′ .1 .many, pre′ .2)
 
 name-requires : tie.Need-name-requires
 name-requires c κs =
-    (place-room (c .before .before .before .before .before .byte .ensures) (c .before .before .if2 .left), ap (hasName (c .before .before .before .before .before .before .before .before .before .before .before .before .before .before .before .args .names .now)) (c .before .name-of .ensures) ∙ naming-slot (saidBy (c .before .before .before .before .before .before .before .before .before .before .before .before .before .before .before .args .names .now) (c .before .before .before .before .before .before .before .before .before .before .before .before .before .before .before .args .direct) (c .before .before .before .before .before .before .before .before .before .before .before .before .before .before .before .args .called .now)) _ _ (c .before .before .before .before .before .before .before .before .before .before .before .before .before .before .before .pre .1) (omega arith))
+    let at-name-of = c .before in
+    let at-if2 = at-name-of .before in
+    let at-byte = at-if2 .before .before .before in
+    let at-args = at-byte .before .before .before .before .before .before .before .before .before .before in
+    (place-room (at-byte .byte .ensures) (at-if2 .if2 .left), ap (hasName (at-args .args .names .now)) (at-name-of .name-of .ensures) ∙ naming-slot (saidBy (at-args .args .names .now) (at-args .args .direct) (at-args .args .called .now)) _ _ (at-args .pre .1) (omega arith))
 
 same-length-3 : tie.Need-same-length-3
 same-length-3 c =
-    c .before .before .name .kept .1 .1 .0 ∙ c .before .before .before .before .before .before .before .before .byte .kept .1 .0 ∙ c .before .before .before .before .before .before .before .before .before .before .before .before .before .numbered .kept .1 .1 .0
+    let at-name = c .before .before in
+    let at-byte = at-name .before .before .before .before .before .before in
+    at-name .name .kept .1 .1 .0 ∙ at-byte .byte .kept .1 .0 ∙ at-byte .before .before .before .before .before .numbered .kept .1 .1 .0
 
 returns-3 : tie.Need-returns-3
 returns-3 c =
-    left-is (sym (variable-text (saidBy (c .before .before .before .before .before .before .before .before .before .before .before .before .before .before .before .before .before .before .args .names .now) (c .before .before .before .before .before .before .before .before .before .before .before .before .before .before .before .before .before .before .args .direct) (c .before .before .before .before .before .before .before .before .before .before .before .before .before .before .before .before .before .before .args .called .now)) _)) (place-then (c .before .before .before .before .before .before .before .before .before .before .before .before .before .numbered .ensures) (c .before .before .before .before .before .before .before .before .before .before .if1 .left) (place-then (c .before .before .before .before .before .before .before .before .byte .ensures) (c .before .before .before .before .before .if2 .left) (left-is (ap (nameAt (c .before .before .before .before .before .before .before .before .before .before .before .before .before .before .before .before .before .before .args .names .now)) (c .before .before .before .before .name-of .ensures)) (c .before .before .name .ensures))))
+    let at-name = c .before .before in
+    let at-name-of = at-name .before .before in
+    let at-if2 = at-name-of .before in
+    let at-byte = at-if2 .before .before .before in
+    let at-if1 = at-byte .before .before in
+    let at-numbered = at-if1 .before .before .before in
+    let args′ = at-numbered .before .before .before .before .before .args in
+    left-is (sym (variable-text (saidBy (args′ .names .now) (args′ .direct) (args′ .called .now)) _)) (place-then (at-numbered .numbered .ensures) (at-if1 .if1 .left) (place-then (at-byte .byte .ensures) (at-if2 .if2 .left) (left-is (ap (nameAt (args′ .names .now)) (at-name-of .name-of .ensures)) (at-name .name .ensures))))
 
 pub variable-spec : {M : Type 1} → statement M
 variable-spec =

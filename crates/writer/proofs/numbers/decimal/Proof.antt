@@ -14,19 +14,44 @@ use Rattle.writer.specs.LaidLaws.{place-room, place-full, place-then, le
 
 returns : tie.Need-returns
 returns c =
-    left-is (decimal-below (c .before .before .before .before .before .before .before .before .before .before .args .w) (c .before .before .before .before .before .before .before .before .before .before .fits .w) _ (c .before .before .before .before .before .before .before .before .of-word .ensures) _ (c .before .before .before .before .before .before .wide .ensures ∙ c .before .before .before .before .before .before .before .size .ensures) (c .before .before .before .before .before .before .before .before .before .before .args .count) (c .before .before .before .before .before .if1 .taken)) (place-full (c .before .before .before .byte .ensures) _ (c .if2 .taken))
+    let at-byte = c .before .before .before in
+    let at-if1 = at-byte .before .before in
+    let at-wide = at-if1 .before in
+    let at-size = at-wide .before in
+    let at-of-word = at-size .before in
+    let at-args = at-of-word .before .before in
+    left-is (decimal-below (at-args .args .w) (at-args .fits .w) _ (at-of-word .of-word .ensures) _ (at-wide .wide .ensures ∙ at-size .size .ensures) (at-args .args .count) (at-if1 .if1 .taken)) (place-full (at-byte .byte .ensures) _ (c .if2 .taken))
 
 point-requires : tie.Need-point-requires
 point-requires c κs =
-    (place-room (c .before .before .before .before .before .byte .ensures) (c .before .before .if2 .left), omega (arith, c .before .before .before .before .before .before .before .before .wide .ensures), omega (arith, c .before .wide2 .ensures), omega (arith, c .before .wide2 .ensures))
+    let at-wide2 = c .before in
+    let at-if2 = at-wide2 .before in
+    let at-byte = at-if2 .before .before .before in
+    (place-room (at-byte .byte .ensures) (at-if2 .if2 .left), omega (arith, at-byte .before .before .before .wide .ensures), omega (arith, at-wide2 .wide2 .ensures), omega (arith, at-wide2 .wide2 .ensures))
 
 returns-2 : tie.Need-returns-2
 returns-2 c =
-    left-is (rw (c .before .before .before .before .wide2 .ensures) (decimal-below (c .before .before .before .before .before .before .before .before .before .before .before .before .before .before .before .args .w) (c .before .before .before .before .before .before .before .before .before .before .before .before .before .before .before .fits .w) _ (c .before .before .before .before .before .before .before .before .before .before .before .before .before .of-word .ensures) _ (c .before .before .before .before .before .before .before .before .before .before .before .wide .ensures ∙ c .before .before .before .before .before .before .before .before .before .before .before .before .size .ensures) (c .before .before .before .before .before .before .before .before .before .before .before .before .before .before .before .args .count) (c .before .before .before .before .before .before .before .before .before .before .if1 .taken))) (place-then (c .before .before .before .before .before .before .before .before .byte .ensures) (c .before .before .before .before .before .if2 .left) (c .before .before .point .ensures))
+    let at-point = c .before .before in
+    let at-wide2 = at-point .before .before in
+    let at-if2 = at-wide2 .before in
+    let at-byte = at-if2 .before .before .before in
+    let at-if1 = at-byte .before .before in
+    let at-wide = at-if1 .before in
+    let at-size = at-wide .before in
+    let at-of-word = at-size .before in
+    let at-args = at-of-word .before .before in
+    left-is (rw (at-wide2 .wide2 .ensures) (decimal-below (at-args .args .w) (at-args .fits .w) _ (at-of-word .of-word .ensures) _ (at-wide .wide .ensures ∙ at-size .size .ensures) (at-args .args .count) (at-if1 .if1 .taken))) (place-then (at-byte .byte .ensures) (at-if2 .if2 .left) (at-point .point .ensures))
 
 returns-3 : tie.Need-returns-3
 returns-3 c =
-    left-is (rw (c .before .before .before .before .wide3 .ensures) (decimal-above (c .before .before .before .before .before .before .before .before .before .before .args .w) (c .before .before .before .before .before .before .before .before .before .before .fits .w) _ (c .before .before .before .before .before .before .before .before .of-word .ensures) _ (c .before .before .before .before .before .before .wide .ensures ∙ c .before .before .before .before .before .before .before .size .ensures) (c .before .before .before .before .before .before .before .before .before .before .args .count) (c .before .before .before .before .before .if1 .left))) (c .before .before .point2 .ensures)
+    let at-point2 = c .before .before in
+    let at-wide3 = at-point2 .before .before in
+    let at-if1 = at-wide3 .before in
+    let at-wide = at-if1 .before in
+    let at-size = at-wide .before in
+    let at-of-word = at-size .before in
+    let at-args = at-of-word .before .before in
+    left-is (rw (at-wide3 .wide3 .ensures) (decimal-above (at-args .args .w) (at-args .fits .w) _ (at-of-word .of-word .ensures) _ (at-wide .wide .ensures ∙ at-size .size .ensures) (at-args .args .count) (at-if1 .if1 .left))) (at-point2 .point2 .ensures)
 
 pub decimal-spec : {M : Type 1} → statement M
 decimal-spec =

@@ -30,7 +30,9 @@ returns-3 c =
 
 sub-lay : tie.Need-sub-lay
 sub-lay c =
-    omega (arith, c .power .ensures, most-first (c .before .before .before .before .before .before .before .before .before .before .args .n) _ (c .before .before .before .before .before .before .places .ensures .1) (c .before .before .before .if4 .taken))
+    let at-if4 = c .before .before .before in
+    let at-places = at-if4 .before .before .before in
+    omega (arith, c .power .ensures, most-first (at-places .before .before .before .before .args .n) _ (at-places .places .ensures .1) (at-if4 .if4 .taken))
 
 lay-requires : tie.Need-lay-requires
 lay-requires c κs =
@@ -39,20 +41,31 @@ lay-requires c κs =
 
 same-length-2 : tie.Need-same-length-2
 same-length-2 c =
-    c .before .before .lay .kept .1 .1 .1 .0 ∙ length-set (c .before .before .before .before .before .before .before .before .before .before .before .before .before .before .args .out .now) _ _
+    let at-lay = c .before .before in
+    at-lay .lay .kept .1 .1 .1 .0 ∙ length-set (at-lay .before .before .before .before .before .before .before .before .before .before .before .before .args .out .now) _ _
 
 returns-4 : tie.Need-returns-4
 returns-4 c =
-    let f = c .before .before .before .before .before .before .before .before .before .before .before .before .before .before in
-    let k = c .before .before .before .before .before .before .before .before .before .before .places .ensures in
-    digits-laid _ _ (c .before .before .before .before .before .before .before .before .before .before .before .before .if1 .left) (k .1) (k .2) (f .args .ink) (f .args .at) (f .args .out .now) (omega arith) (omega arith) _ (not-false (f .args .ink) (c .before .before .before .before .before .before .before .before .if3 .left))
-    (most-laid (f .args .n) _ _ (f .args .at) (f .args .out .now) _ (k .1) (omega arith) (c .before .before .before .before .before .before .before .if4 .taken) (c .before .before .before .before .power .ensures) (omega arith) (c .before .before .lay .ensures))
+    let at-lay = c .before .before in
+    let at-power = at-lay .before .before in
+    let at-if4 = at-power .before .before .before in
+    let at-if3 = at-if4 .before in
+    let at-places = at-if3 .before .before in
+    let at-if1 = at-places .before .before in
+    let f = at-if1 .before .before in
+    let k = at-places .places .ensures in
+    digits-laid _ _ (at-if1 .if1 .left) (k .1) (k .2) (f .args .ink) (f .args .at) (f .args .out .now) (omega arith) (omega arith) _ (not-false (f .args .ink) (at-if3 .if3 .left))
+    (most-laid (f .args .n) _ _ (f .args .at) (f .args .out .now) _ (k .1) (omega arith) (at-if4 .if4 .taken) (at-power .power .ensures) (omega arith) (at-lay .lay .ensures))
 
 returns-5 : tie.Need-returns-5
 returns-5 c =
-    let f = c .before .before .before .before .before .before .before .before .before .before .before .before in
-    let k = c .before .before .before .before .before .before .before .before .places .ensures in
-    digits-laid _ _ (c .before .before .before .before .before .before .before .before .before .before .if1 .left) (k .1) (k .2) (f .args .ink) (f .args .at) (f .args .out .now) (omega arith) (omega arith) _ (not-false (f .args .ink) (c .before .before .before .before .before .before .if3 .left)) (c .before .before .lay2 .ensures)
+    let at-lay2 = c .before .before in
+    let at-if3 = at-lay2 .before .before .before .before in
+    let at-places = at-if3 .before .before in
+    let at-if1 = at-places .before .before in
+    let f = at-if1 .before .before in
+    let k = at-places .places .ensures in
+    digits-laid _ _ (at-if1 .if1 .left) (k .1) (k .2) (f .args .ink) (f .args .at) (f .args .out .now) (omega arith) (omega arith) _ (not-false (f .args .ink) (at-if3 .if3 .left)) (at-lay2 .lay2 .ensures)
 
 pub digits-spec : {M : Type 1} → statement M
 digits-spec =

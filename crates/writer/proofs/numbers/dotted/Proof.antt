@@ -25,7 +25,9 @@ byte-requires c κs =
 
 returns-2 : tie.Need-returns-2
 returns-2 c =
-    place-then (c .before .before .before .before .before .before .before .before .copy .ensures) (c .before .before .before .before .before .if1 .left) (place-full (c .before .before .before .byte .ensures) _ (c .if2 .taken))
+    let at-byte = c .before .before .before in
+    let at-if1 = at-byte .before .before in
+    place-then (at-if1 .before .before .before .copy .ensures) (at-if1 .if1 .left) (place-full (at-byte .byte .ensures) _ (c .if2 .taken))
 
 copy-requires-2 : tie.Need-copy-requires-2
 copy-requires-2 c κs =
@@ -33,7 +35,11 @@ copy-requires-2 c κs =
 
 returns-3 : tie.Need-returns-3
 returns-3 c =
-    place-then (c .before .before .before .before .before .before .before .before .before .before .before .before .before .copy .ensures) (c .before .before .before .before .before .before .before .before .before .before .if1 .left) (place-then (c .before .before .before .before .before .before .before .before .byte .ensures) (c .before .before .before .before .before .if2 .left) (c .before .before .copy2 .ensures))
+    let at-copy2 = c .before .before in
+    let at-if2 = at-copy2 .before .before .before in
+    let at-byte = at-if2 .before .before .before in
+    let at-if1 = at-byte .before .before in
+    place-then (at-if1 .before .before .before .copy .ensures) (at-if1 .if1 .left) (place-then (at-byte .byte .ensures) (at-if2 .if2 .left) (at-copy2 .copy2 .ensures))
 
 pub dotted-spec : {M : Type 1} → statement M
 dotted-spec =

@@ -26,7 +26,10 @@ same-length c =
 
 returns-2 : tie.Need-returns-2
 returns-2 c =
-    left-is (sym (gap-yes (c .before .before .before .before .before .before .args .wanted) (not-false (c .before .before .before .before .before .before .args .wanted) (c .before .before .before .before .if1 .left)))) (c .before .before .byte .ensures)
+    let at-byte = c .before .before in
+    let at-if1 = at-byte .before .before in
+    let args′ = at-if1 .before .before .args in
+    left-is (sym (gap-yes (args′ .wanted) (not-false (args′ .wanted) (at-if1 .if1 .left)))) (at-byte .byte .ensures)
 
 pub gap-spec : {M : Type 1} → statement M
 gap-spec = tie.close (tie.spec returns byte-requires same-length returns-2)

@@ -8,21 +8,31 @@ use Rattle.writer.specs.LaidLaws.{left-is}
 
 returns : tie.Need-returns
 returns c =
-    let if1 = c .before .before .before .before .if1 in
-    let wide = c .before .before .before .before .before .wide in
-    let size = c .before .before .before .before .before .before .size in
-    let of-word = c .before .before .before .before .before .before .before .of-word in
-    let start = c .before .before .before .before .before .before .before .before .before in
-    left-is (integer-below (start .args .w) (start .fits .w) _ (of-word .ensures) _ (wide .ensures ∙ size .ensures) (if1 .taken)) (c .before .before .numbered .ensures)
+    let at-numbered = c .before .before in
+    let at-if1 = at-numbered .before .before in
+    let at-wide = at-if1 .before in
+    let at-size = at-wide .before in
+    let at-of-word = at-size .before in
+    let if1 = at-if1 .if1 in
+    let wide = at-wide .wide in
+    let size = at-size .size in
+    let of-word = at-of-word .of-word in
+    let start = at-of-word .before .before in
+    left-is (integer-below (start .args .w) (start .fits .w) _ (of-word .ensures) _ (wide .ensures ∙ size .ensures) (if1 .taken)) (at-numbered .numbered .ensures)
 
 returns-2 : tie.Need-returns-2
 returns-2 c =
-    let if1 = c .before .before .before .before .if1 in
-    let wide = c .before .before .before .before .before .wide in
-    let size = c .before .before .before .before .before .before .size in
-    let of-word = c .before .before .before .before .before .before .before .of-word in
-    let start = c .before .before .before .before .before .before .before .before .before in
-    left-is (integer-above (start .args .w) (start .fits .w) _ (of-word .ensures) _ (wide .ensures ∙ size .ensures) (if1 .left)) (c .before .before .digits .ensures)
+    let at-digits = c .before .before in
+    let at-if1 = at-digits .before .before in
+    let at-wide = at-if1 .before in
+    let at-size = at-wide .before in
+    let at-of-word = at-size .before in
+    let if1 = at-if1 .if1 in
+    let wide = at-wide .wide in
+    let size = at-size .size in
+    let of-word = at-of-word .of-word in
+    let start = at-of-word .before .before in
+    left-is (integer-above (start .args .w) (start .fits .w) _ (of-word .ensures) _ (wide .ensures ∙ size .ensures) (if1 .left)) (at-digits .digits .ensures)
 
 pub integer-spec : {M : Type 1} → statement M
 integer-spec =

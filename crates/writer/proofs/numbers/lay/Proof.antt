@@ -24,9 +24,10 @@ abbrev μ-loop : tie.MeasureT-loop
 
 loop-holds : tie.Need-loop-holds Inv-loop μ-loop
 loop-holds c =
-    let k = c .before .before .args .k in
-    let e : c .before .before .args .at + (k - k) ≡ c .before .before .args .at = omega arith in
-    (refl, omega arith, subst (λ (x : ℕ). c .before .before .args .n < 10 ^ x) (add-one k) (c .before .before .pre .2), ap (λ (x : ℕ). laid true (padded k (c .before .before .args .n)) x (c .before .before .args .out .now)) e)
+    let at-args = c .before .before in
+    let k = at-args .args .k in
+    let e : at-args .args .at + (k - k) ≡ at-args .args .at = omega arith in
+    (refl, omega arith, subst (λ (x : ℕ). at-args .args .n < 10 ^ x) (add-one k) (at-args .pre .2), ap (λ (x : ℕ). laid true (padded k (at-args .args .n)) x (at-args .args .out .now)) e)
 
 power-requires : tie.Need-power-requires Inv-loop μ-loop
 power-requires c κs =
@@ -42,12 +43,15 @@ slice-write-out c =
 
 loop-again : tie.Need-loop-again Inv-loop μ-loop
 loop-again c =
-    let w = c .before .before .before .loop in
-    let at = c .before .before .before .before .before .before .args .at + (c .before .before .before .before .before .before .args .k - w .i) in (
+    let at-power = c .before in
+    let at-loop = at-power .before .before in
+    let args′ = at-loop .before .before .before .args in
+    let w = at-loop .loop in
+    let at = args′ .at + (args′ .k - w .i) in (
       length-set (w .out) _ _ ∙ w .inv .0,
       omega arith,
-      lay-left (w .i) (w .left) _ _ _ at (w .out) (omega arith) (c .before .power .ensures) (c .split .ensures .0) (c .split .ensures .1),
-      lay-next (w .i) (w .left) _ _ _ at (w .out) (omega arith) (c .before .power .ensures) (c .split .ensures .0) (c .split .ensures .1) _ (omega arith) (omega (arith, w .inv .0)) ∙ w .inv .3,
+      lay-left (w .i) (w .left) _ _ _ at (w .out) (omega arith) (at-power .power .ensures) (c .split .ensures .0) (c .split .ensures .1),
+      lay-next (w .i) (w .left) _ _ _ at (w .out) (omega arith) (at-power .power .ensures) (c .split .ensures .0) (c .split .ensures .1) _ (omega arith) (omega (arith, w .inv .0)) ∙ w .inv .3,
     )
 
 cast-out : tie.Need-cast-out Inv-loop μ-loop

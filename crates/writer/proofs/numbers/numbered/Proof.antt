@@ -31,7 +31,9 @@ same-length-2 c =
 
 returns-2 : tie.Need-returns-2
 returns-2 c =
-    place-then (c .before .before .before .before .before .before .before .byte .ensures) (c .before .before .before .before .if1 .left) (c .before .before .digits .ensures)
+    let at-digits = c .before .before in
+    let at-if1 = at-digits .before .before in
+    place-then (at-if1 .before .before .before .byte .ensures) (at-if1 .if1 .left) (at-digits .digits .ensures)
 
 pub numbered-spec : {M : Type 1} → statement M
 numbered-spec =

@@ -10,7 +10,11 @@ use Rattle.writer.specs.PointLaws.{pointed-cut}
 
 returns : tie.Need-returns
 returns c =
-    left-is (pointed-cut (c .before .before .before .before .before .before .before .before .before .before .before .before .args .n) _ (c .before .before .before .before .before .before .before .before .before .before .before .before .args .count) (c .before .before .before .before .before .before .before .before .before .before .before .before .pre .2) (c .before .before .before .before .before .before .before .before .before .places-least .ensures .0) (c .before .before .before .before .before .before .before .before .before .places-least .ensures .2) (c .before .before .before .before .before .before .before .before .before .places-least .ensures .3) _ _ (c .before .before .before .before .before .before .lay .ensures)) (c .before .before .dotted .ensures)
+    let at-dotted = c .before .before in
+    let at-lay = at-dotted .before .before .before .before in
+    let at-places-least = at-lay .before .before .before in
+    let at-args = at-places-least .before .before .before in
+    left-is (pointed-cut (at-args .args .n) _ (at-args .args .count) (at-args .pre .2) (at-places-least .places-least .ensures .0) (at-places-least .places-least .ensures .2) (at-places-least .places-least .ensures .3) _ _ (at-lay .lay .ensures)) (at-dotted .dotted .ensures)
 
 pub point-spec : {M : Type 1} → statement M
 point-spec =

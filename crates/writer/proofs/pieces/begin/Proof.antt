@@ -38,15 +38,22 @@ same-length c =
 
 returns : tie.Need-returns
 returns c =
-    λ x l h. left-is (opens-if (c .before .before .before .before .before .before .before .before .before .before .before .args .words .now) x l h _ _ (c .before .before .before .before .before .if1 .taken)) (c .before .before .copy .ensures)
+    let at-copy = c .before .before in
+    let at-if1 = at-copy .before .before .before in
+    λ x l h. left-is (opens-if (at-if1 .before .before .before .before .before .before .args .words .now) x l h _ _ (at-if1 .if1 .taken)) (at-copy .copy .ensures)
 
 shared-slice-read-wide : tie.Need-shared-slice-read-wide
 shared-slice-read-wide c =
-    let o = c .before .before .before .before .before .before .before .pre .1 in omega (arith, two-words (c .before .before .before .before .before .before .before .args .words .now) (o .it) (o .left) (o .is) (c .before .if1 .left))
+    let at-if1 = c .before in
+    let at-args = at-if1 .before .before .before .before .before .before in
+    let o = at-args .pre .1 in omega (arith, two-words (at-args .args .words .now) (o .it) (o .left) (o .is) (at-if1 .if1 .left))
 
 variable-requires : tie.Need-variable-requires
 variable-requires c κs =
-    (c .before .before .before .before .before .before .before .before .before .before .pre .0, subst (λ (n : ℕ). Naming (saidBy (c .before .before .before .before .before .before .before .before .before .before .args .names .now) (c .before .before .before .before .before .before .before .before .before .before .args .direct) (c .before .before .before .before .before .before .before .before .before .before .args .called .now)) (suc n)) (sym (c .before .before .wide .ensures)) (variable-named _ (c .before .before .before .before .before .before .before .before .before .before .args .words .now) (c .before .before .before .before .before .before .before .before .before .before .pre .1) (c .before .if2 .taken)), c .before .before .before .before .before .before .before .before .before .before .pre .2)
+    let at-if2 = c .before in
+    let at-wide = at-if2 .before in
+    let at-args = at-wide .before .before .before .before .before .before .before .before in
+    (at-args .pre .0, subst (λ (n : ℕ). Naming (saidBy (at-args .args .names .now) (at-args .args .direct) (at-args .args .called .now)) (suc n)) (sym (at-wide .wide .ensures)) (variable-named _ (at-args .args .words .now) (at-args .pre .1) (at-if2 .if2 .taken)), at-args .pre .2)
 
 same-length-2 : tie.Need-same-length-2
 same-length-2 c =
@@ -54,7 +61,11 @@ same-length-2 c =
 
 returns-2 : tie.Need-returns-2
 returns-2 c =
-    λ x l h. left-is (ap (variableText (nameAt (c .before .before .before .before .before .before .before .before .before .before .before .before .before .args .names .now)) (calledBy (c .before .before .before .before .before .before .before .before .before .before .before .before .before .args .direct) (c .before .before .before .before .before .before .before .before .before .before .before .before .before .args .called .now))) (c .before .before .before .before .before .wide .ensures) ∙ opens-variable (c .before .before .before .before .before .before .before .before .before .before .before .before .before .args .words .now) x l h (saidBy (c .before .before .before .before .before .before .before .before .before .before .before .before .before .args .names .now) (c .before .before .before .before .before .before .before .before .before .before .before .before .before .args .direct) (c .before .before .before .before .before .before .before .before .before .before .before .before .before .args .called .now)) _ (c .before .before .before .before .if2 .taken)) (c .before .before .variable .ensures)
+    let at-variable = c .before .before in
+    let at-if2 = at-variable .before .before in
+    let at-wide = at-if2 .before in
+    let args′ = at-wide .before .before .before .before .before .before .before .before .args in
+    λ x l h. left-is (ap (variableText (nameAt (args′ .names .now)) (calledBy (args′ .direct) (args′ .called .now))) (at-wide .wide .ensures) ∙ opens-variable (args′ .words .now) x l h (saidBy (args′ .names .now) (args′ .direct) (args′ .called .now)) _ (at-if2 .if2 .taken)) (at-variable .variable .ensures)
 
 numbered-requires : tie.Need-numbered-requires
 numbered-requires c κs =
@@ -66,11 +77,18 @@ same-length-3 c =
 
 returns-3 : tie.Need-returns-3
 returns-3 c =
-    λ x l h. left-is (ap (λ (n : ℕ). 111 ∷ decimal n) (c .before .before .before .before .before .before .wide .ensures) ∙ opens-operation (c .before .before .before .before .before .before .before .before .before .before .before .before .before .before .args .words .now) x l h _ _ (c .before .before .before .before .if3 .taken)) (c .before .before .numbered .ensures)
+    let at-numbered = c .before .before in
+    let at-if3 = at-numbered .before .before in
+    let at-wide = at-if3 .before .before in
+    λ x l h. left-is (ap (λ (n : ℕ). 111 ∷ decimal n) (at-wide .wide .ensures) ∙ opens-operation (at-wide .before .before .before .before .before .before .before .before .args .words .now) x l h _ _ (at-if3 .if3 .taken)) (at-numbered .numbered .ensures)
 
 datum-opening-requires : tie.Need-datum-opening-requires
 datum-opening-requires c κs =
-    (c .before .before .before .before .before .before .before .before .before .before .before .before .pre .0, (calledBy (c .before .before .before .before .before .before .before .before .before .before .before .before .args .direct) (c .before .before .before .before .before .before .before .before .before .before .before .before .args .called .now), c .before .before .before .before .before .before .before .before .before .before .before .before .pre .1), omega (arith, c .before .before .before .if2 .left, c .before .before .if3 .left), c .before .if4 .taken)
+    let at-if4 = c .before in
+    let at-if3 = at-if4 .before in
+    let at-if2 = at-if3 .before in
+    let at-args = at-if2 .before .before .before .before .before .before .before .before .before in
+    (at-args .pre .0, (calledBy (at-args .args .direct) (at-args .args .called .now), at-args .pre .1), omega (arith, at-if2 .if2 .left, at-if3 .if3 .left), at-if4 .if4 .taken)
 
 same-length-4 : tie.Need-same-length-4
 same-length-4 c =
@@ -82,11 +100,18 @@ returns-4 c =
 
 shared-slice-read-wide-2 : tie.Need-shared-slice-read-wide-2
 shared-slice-read-wide-2 c =
-    let o = c .before .before .before .before .before .before .before .before .before .before .before .before .before .pre .1 in omega (arith, three-words (c .before .before .before .before .before .before .before .before .before .before .before .before .before .args .words .now) (o .it) (o .left) (o .is) (c .before .if5 .taken))
+    let at-if5 = c .before in
+    let at-args = at-if5 .before .before .before .before .before .before .before .before .before .before .before .before in
+    let o = at-args .pre .1 in omega (arith, three-words (at-args .args .words .now) (o .it) (o .left) (o .is) (at-if5 .if5 .taken))
 
 lambda-opening-requires : tie.Need-lambda-opening-requires
 lambda-opening-requires c κs =
-    (c .before .before .before .before .before .before .before .before .before .before .before .before .before .before .before .pre .0, omega (arith, c .before .before .before .before .before .before .before .wide .ensures, c .before .wide2 .ensures, c .before .before .shared-slice-known6 .given 1, c .before .before .shared-slice-known6 .given 2), (let g = lambda-named _ (c .before .before .before .before .before .before .before .before .before .before .before .before .before .before .before .args .words .now) (c .before .before .before .before .before .before .before .before .before .before .before .before .before .before .before .pre .1) (c .before .before .before .if5 .taken) in record { many = omega (arith, g .many, c .before .before .before .before .before .before .before .wide .ensures, c .before .wide2 .ensures); slots = g .slots }), c .before .before .before .before .before .before .before .before .before .before .before .before .before .before .before .pre .2)
+    let at-wide2 = c .before in
+    let at-shared-slice-known6 = at-wide2 .before in
+    let at-if5 = at-shared-slice-known6 .before in
+    let at-wide = at-if5 .before .before .before .before in
+    let at-args = at-wide .before .before .before .before .before .before .before .before in
+    (at-args .pre .0, omega (arith, at-wide .wide .ensures, at-wide2 .wide2 .ensures, at-shared-slice-known6 .shared-slice-known6 .given 1, at-shared-slice-known6 .shared-slice-known6 .given 2), (let g = lambda-named _ (at-args .args .words .now) (at-args .pre .1) (at-if5 .if5 .taken) in record { many = omega (arith, g .many, at-wide .wide .ensures, at-wide2 .wide2 .ensures); slots = g .slots }), at-args .pre .2)
 
 same-length-5 : tie.Need-same-length-5
 same-length-5 c =
@@ -94,19 +119,29 @@ same-length-5 c =
 
 returns-5 : tie.Need-returns-5
 returns-5 c =
-    λ x l h. left-is (lambda-same _ _ _ _ _ (c .before .before .before .before .before .before .before .before .before .before .wide .ensures) (c .before .before .before .before .wide2 .ensures) ∙ opens-lambda (c .before .before .before .before .before .before .before .before .before .before .before .before .before .before .before .before .before .before .args .words .now) x l h _ _ (c .before .before .before .before .before .before .if5 .taken)) (c .before .before .lambda-opening .ensures)
+    let at-lambda-opening = c .before .before in
+    let at-wide2 = at-lambda-opening .before .before in
+    let at-if5 = at-wide2 .before .before in
+    let at-wide = at-if5 .before .before .before .before in
+    λ x l h. left-is (lambda-same _ _ _ _ _ (at-wide .wide .ensures) (at-wide2 .wide2 .ensures) ∙ opens-lambda (at-wide .before .before .before .before .before .before .before .before .args .words .now) x l h _ _ (at-if5 .if5 .taken)) (at-lambda-opening .lambda-opening .ensures)
 
 shared-slice-read-decimal : tie.Need-shared-slice-read-decimal
 shared-slice-read-decimal c =
-    let o = c .before .before .before .before .before .before .before .before .before .before .before .before .before .before .pre .1 in omega (arith, two-words (c .before .before .before .before .before .before .before .before .before .before .before .before .before .before .args .words .now) (o .it) (o .left) (o .is) (c .before .before .before .before .before .before .before .before .if1 .left))
+    let at-if1 = c .before .before .before .before .before .before .before .before in
+    let at-args = at-if1 .before .before .before .before .before .before in
+    let o = at-args .pre .1 in omega (arith, two-words (at-args .args .words .now) (o .it) (o .left) (o .is) (at-if1 .if1 .left))
 
 shared-slice-read-decimal-2 : tie.Need-shared-slice-read-decimal-2
 shared-slice-read-decimal-2 c =
-    let o = c .before .before .before .before .before .before .before .before .before .before .before .before .before .before .before .pre .1 in omega (arith, decimal-words (c .before .before .before .before .before .before .before .before .before .before .before .before .before .before .before .args .words .now) (o .it) (o .left) (o .is) (c .before .before .if6 .taken))
+    let at-if6 = c .before .before in
+    let at-args = at-if6 .before .before .before .before .before .before .before .before .before .before .before .before .before in
+    let o = at-args .pre .1 in omega (arith, decimal-words (at-args .args .words .now) (o .it) (o .left) (o .is) (at-if6 .if6 .taken))
 
 decimal-requires : tie.Need-decimal-requires
 decimal-requires c κs =
-    let o = c .before .before .before .before .before .before .before .before .before .before .before .before .before .before .before .before .pre .1 in let k = decimal-places (c .before .before .before .before .before .before .before .before .before .before .before .before .before .before .before .before .args .words .now) (o .it) (o .left) (o .is) (c .before .before .before .if6 .taken) in (c .before .before .before .before .before .before .before .before .before .before .before .before .before .before .before .before .pre .0, k .0, k .1)
+    let at-if6 = c .before .before .before in
+    let at-args = at-if6 .before .before .before .before .before .before .before .before .before .before .before .before .before in
+    let o = at-args .pre .1 in let k = decimal-places (at-args .args .words .now) (o .it) (o .left) (o .is) (at-if6 .if6 .taken) in (at-args .pre .0, k .0, k .1)
 
 same-length-6 : tie.Need-same-length-6
 same-length-6 c =
@@ -114,7 +149,9 @@ same-length-6 c =
 
 returns-6 : tie.Need-returns-6
 returns-6 c =
-    λ x l h. left-is (opens-decimal (c .before .before .before .before .before .before .before .before .before .before .before .before .before .before .before .before .before .before .before .args .words .now) x l h _ _ (c .before .before .before .before .before .before .if6 .taken)) (c .before .before .decimal .ensures)
+    let at-decimal = c .before .before in
+    let at-if6 = at-decimal .before .before .before .before in
+    λ x l h. left-is (opens-decimal (at-if6 .before .before .before .before .before .before .before .before .before .before .before .before .before .args .words .now) x l h _ _ (at-if6 .if6 .taken)) (at-decimal .decimal .ensures)
 
 byte-requires : tie.Need-byte-requires
 byte-requires c κs =
@@ -126,7 +163,13 @@ same-length-7 c =
 
 returns-7 : tie.Need-returns-7
 returns-7 c =
-    λ x l h. let o = c .before .before .before .before .before .before .before .before .before .before .before .before .before .before .before .before .before .pre .1 in let e : getD (c .before .before .before .before .before .before .before .before .before .before .before .before .before .before .before .before .before .args .words .now) 0 0 ≡ 8 = omega (arith, code-most (c .before .before .before .before .before .before .before .before .before .before .before .before .before .before .before .before .before .args .words .now) x l h, c .before .before .before .before .before .before .before .before .before .before .before .if1 .left, c .before .before .before .before .before .before .if4 .left, c .before .before .before .before .before .if5 .left, c .before .before .before .before .if6 .left) in left-is (opens-application (c .before .before .before .before .before .before .before .before .before .before .before .before .before .before .before .before .before .args .words .now) x l h _ _ e) (c .before .before .byte .ensures)
+    let at-byte = c .before .before in
+    let at-if6 = at-byte .before .before in
+    let at-if5 = at-if6 .before in
+    let at-if4 = at-if5 .before in
+    let at-if1 = at-if4 .before .before .before .before .before in
+    let at-args = at-if1 .before .before .before .before .before .before in
+    λ x l h. let o = at-args .pre .1 in let e : getD (at-args .args .words .now) 0 0 ≡ 8 = omega (arith, code-most (at-args .args .words .now) x l h, at-if1 .if1 .left, at-if4 .if4 .left, at-if5 .if5 .left, at-if6 .if6 .left) in left-is (opens-application (at-args .args .words .now) x l h _ _ e) (at-byte .byte .ensures)
 
 pub begin-spec : {M : Type 1} → statement M
 begin-spec =

@@ -26,7 +26,8 @@ shared-slice-read-code c =
 
 shared-slice-read-a : tie.Need-shared-slice-read-a
 shared-slice-read-a c =
-    let o = c .before .before .before .before .before .pre .1 .1 in omega (arith, two-words (c .before .before .before .before .before .args .words .now) (o .it) (o .left) (o .is) (λ e. omega (arith, c .before .before .before .before .before .pre .3)))
+    let at-args = c .before .before .before .before .before in
+    let o = at-args .pre .1 .1 in omega (arith, two-words (at-args .args .words .now) (o .it) (o .left) (o .is) (λ e. omega (arith, at-args .pre .3)))
 
 integer-requires : tie.Need-integer-requires
 integer-requires c κs =
@@ -38,7 +39,9 @@ same-length c =
 
 returns : tie.Need-returns
 returns c =
-    λ v x l h. left-is (opens-integer (c .before .before .before .before .before .before .before .before .before .before .args .words .now) x l h (said _ v) _ (c .before .before .before .before .if1 .taken)) (c .before .before .integer .ensures)
+    let at-integer = c .before .before in
+    let at-if1 = at-integer .before .before in
+    λ v x l h. left-is (opens-integer (at-if1 .before .before .before .before .before .before .args .words .now) x l h (said _ v) _ (at-if1 .if1 .taken)) (at-integer .integer .ensures)
 
 copy-requires : tie.Need-copy-requires
 copy-requires c κs =
@@ -50,7 +53,10 @@ same-length-2 c =
 
 returns-2 : tie.Need-returns-2
 returns-2 c =
-    λ v x l h. left-is (opens-false (c .before .before .before .before .before .before .before .before .before .before .before .before .before .args .words .now) x l h (said _ v) _ (c .before .before .before .before .before .before .if2 .taken) (c .before .before .before .before .before .if3 .taken)) (c .before .before .copy .ensures)
+    let at-copy = c .before .before in
+    let at-if3 = at-copy .before .before .before in
+    let at-if2 = at-if3 .before in
+    λ v x l h. left-is (opens-false (at-if2 .before .before .before .before .before .before .before .args .words .now) x l h (said _ v) _ (at-if2 .if2 .taken) (at-if3 .if3 .taken)) (at-copy .copy .ensures)
 
 copy-requires-2 : tie.Need-copy-requires-2
 copy-requires-2 c κs =
@@ -62,11 +68,17 @@ same-length-3 c =
 
 returns-3 : tie.Need-returns-3
 returns-3 c =
-    λ v x l h. left-is (opens-true (c .before .before .before .before .before .before .before .before .before .before .before .before .before .args .words .now) x l h (said _ v) _ (c .before .before .before .before .before .before .if2 .taken) (c .before .before .before .before .before .if3 .left)) (c .before .before .copy2 .ensures)
+    let at-copy2 = c .before .before in
+    let at-if3 = at-copy2 .before .before .before in
+    let at-if2 = at-if3 .before in
+    λ v x l h. left-is (opens-true (at-if2 .before .before .before .before .before .before .before .args .words .now) x l h (said _ v) _ (at-if2 .if2 .taken) (at-if3 .if3 .left)) (at-copy2 .copy2 .ensures)
 
 name-opening-requires : tie.Need-name-opening-requires
 name-opening-requires c κs =
-    (c .before .before .before .before .before .before .before .before .before .before .pre .0, ap (hasName (c .before .before .before .before .before .before .before .before .before .before .args .names .now)) (c .before .wide .ensures) ∙ name-spelled (said (c .before .before .before .before .before .before .before .before .before .before .args .names .now) (c .before .before .before .before .before .before .before .before .before .before .pre .1 .0)) (c .before .before .before .before .before .before .before .before .before .before .args .words .now) (c .before .before .before .before .before .before .before .before .before .before .pre .1 .1) (c .before .before .if4 .taken))
+    let at-wide = c .before in
+    let at-if4 = at-wide .before in
+    let at-args = at-if4 .before .before .before .before .before .before .before .before in
+    (at-args .pre .0, ap (hasName (at-args .args .names .now)) (at-wide .wide .ensures) ∙ name-spelled (said (at-args .args .names .now) (at-args .pre .1 .0)) (at-args .args .words .now) (at-args .pre .1 .1) (at-if4 .if4 .taken))
 
 same-length-4 : tie.Need-same-length-4
 same-length-4 c =
@@ -74,7 +86,11 @@ same-length-4 c =
 
 returns-4 : tie.Need-returns-4
 returns-4 c =
-    λ v x l h. left-is (ap (λ (n : ℕ). opening (said (c .before .before .before .before .before .before .before .before .before .before .before .before .before .args .names .now) v) (c .before .before .before .before .before .before .before .before .before .before .before .before .before .args .inner) (nameN n)) (c .before .before .before .before .wide .ensures) ∙ opens-name (c .before .before .before .before .before .before .before .before .before .before .before .before .before .args .words .now) x l h (said _ v) _ (c .before .before .before .before .before .if4 .taken)) (c .before .before .name-opening .ensures v)
+    let at-name-opening = c .before .before in
+    let at-wide = at-name-opening .before .before in
+    let at-if4 = at-wide .before in
+    let args′ = at-if4 .before .before .before .before .before .before .before .before .args in
+    λ v x l h. left-is (ap (λ (n : ℕ). opening (said (args′ .names .now) v) (args′ .inner) (nameN n)) (at-wide .wide .ensures) ∙ opens-name (args′ .words .now) x l h (said _ v) _ (at-if4 .if4 .taken)) (at-name-opening .name-opening .ensures v)
 
 byte-requires : tie.Need-byte-requires
 byte-requires c κs =
@@ -86,7 +102,13 @@ same-length-5 c =
 
 returns-5 : tie.Need-returns-5
 returns-5 c =
-    λ v x l h. let e : getD (c .before .before .before .before .before .before .before .before .before .before .before .before .before .args .words .now) 0 0 ≡ 5 = omega (arith, c .before .before .before .before .before .before .before .before .before .before .before .before .before .pre .2, c .before .before .before .before .before .before .before .before .before .before .before .before .before .pre .3, c .before .before .before .before .before .before .before .if1 .left, c .before .before .before .before .before .before .if2 .left, c .before .before .before .before .before .if4 .left) in left-is (opens-inner (c .before .before .before .before .before .before .before .before .before .before .before .before .before .args .words .now) x l h (said _ v) _ e (c .before .before .before .before .if5 .taken)) (c .before .before .byte .ensures)
+    let at-byte = c .before .before in
+    let at-if5 = at-byte .before .before in
+    let at-if4 = at-if5 .before in
+    let at-if2 = at-if4 .before in
+    let at-if1 = at-if2 .before in
+    let at-args = at-if1 .before .before .before .before .before .before in
+    λ v x l h. let e : getD (at-args .args .words .now) 0 0 ≡ 5 = omega (arith, at-args .pre .2, at-args .pre .3, at-if1 .if1 .left, at-if2 .if2 .left, at-if4 .if4 .left) in left-is (opens-inner (at-args .args .words .now) x l h (said _ v) _ e (at-if5 .if5 .taken)) (at-byte .byte .ensures)
 
 copy-requires-3 : tie.Need-copy-requires-3
 copy-requires-3 c κs =
@@ -98,7 +120,13 @@ same-length-6 c =
 
 returns-6 : tie.Need-returns-6
 returns-6 c =
-    λ v x l h. let e : getD (c .before .before .before .before .before .before .before .before .before .before .before .before .before .before .args .words .now) 0 0 ≡ 5 = omega (arith, c .before .before .before .before .before .before .before .before .before .before .before .before .before .before .pre .2, c .before .before .before .before .before .before .before .before .before .before .before .before .before .before .pre .3, c .before .before .before .before .before .before .before .before .if1 .left, c .before .before .before .before .before .before .before .if2 .left, c .before .before .before .before .before .before .if4 .left) in left-is (opens-quoted (c .before .before .before .before .before .before .before .before .before .before .before .before .before .before .args .words .now) x l h (said _ v) _ e (c .before .before .before .before .before .if5 .left)) (c .before .before .copy3 .ensures)
+    let at-copy3 = c .before .before in
+    let at-if5 = at-copy3 .before .before .before in
+    let at-if4 = at-if5 .before in
+    let at-if2 = at-if4 .before in
+    let at-if1 = at-if2 .before in
+    let at-args = at-if1 .before .before .before .before .before .before in
+    λ v x l h. let e : getD (at-args .args .words .now) 0 0 ≡ 5 = omega (arith, at-args .pre .2, at-args .pre .3, at-if1 .if1 .left, at-if2 .if2 .left, at-if4 .if4 .left) in left-is (opens-quoted (at-args .args .words .now) x l h (said _ v) _ e (at-if5 .if5 .left)) (at-copy3 .copy3 .ensures)
 
 pub datum-opening-spec : {M : Type 1} → statement M
 datum-opening-spec =

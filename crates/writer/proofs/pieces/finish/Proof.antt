@@ -13,11 +13,13 @@ use Rattle.writer.specs.OpenedLaws.{closes-leaf, closes-decimal, closes-
 
 returns : tie.Need-returns
 returns c =
-    λ x l h. left-is (closes-leaf (c .before .before .before .before .args .words .now) x l h _ (c .if1 .taken)) (place-holds (Left _ _ _ _ _) (omega arith) (left-none (c .before .before .before .before .args .ink) _ (c .before .before .before .before .args .out .now) (c .before .before .before .before .pre .0)))
+    let at-args = c .before .before .before .before in
+    λ x l h. left-is (closes-leaf (at-args .args .words .now) x l h _ (c .if1 .taken)) (place-holds (Left _ _ _ _ _) (omega arith) (left-none (at-args .args .ink) _ (at-args .args .out .now) (at-args .pre .0)))
 
 returns-2 : tie.Need-returns-2
 returns-2 c =
-    λ x l h. left-is (closes-decimal (c .before .before .before .before .before .args .words .now) x l h _ (c .if2 .taken)) (place-holds (Left _ _ _ _ _) (omega arith) (left-none (c .before .before .before .before .before .args .ink) _ (c .before .before .before .before .before .args .out .now) (c .before .before .before .before .before .pre .0)))
+    let at-args = c .before .before .before .before .before in
+    λ x l h. left-is (closes-decimal (at-args .args .words .now) x l h _ (c .if2 .taken)) (place-holds (Left _ _ _ _ _) (omega arith) (left-none (at-args .args .ink) _ (at-args .args .out .now) (at-args .pre .0)))
 
 byte-requires : tie.Need-byte-requires
 byte-requires c κs =
@@ -29,7 +31,10 @@ same-length c =
 
 returns-3 : tie.Need-returns-3
 returns-3 c =
-    λ x l h. left-is (closes-one (c .before .before .before .before .before .before .before .before .before .before .args .words .now) x l h (c .before .before .before .before .before .before .before .before .before .before .args .inner) (omega arith) (c .before .before .before .before .before .if2 .left) (λ e. absurd (omega arith))) (c .before .before .byte .ensures)
+    let at-byte = c .before .before in
+    let at-if2 = at-byte .before .before .before in
+    let args′ = at-if2 .before .before .before .before .before .args in
+    λ x l h. left-is (closes-one (args′ .words .now) x l h (args′ .inner) (omega arith) (at-if2 .if2 .left) (λ e. absurd (omega arith))) (at-byte .byte .ensures)
 
 byte-requires-2 : tie.Need-byte-requires-2
 byte-requires-2 c κs =
@@ -41,7 +46,11 @@ same-length-2 c =
 
 returns-4 : tie.Need-returns-4
 returns-4 c =
-    λ x l h. left-is (closes-one (c .before .before .before .before .before .before .before .before .before .before .before .args .words .now) x l h (c .before .before .before .before .before .before .before .before .before .before .before .args .inner) (omega arith) (c .before .before .before .before .before .before .if2 .left) (λ e. c .before .before .before .before .if4 .taken)) (c .before .before .byte2 .ensures)
+    let at-byte2 = c .before .before in
+    let at-if4 = at-byte2 .before .before in
+    let at-if2 = at-if4 .before .before in
+    let args′ = at-if2 .before .before .before .before .before .args in
+    λ x l h. left-is (closes-one (args′ .words .now) x l h (args′ .inner) (omega arith) (at-if2 .if2 .left) (λ e. at-if4 .if4 .taken)) (at-byte2 .byte2 .ensures)
 
 copy-requires : tie.Need-copy-requires
 copy-requires c κs =
@@ -53,7 +62,10 @@ same-length-3 c =
 
 returns-5 : tie.Need-returns-5
 returns-5 c =
-    λ x l h. let e : getD (c .before .before .before .before .before .before .before .before .before .before .before .before .args .words .now) 0 0 ≡ 5 = omega arith in left-is (closes-list (c .before .before .before .before .before .before .before .before .before .before .before .before .args .words .now) x l h (c .before .before .before .before .before .before .before .before .before .before .before .before .args .inner) e (c .before .before .before .before .before .if4 .left)) (c .before .before .copy .ensures)
+    let at-copy = c .before .before in
+    let at-if4 = at-copy .before .before .before in
+    let args′ = at-if4 .before .before .before .before .before .before .before .args in
+    λ x l h. let e : getD (args′ .words .now) 0 0 ≡ 5 = omega arith in left-is (closes-list (args′ .words .now) x l h (args′ .inner) e (at-if4 .if4 .left)) (at-copy .copy .ensures)
 
 pub finish-spec : {M : Type 1} → statement M
 finish-spec =

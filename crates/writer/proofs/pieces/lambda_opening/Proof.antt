@@ -28,7 +28,10 @@ returns c =
 
 formals-requires : tie.Need-formals-requires
 formals-requires c κs =
-    (place-room (c .before .before .before .before .copy .ensures) (c .before .if1 .left), c .before .before .before .before .before .before .before .before .before .before .pre .1, c .before .before .before .before .before .before .before .before .before .before .pre .2, c .before .before .before .before .before .before .before .before .before .before .pre .3)
+    let at-if1 = c .before in
+    let at-copy = at-if1 .before .before .before in
+    let pre′ = at-copy .before .before .before .before .before .before .pre in
+    (place-room (at-copy .copy .ensures) (at-if1 .if1 .left), pre′ .1, pre′ .2, pre′ .3)
 
 same-length-2 : tie.Need-same-length-2
 same-length-2 c =
@@ -36,7 +39,9 @@ same-length-2 c =
 
 returns-2 : tie.Need-returns-2
 returns-2 c =
-    left-is (sym (lambda-bytes _ _ _)) (place-then (c .before .before .before .before .before .before .before .before .copy .ensures) (c .before .before .before .before .before .if1 .left) (place-full (c .before .before .before .formals .ensures) _ (c .if2 .taken)))
+    let at-formals = c .before .before .before in
+    let at-if1 = at-formals .before .before in
+    left-is (sym (lambda-bytes _ _ _)) (place-then (at-if1 .before .before .before .copy .ensures) (at-if1 .if1 .left) (place-full (at-formals .formals .ensures) _ (c .if2 .taken)))
 
 copy-requires-2 : tie.Need-copy-requires-2
 copy-requires-2 c κs =
@@ -44,11 +49,17 @@ copy-requires-2 c κs =
 
 same-length-3 : tie.Need-same-length-3
 same-length-3 c =
-    c .before .before .copy2 .kept .1 .0 ∙ c .before .before .before .before .before .before .before .before .formals .kept .1 .1 .1 .1 .0 ∙ c .before .before .before .before .before .before .before .before .before .before .before .before .before .copy .kept .1 .0
+    let at-copy2 = c .before .before in
+    let at-formals = at-copy2 .before .before .before .before .before .before in
+    at-copy2 .copy2 .kept .1 .0 ∙ at-formals .formals .kept .1 .1 .1 .1 .0 ∙ at-formals .before .before .before .before .before .copy .kept .1 .0
 
 returns-3 : tie.Need-returns-3
 returns-3 c =
-    left-is (sym (lambda-bytes _ _ _)) (place-then (c .before .before .before .before .before .before .before .before .before .before .before .before .before .copy .ensures) (c .before .before .before .before .before .before .before .before .before .before .if1 .left) (place-then (c .before .before .before .before .before .before .before .before .formals .ensures) (c .before .before .before .before .before .if2 .left) (c .before .before .copy2 .ensures)))
+    let at-copy2 = c .before .before in
+    let at-if2 = at-copy2 .before .before .before in
+    let at-formals = at-if2 .before .before .before in
+    let at-if1 = at-formals .before .before in
+    left-is (sym (lambda-bytes _ _ _)) (place-then (at-if1 .before .before .before .copy .ensures) (at-if1 .if1 .left) (place-then (at-formals .formals .ensures) (at-if2 .if2 .left) (at-copy2 .copy2 .ensures)))
 
 pub lambda-opening-spec : {M : Type 1} → statement M
 lambda-opening-spec =

@@ -29,7 +29,10 @@ shared-slice-read-wide c =
 
 variable-requires : tie.Need-variable-requires
 variable-requires c κs =
-    (c .before .before .before .before .before .before .before .before .before .pre .0, subst (λ (n : ℕ). Naming (saidBy (c .before .before .before .before .before .before .before .before .before .args .names .now) (c .before .before .before .before .before .before .before .before .before .args .direct) (c .before .before .before .before .before .before .before .before .before .args .called .now)) (suc n)) (sym (c .before .before .wide .ensures)) (variable-named _ (c .before .before .before .before .before .before .before .before .before .args .words .now) (c .before .before .before .before .before .before .before .before .before .pre .1) (c .before .if1 .taken)), c .before .before .before .before .before .before .before .before .before .pre .3)
+    let at-if1 = c .before in
+    let at-wide = at-if1 .before in
+    let at-args = at-wide .before .before .before .before .before .before .before in
+    (at-args .pre .0, subst (λ (n : ℕ). Naming (saidBy (at-args .args .names .now) (at-args .args .direct) (at-args .args .called .now)) (suc n)) (sym (at-wide .wide .ensures)) (variable-named _ (at-args .args .words .now) (at-args .pre .1) (at-if1 .if1 .taken)), at-args .pre .3)
 
 same-length : tie.Need-same-length
 same-length c =
@@ -37,7 +40,11 @@ same-length c =
 
 returns : tie.Need-returns
 returns c =
-    λ x l h. left-is (ap (variableText (nameAt (c .before .before .before .before .before .before .before .before .before .before .before .before .args .names .now)) (calledBy (c .before .before .before .before .before .before .before .before .before .before .before .before .args .direct) (c .before .before .before .before .before .before .before .before .before .before .before .before .args .called .now))) (c .before .before .before .before .before .wide .ensures) ∙ opens-variable (c .before .before .before .before .before .before .before .before .before .before .before .before .args .words .now) x l h (saidBy (c .before .before .before .before .before .before .before .before .before .before .before .before .args .names .now) (c .before .before .before .before .before .before .before .before .before .before .before .before .args .direct) (c .before .before .before .before .before .before .before .before .before .before .before .before .args .called .now)) _ (c .before .before .before .before .if1 .taken)) (c .before .before .variable .ensures)
+    let at-variable = c .before .before in
+    let at-if1 = at-variable .before .before in
+    let at-wide = at-if1 .before in
+    let args′ = at-wide .before .before .before .before .before .before .before .args in
+    λ x l h. left-is (ap (variableText (nameAt (args′ .names .now)) (calledBy (args′ .direct) (args′ .called .now))) (at-wide .wide .ensures) ∙ opens-variable (args′ .words .now) x l h (saidBy (args′ .names .now) (args′ .direct) (args′ .called .now)) _ (at-if1 .if1 .taken)) (at-variable .variable .ensures)
 
 numbered-requires : tie.Need-numbered-requires
 numbered-requires c κs =
@@ -49,11 +56,16 @@ same-length-2 c =
 
 returns-2 : tie.Need-returns-2
 returns-2 c =
-    λ x l h. left-is (ap (λ (n : ℕ). 111 ∷ decimal n) (c .before .before .before .before .before .before .wide .ensures) ∙ opens-operation (c .before .before .before .before .before .before .before .before .before .before .before .before .before .args .words .now) x l h _ _ (c .before .before .before .before .if2 .taken)) (c .before .before .numbered .ensures)
+    let at-numbered = c .before .before in
+    let at-if2 = at-numbered .before .before in
+    let at-wide = at-if2 .before .before in
+    λ x l h. left-is (ap (λ (n : ℕ). 111 ∷ decimal n) (at-wide .wide .ensures) ∙ opens-operation (at-wide .before .before .before .before .before .before .before .args .words .now) x l h _ _ (at-if2 .if2 .taken)) (at-numbered .numbered .ensures)
 
 datum-opening-requires : tie.Need-datum-opening-requires
 datum-opening-requires c κs =
-    let s = (c .before .before .before .before .before .before .before .before .before .before) in (s .pre .0, (calledBy (s .args .direct) (s .args .called .now), s .pre .1), omega (arith, c .before .before .if1 .left, c .before .if2 .left), omega (arith, s .pre .2))
+    let at-if2 = c .before in
+    let at-if1 = at-if2 .before in
+    let s = (at-if1 .before .before .before .before .before .before .before .before) in (s .pre .0, (calledBy (s .args .direct) (s .args .called .now), s .pre .1), omega (arith, at-if1 .if1 .left, at-if2 .if2 .left), omega (arith, s .pre .2))
 
 same-length-3 : tie.Need-same-length-3
 same-length-3 c =

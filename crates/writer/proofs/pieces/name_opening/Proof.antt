@@ -38,7 +38,9 @@ returns-2 c =
 
 name-requires-2 : tie.Need-name-requires-2
 name-requires-2 c κs =
-    (place-room (c .before .before .before .before .copy .ensures) (c .before .if2 .left), c .before .before .before .before .before .before .before .before .before .before .pre .1)
+    let at-if2 = c .before in
+    let at-copy = at-if2 .before .before .before in
+    (place-room (at-copy .copy .ensures) (at-if2 .if2 .left), at-copy .before .before .before .before .before .before .pre .1)
 
 same-length-3 : tie.Need-same-length-3
 same-length-3 c =
@@ -46,7 +48,10 @@ same-length-3 c =
 
 returns-3 : tie.Need-returns-3
 returns-3 c =
-    λ v. left-is (sym (name-quoted (said _ v) _ _ (c .before .before .before .before .before .before .before .before .before .before .before .if1 .left))) (place-then (c .before .before .before .before .before .before .before .before .copy .ensures) (c .before .before .before .before .before .if2 .left) (place-full (c .before .before .before .name2 .ensures) _ (c .if3 .taken)))
+    let at-name2 = c .before .before .before in
+    let at-if2 = at-name2 .before .before in
+    let at-copy = at-if2 .before .before .before in
+    λ v. left-is (sym (name-quoted (said _ v) _ _ (at-copy .before .before .before .if1 .left))) (place-then (at-copy .copy .ensures) (at-if2 .if2 .left) (place-full (at-name2 .name2 .ensures) _ (c .if3 .taken)))
 
 byte-requires : tie.Need-byte-requires
 byte-requires c κs =
@@ -54,11 +59,18 @@ byte-requires c κs =
 
 same-length-4 : tie.Need-same-length-4
 same-length-4 c =
-    c .before .before .byte .kept .1 .0 ∙ c .before .before .before .before .before .before .before .name2 .kept .1 .1 .0 ∙ c .before .before .before .before .before .before .before .before .before .before .before .before .copy .kept .1 .0
+    let at-byte = c .before .before in
+    let at-name2 = at-byte .before .before .before .before .before in
+    at-byte .byte .kept .1 .0 ∙ at-name2 .name2 .kept .1 .1 .0 ∙ at-name2 .before .before .before .before .before .copy .kept .1 .0
 
 returns-4 : tie.Need-returns-4
 returns-4 c =
-    λ v. left-is (sym (name-quoted (said _ v) _ _ (c .before .before .before .before .before .before .before .before .before .before .before .before .before .before .before .if1 .left))) (place-then (c .before .before .before .before .before .before .before .before .before .before .before .before .copy .ensures) (c .before .before .before .before .before .before .before .before .before .if2 .left) (place-then (c .before .before .before .before .before .before .before .name2 .ensures) (c .before .before .before .before .if3 .left) (c .before .before .byte .ensures)))
+    let at-byte = c .before .before in
+    let at-if3 = at-byte .before .before in
+    let at-name2 = at-if3 .before .before .before in
+    let at-if2 = at-name2 .before .before in
+    let at-copy = at-if2 .before .before .before in
+    λ v. left-is (sym (name-quoted (said _ v) _ _ (at-copy .before .before .before .if1 .left))) (place-then (at-copy .copy .ensures) (at-if2 .if2 .left) (place-then (at-name2 .name2 .ensures) (at-if3 .if3 .left) (at-byte .byte .ensures)))
 
 pub name-opening-spec : {M : Type 1} → statement M
 name-opening-spec =

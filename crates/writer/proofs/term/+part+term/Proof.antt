@@ -66,8 +66,9 @@ part-same-length t c =
 
 part-returns : (t : ℕ) → part-lts.Need-returns (P t) (part-at t) part.Post
 part-returns t c =
-    let s = (c .before .before .before .before .before .before .before .before .before .before .before) in let w = s .args .words .now in
-    for-any _ _ _ w (s .pre .1 .1) _ _ _ _ (open-stops _ _ _ w (s .pre .1 .1) _ _ _ _ (c .before .before .before .leaf .ensures) (put-full _ (c .if2 .taken)))
+    let at-leaf = c .before .before .before in
+    let s = (at-leaf .before .before .before .before .before .before .before .before) in let w = s .args .words .now in
+    for-any _ _ _ w (s .pre .1 .1) _ _ _ _ (open-stops _ _ _ w (s .pre .1 .1) _ _ _ _ (at-leaf .leaf .ensures) (put-full _ (c .if2 .taken)))
 
 part-same-length-2 : (t : ℕ) → part-lts.Need-same-length-2 (P t) (part-at t) part.Post
 part-same-length-2 t c =
@@ -75,8 +76,10 @@ part-same-length-2 t c =
 
 part-returns-2 : (t : ℕ) → part-lts.Need-returns-2 (P t) (part-at t) part.Post
 part-returns-2 t c =
-    let s = (c .before .before .before .before .before .before .before .before .before .before .before) in let w = s .args .words .now in
-    for-any _ _ _ w (s .pre .1 .1) _ _ _ _ (leaf-walked _ _ _ w (s .pre .1 .1) _ _ _ _ (c .before .before .before .leaf .ensures) (c .before .before .before .before .before .if1 .taken) _ (put-done _ (c .if2 .left)))
+    let at-leaf = c .before .before .before in
+    let at-if1 = at-leaf .before .before in
+    let s = (at-if1 .before .before .before .before .before .before) in let w = s .args .words .now in
+    for-any _ _ _ w (s .pre .1 .1) _ _ _ _ (leaf-walked _ _ _ w (s .pre .1 .1) _ _ _ _ (at-leaf .leaf .ensures) (at-if1 .if1 .taken) _ (put-done _ (c .if2 .left)))
 
 part-same-length-3 : (t : ℕ) → part-lts.Need-same-length-3 (P t) (part-at t) part.Post
 part-same-length-3 t c =
@@ -96,7 +99,8 @@ term-μ-loop words names out₀ at inner ink called direct opened quoted from₀
 
 term-begin-requires : (t : ℕ) → term-lts.Need-begin-requires (E t) (term-at t) term.Post term-Inv-loop term-μ-loop
 term-begin-requires t c κs =
-    (c .before .before .before .before .before .pre .1 .0, begins-opened _ _ _ (c .before .before .before .before .before .pre .1 .1), c .before .before .before .before .before .pre .1 .2)
+    let pre′ = c .before .before .before .before .before .pre in
+    (pre′ .1 .0, begins-opened _ _ _ (pre′ .1 .1), pre′ .1 .2)
 
 term-same-length : (t : ℕ) → term-lts.Need-same-length (E t) (term-at t) term.Post term-Inv-loop term-μ-loop
 term-same-length t c =
@@ -104,11 +108,16 @@ term-same-length t c =
 
 term-returns : (t : ℕ) → term-lts.Need-returns (E t) (term-at t) term.Post term-Inv-loop term-μ-loop
 term-returns t c =
-    for-any _ _ _ (c .before .before .before .before .before .before .before .before .before .args .words .now) (c .before .before .before .before .before .before .before .before .before .pre .1 .1) _ _ _ _ (open-stops _ _ _ (c .before .before .before .before .before .before .before .before .before .args .words .now) (c .before .before .before .before .before .before .before .before .before .pre .1 .1) _ _ _ _ (c .before .before .before .begin .ensures) (put-full _ (c .if1 .taken)))
+    let at-begin = c .before .before .before in
+    let at-args = at-begin .before .before .before .before .before .before in
+    for-any _ _ _ (at-args .args .words .now) (at-args .pre .1 .1) _ _ _ _ (open-stops _ _ _ (at-args .args .words .now) (at-args .pre .1 .1) _ _ _ _ (at-begin .begin .ensures) (put-full _ (c .if1 .taken)))
 
 term-loop-holds : (t : ℕ) → term-lts.Need-loop-holds (E t) (term-at t) term.Post term-Inv-loop term-μ-loop
 term-loop-holds t c =
-    going-start _ _ _ _ (c .before .before .before .before .before .before .before .before .before .before .args .words .now) _ _ (c .before .before .before .before .before .before .before .before .before .before .pre .1 .1) (c .shape-at .result) refl (c .shape-at .ensures _ _ (begins-node _ _ (c .before .before .before .before .before .before .before .before .before .before .args .words .now) (c .before .before .before .before .before .before .before .before .before .before .pre .1 .1))) (place-room (c .before .before .before .before .begin .ensures _ _ (begins-node _ _ (c .before .before .before .before .before .before .before .before .before .before .args .words .now) (c .before .before .before .before .before .before .before .before .before .before .pre .1 .1))) (c .before .if1 .left))
+    let at-if1 = c .before in
+    let at-begin = at-if1 .before .before .before in
+    let at-args = at-begin .before .before .before .before .before .before in
+    going-start _ _ _ _ (at-args .args .words .now) _ _ (at-args .pre .1 .1) (c .shape-at .result) refl (c .shape-at .ensures _ _ (begins-node _ _ (at-args .args .words .now) (at-args .pre .1 .1))) (place-room (at-begin .begin .ensures _ _ (begins-node _ _ (at-args .args .words .now) (at-args .pre .1 .1))) (at-if1 .if1 .left))
 
 term-gap-requires : (t : ℕ) → term-lts.Need-gap-requires (E t) (term-at t) term.Post term-Inv-loop term-μ-loop
 term-gap-requires t c κs =
@@ -116,63 +125,115 @@ term-gap-requires t c κs =
 
 term-same-length-2 : (t : ℕ) → term-lts.Need-same-length-2 (E t) (term-at t) term.Post term-Inv-loop term-μ-loop
 term-same-length-2 t c =
-    c .before .before .before .gap .kept .1 .0 ∙ left-length (c .before .before .before .before .before .before .loop .inv .laid) _ refl ∙ c .before .before .before .before .before .before .before .before .before .before .before .begin .kept .1 .1 .0
+    let at-gap = c .before .before .before in
+    let at-loop = at-gap .before .before .before in
+    at-gap .gap .kept .1 .0 ∙ left-length (at-loop .loop .inv .laid) _ refl ∙ at-loop .before .before .before .before .before .begin .kept .1 .1 .0
 
 term-returns-2 : (t : ℕ) → term-lts.Need-returns-2 (E t) (term-at t) term.Post term-Inv-loop term-μ-loop
 term-returns-2 t c =
-    let g = c .before .before .before .before .before .before .loop .inv in for-any _ _ _ (c .before .before .before .before .before .before .before .before .before .before .before .before .before .before .before .before .before .args .words .now) (g .whole) _ _ _ _ (parts-stop _ _ _ (c .before .before .before .before .before .before .before .before .before .before .before .before .before .before .before .before .before .args .words .now) (g .whole) _ _ _ _ (c .before .before .before .before .before .before .before .before .before .before .before .begin .ensures) _ (put-done _ (c .before .before .before .before .before .before .before .before .if1 .left)) _ (g .inner′) _ (gap-full _ _ _ _ (c .before .before .before .before .before .before .before .before .before .before .before .before .before .before .before .before .before .args .words .now) _ _ _ _ _ _ _ g (omega arith) _ _ (c .before .before .before .gap .ensures) (put-full _ (c .if2 .taken))))
+    let at-gap = c .before .before .before in
+    let at-loop = at-gap .before .before .before in
+    let at-if1 = at-loop .before .before in
+    let at-begin = at-if1 .before .before .before in
+    let args′ = at-begin .before .before .before .before .before .before .args in
+    let g = at-loop .loop .inv in for-any _ _ _ (args′ .words .now) (g .whole) _ _ _ _ (parts-stop _ _ _ (args′ .words .now) (g .whole) _ _ _ _ (at-begin .begin .ensures) _ (put-done _ (at-if1 .if1 .left)) _ (g .inner′) _ (gap-full _ _ _ _ (args′ .words .now) _ _ _ _ _ _ _ g (omega arith) _ _ (at-gap .gap .ensures) (put-full _ (c .if2 .taken))))
 
 term-mul-part : (t : ℕ) → term-lts.Need-mul-part (E t) (term-at t) term.Post term-Inv-loop term-μ-loop
 term-mul-part t c =
-    let l = going-inside _ _ _ _ (c .before .before .before .before .before .before .before .before .before .before .before .before .before .before .before .before .before .args .words .now) _ _ _ _ _ _ _ (c .before .before .before .before .before .before .loop .inv) in omega (arith, c .before .before .before .before .before .before .before .before .before .before .before .before .before .before .before .before .before .good .0 .1)
+    let at-loop = c .before .before .before .before .before .before in
+    let at-args = at-loop .before .before .before .before .before .before .before .before .before .before .before in
+    let l = going-inside _ _ _ _ (at-args .args .words .now) _ _ _ _ _ _ _ (at-loop .loop .inv) in omega (arith, at-args .good .0 .1)
 
 term-sub-part : (t : ℕ) → term-lts.Need-sub-part (E t) (term-at t) term.Post term-Inv-loop term-μ-loop
 term-sub-part t c =
-    let l = going-inside _ _ _ _ (c .before .before .before .before .before .before .before .before .before .before .before .before .before .before .before .before .before .args .words .now) _ _ _ _ _ _ _ (c .before .before .before .before .before .before .loop .inv) in omega arith
+    let at-loop = c .before .before .before .before .before .before in
+    let l = going-inside _ _ _ _ (at-loop .before .before .before .before .before .before .before .before .before .before .before .args .words .now) _ _ _ _ _ _ _ (at-loop .loop .inv) in omega arith
 
 term-part-part-start : (t : ℕ) → term-lts.Need-part-part-start (E t) (term-at t) term.Post term-Inv-loop term-μ-loop
 term-part-part-start t c =
-    let l = going-inside _ _ _ _ (c .before .before .before .before .before .before .before .before .before .before .before .before .before .before .before .before .before .args .words .now) _ _ _ _ _ _ _ (c .before .before .before .before .before .before .loop .inv) in omega arith
+    let at-loop = c .before .before .before .before .before .before in
+    let l = going-inside _ _ _ _ (at-loop .before .before .before .before .before .before .before .before .before .before .before .args .words .now) _ _ _ _ _ _ _ (at-loop .loop .inv) in omega arith
 
 term-part-requires : (t : ℕ) → term-lts.Need-part-requires (E t) (term-at t) term.Post term-Inv-loop term-μ-loop
 term-part-requires t c κs =
-    let g = c .before .before .before .before .before .before .before .before .loop .inv in (omega (arith, going-shorter _ _ _ _ (c .before .before .before .before .before .before .before .before .before .before .before .before .before .before .before .before .before .before .before .args .words .now) _ _ _ _ _ _ _ g, c .before .before .before .before .before .before .before .before .before .before .before .before .before .before .before .before .before .before .before .pre .0), (place-room (c .before .before .before .before .before .gap .ensures) (c .before .before .if2 .left), going-next _ _ _ _ (c .before .before .before .before .before .before .before .before .before .before .before .before .before .before .before .before .before .before .before .args .words .now) _ _ _ _ _ _ _ g (omega arith), c .before .before .before .before .before .before .before .before .before .before .before .before .before .before .before .before .before .before .before .pre .1 .2))
+    let at-if2 = c .before .before in
+    let at-gap = at-if2 .before .before .before in
+    let at-loop = at-gap .before .before .before in
+    let at-args = at-loop .before .before .before .before .before .before .before .before .before .before .before in
+    let g = at-loop .loop .inv in (omega (arith, going-shorter _ _ _ _ (at-args .args .words .now) _ _ _ _ _ _ _ g, at-args .pre .0), (place-room (at-gap .gap .ensures) (at-if2 .if2 .left), going-next _ _ _ _ (at-args .args .words .now) _ _ _ _ _ _ _ g (omega arith), at-args .pre .1 .2))
 
 term-same-length-3 : (t : ℕ) → term-lts.Need-same-length-3 (E t) (term-at t) term.Post term-Inv-loop term-μ-loop
 term-same-length-3 t c =
-    c .before .before .before .before .part .kept .1 .1 .0 ∙ c .before .before .before .before .before .before .before .before .before .before .gap .kept .1 .0 ∙ left-length (c .before .before .before .before .before .before .before .before .before .before .before .before .before .loop .inv .laid) _ refl ∙ c .before .before .before .before .before .before .before .before .before .before .before .before .before .before .before .before .before .before .begin .kept .1 .1 .0
+    let at-part = c .before .before .before .before in
+    let at-gap = at-part .before .before .before .before .before .before in
+    let at-loop = at-gap .before .before .before in
+    at-part .part .kept .1 .1 .0 ∙ at-gap .gap .kept .1 .0 ∙ left-length (at-loop .loop .inv .laid) _ refl ∙ at-loop .before .before .before .before .before .begin .kept .1 .1 .0
 
 term-returns-3 : (t : ℕ) → term-lts.Need-returns-3 (E t) (term-at t) term.Post term-Inv-loop term-μ-loop
 term-returns-3 t c =
-    let g = c .before .before .before .before .before .before .before .before .before .before .before .before .before .loop .inv in for-any _ _ _ (c .before .before .before .before .before .before .before .before .before .before .before .before .before .before .before .before .before .before .before .before .before .before .before .before .args .words .now) (g .whole) _ _ _ _ (parts-stop _ _ _ (c .before .before .before .before .before .before .before .before .before .before .before .before .before .before .before .before .before .before .before .before .before .before .before .before .args .words .now) (g .whole) _ _ _ _ (c .before .before .before .before .before .before .before .before .before .before .before .before .before .before .before .before .before .before .begin .ensures) _ (put-done _ (c .before .before .before .before .before .before .before .before .before .before .before .before .before .before .before .if1 .left)) _ (g .inner′) _ (part-full _ _ _ _ (c .before .before .before .before .before .before .before .before .before .before .before .before .before .before .before .before .before .before .before .before .before .before .before .before .args .words .now) _ _ _ _ _ _ _ g (omega arith) _ _ (c .before .before .before .before .before .before .before .before .before .before .gap .ensures) _ (put-done _ (c .before .before .before .before .before .before .before .if2 .left)) _ _ (c .before .before .before .before .part .ensures) (c .enum-told .given .1)))
+    let at-part = c .before .before .before .before in
+    let at-if2 = at-part .before .before .before in
+    let at-gap = at-if2 .before .before .before in
+    let at-loop = at-gap .before .before .before in
+    let at-if1 = at-loop .before .before in
+    let at-begin = at-if1 .before .before .before in
+    let args′ = at-begin .before .before .before .before .before .before .args in
+    let g = at-loop .loop .inv in for-any _ _ _ (args′ .words .now) (g .whole) _ _ _ _ (parts-stop _ _ _ (args′ .words .now) (g .whole) _ _ _ _ (at-begin .begin .ensures) _ (put-done _ (at-if1 .if1 .left)) _ (g .inner′) _ (part-full _ _ _ _ (args′ .words .now) _ _ _ _ _ _ _ g (omega arith) _ _ (at-gap .gap .ensures) _ (put-done _ (at-if2 .if2 .left)) _ _ (at-part .part .ensures) (c .enum-told .given .1)))
 
 term-add-from : (t : ℕ) → term-lts.Need-add-from (E t) (term-at t) term.Post term-Inv-loop term-μ-loop
 term-add-from t c =
-    let g = c .before .before .before .before .before .before .before .before .before .before .before .before .before .before .loop .inv in omega (arith, c .before .before .before .before .before .before .before .before .before .before .before .before .before .before .before .before .before .before .before .before .before .before .before .before .before .good .0 .1, part-inside _ _ _ _ (c .before .before .before .before .before .before .before .before .before .before .before .before .before .before .before .before .before .before .before .before .before .before .before .before .before .args .words .now) _ _ _ _ _ _ _ g (omega arith) _ _ (c .before .before .before .before .before .before .before .before .before .before .before .gap .ensures) _ (put-done _ (c .before .before .before .before .before .before .before .before .if2 .left)) _ _ (c .before .before .before .before .before .part .ensures) _ _ (c .before .used .given .1))
+    let at-used = c .before in
+    let at-part = at-used .before .before .before .before in
+    let at-if2 = at-part .before .before .before in
+    let at-gap = at-if2 .before .before .before in
+    let at-loop = at-gap .before .before .before in
+    let at-args = at-loop .before .before .before .before .before .before .before .before .before .before .before in
+    let g = at-loop .loop .inv in omega (arith, at-args .good .0 .1, part-inside _ _ _ _ (at-args .args .words .now) _ _ _ _ _ _ _ g (omega arith) _ _ (at-gap .gap .ensures) _ (put-done _ (at-if2 .if2 .left)) _ _ (at-part .part .ensures) _ _ (at-used .used .given .1))
 
 term-loop-again : (t : ℕ) → term-lts.Need-loop-again (E t) (term-at t) term.Post term-Inv-loop term-μ-loop
 term-loop-again t c =
-    let g = c .before .before .before .before .before .before .before .before .before .before .before .before .before .before .loop .inv in going-on _ _ _ _ (c .before .before .before .before .before .before .before .before .before .before .before .before .before .before .before .before .before .before .before .before .before .before .before .before .before .args .words .now) _ _ _ _ _ _ _ g (omega arith) _ _ (c .before .before .before .before .before .before .before .before .before .before .before .gap .ensures) _ (put-done _ (c .before .before .before .before .before .before .before .before .if2 .left)) _ _ (c .before .before .before .before .before .part .ensures) _ _ (c .before .used .given .1)
+    let at-used = c .before in
+    let at-part = at-used .before .before .before .before in
+    let at-if2 = at-part .before .before .before in
+    let at-gap = at-if2 .before .before .before in
+    let at-loop = at-gap .before .before .before in
+    let g = at-loop .loop .inv in going-on _ _ _ _ (at-loop .before .before .before .before .before .before .before .before .before .before .before .args .words .now) _ _ _ _ _ _ _ g (omega arith) _ _ (at-gap .gap .ensures) _ (put-done _ (at-if2 .if2 .left)) _ _ (at-part .part .ensures) _ _ (at-used .used .given .1)
 
 term-finish-requires : (t : ℕ) → term-lts.Need-finish-requires (E t) (term-at t) term.Post term-Inv-loop term-μ-loop
 term-finish-requires t c κs =
-    let g = c .before .before .loop .inv in (left-room (g .laid) _ refl, some-words (c .before .before .before .before .before .before .before .before .before .before .before .before .before .args .words .now) _ _ (begins-node _ _ (c .before .before .before .before .before .before .before .before .before .before .before .before .before .args .words .now) (g .whole)))
+    let at-loop = c .before .before in
+    let args′ = at-loop .before .before .before .before .before .before .before .before .before .before .before .args in
+    let g = at-loop .loop .inv in (left-room (g .laid) _ refl, some-words (args′ .words .now) _ _ (begins-node _ _ (args′ .words .now) (g .whole)))
 
 term-same-length-4 : (t : ℕ) → term-lts.Need-same-length-4 (E t) (term-at t) term.Post term-Inv-loop term-μ-loop
 term-same-length-4 t c =
-    c .before .before .before .finish .kept .1 .0 ∙ left-length (c .before .before .before .before .before .before .loop .inv .laid) _ refl ∙ c .before .before .before .before .before .before .before .before .before .before .before .begin .kept .1 .1 .0
+    let at-finish = c .before .before .before in
+    let at-loop = at-finish .before .before .before in
+    at-finish .finish .kept .1 .0 ∙ left-length (at-loop .loop .inv .laid) _ refl ∙ at-loop .before .before .before .before .before .begin .kept .1 .1 .0
 
 term-returns-4 : (t : ℕ) → term-lts.Need-returns-4 (E t) (term-at t) term.Post term-Inv-loop term-μ-loop
 term-returns-4 t c =
-    let g = c .before .before .before .before .before .before .loop .inv in for-any _ _ _ (c .before .before .before .before .before .before .before .before .before .before .before .before .before .before .before .before .before .args .words .now) (g .whole) _ _ _ _ (close-stops _ _ _ (c .before .before .before .before .before .before .before .before .before .before .before .before .before .before .before .before .before .args .words .now) (g .whole) _ _ _ _ (c .before .before .before .before .before .before .before .before .before .before .before .begin .ensures) _ (put-done _ (c .before .before .before .before .before .before .before .before .if1 .left)) _ (g .inner′) _ _ (going-end _ _ _ _ (c .before .before .before .before .before .before .before .before .before .before .before .before .before .before .before .before .before .args .words .now) _ _ _ _ _ _ _ g (omega arith) .1) _ _ (c .before .before .before .finish .ensures) (put-full _ (c .if3 .taken)))
+    let at-finish = c .before .before .before in
+    let at-loop = at-finish .before .before .before in
+    let at-if1 = at-loop .before .before in
+    let at-begin = at-if1 .before .before .before in
+    let args′ = at-begin .before .before .before .before .before .before .args in
+    let g = at-loop .loop .inv in for-any _ _ _ (args′ .words .now) (g .whole) _ _ _ _ (close-stops _ _ _ (args′ .words .now) (g .whole) _ _ _ _ (at-begin .begin .ensures) _ (put-done _ (at-if1 .if1 .left)) _ (g .inner′) _ _ (going-end _ _ _ _ (args′ .words .now) _ _ _ _ _ _ _ g (omega arith) .1) _ _ (at-finish .finish .ensures) (put-full _ (c .if3 .taken)))
 
 term-same-length-5 : (t : ℕ) → term-lts.Need-same-length-5 (E t) (term-at t) term.Post term-Inv-loop term-μ-loop
 term-same-length-5 t c =
-    c .before .before .before .finish .kept .1 .0 ∙ left-length (c .before .before .before .before .before .before .loop .inv .laid) _ refl ∙ c .before .before .before .before .before .before .before .before .before .before .before .begin .kept .1 .1 .0
+    let at-finish = c .before .before .before in
+    let at-loop = at-finish .before .before .before in
+    at-finish .finish .kept .1 .0 ∙ left-length (at-loop .loop .inv .laid) _ refl ∙ at-loop .before .before .before .before .before .begin .kept .1 .1 .0
 
 term-returns-5 : (t : ℕ) → term-lts.Need-returns-5 (E t) (term-at t) term.Post term-Inv-loop term-μ-loop
 term-returns-5 t c =
-    let g = c .before .before .before .before .before .before .loop .inv in let z = going-end _ _ _ _ (c .before .before .before .before .before .before .before .before .before .before .before .before .before .before .before .before .before .args .words .now) _ _ _ _ _ _ _ g (omega arith) in for-any _ _ _ (c .before .before .before .before .before .before .before .before .before .before .before .before .before .before .before .before .before .args .words .now) (g .whole) _ _ _ _ (all-walked _ _ _ (c .before .before .before .before .before .before .before .before .before .before .before .before .before .before .before .before .before .args .words .now) (g .whole) _ _ _ _ (c .before .before .before .before .before .before .before .before .before .before .before .begin .ensures) _ (put-done _ (c .before .before .before .before .before .before .before .before .if1 .left)) _ (g .inner′) _ _ (z .1) _ _ (c .before .before .before .finish .ensures) _ _ (z .0) (put-done _ (c .if3 .left)))
+    let at-finish = c .before .before .before in
+    let at-loop = at-finish .before .before .before in
+    let at-if1 = at-loop .before .before in
+    let at-begin = at-if1 .before .before .before in
+    let args′ = at-begin .before .before .before .before .before .before .args in
+    let g = at-loop .loop .inv in let z = going-end _ _ _ _ (args′ .words .now) _ _ _ _ _ _ _ g (omega arith) in for-any _ _ _ (args′ .words .now) (g .whole) _ _ _ _ (all-walked _ _ _ (args′ .words .now) (g .whole) _ _ _ _ (at-begin .begin .ensures) _ (put-done _ (at-if1 .if1 .left)) _ (g .inner′) _ _ (z .1) _ _ (at-finish .finish .ensures) _ _ (z .0) (put-done _ (c .if3 .left)))
 
 pub +part+term-spec : {M : Type 1} → statement M
 +part+term-spec = close μ-part μ-term (λ t. part-lts.spec (P t)
