@@ -3,6 +3,7 @@ pub mod Expression
 pub mod Grammar
 pub mod Closed
 pub mod Agrees
+pub mod Heedless
 pub mod Compare
 pub mod Rows
 pub mod Same

@@ -10,7 +10,7 @@ use borrow.Author.Tests.{eqb-true, eqb-false}
 use Rattle.words.specs.Lists.{equal}
 use Rattle.words.specs.TestLaws.{and-left, and-right, and-both}
 use Rattle.words.specs.ListLaws.{never, either}
-use Rattle.datum.specs.Constant.{Constant, isConstant, constantWords}
+use Rattle.datum.specs.Constant.{Constant, isConstant, constantWords, matches}
 use Rattle.datum.specs.ConstantLaws.{words-decimal, words-other, words-few}
 use Rattle.datum.specs.Datum.{Datum, constantD, nameD, listD, Data, noneD, moreD}
 use Rattle.datum.specs.NameTable.{nameAt}
@@ -19,7 +19,7 @@ use Rattle.core_term.specs.Term.{variableC, operationC, datumC, ifC, lambdaC, a
 use Rattle.core_term.specs.Words.{datumWords, encode}
 use Rattle.core_term.specs.Every.{everyDatum, everyData, every, proper}
 use Rattle.core_term.specs.DecodeLaws.{encode-unique}
-use Rattle.comparison.specs.Agrees.{sameConstant, sameDatum}
+use Rattle.comparison.specs.Agrees.{sameDatum}
 use Rattle.comparison.specs.RenderingLaws.{constant-self}
 use Rattle.supplier.specs.declared.quoted.Agreed.{Agreed}
 use Rattle.supplier.specs.declared.quoted.Agreed.the-variants.{Words, No}
@@ -109,7 +109,7 @@ module _ (theirs ours : ℕ → List ℕ) (ops : List (List ℕ)) where
   -- ---- constants
 
   pub constant-only : (a : Constant) (e : Datum) → sameDatum theirs ours ops (constantD a) e ≡ true → e ≡ constantD a
-  unfolding sameDatum sameConstant
+  unfolding sameDatum matches
   constant-only a (constantD b) h =
       let p = eqb-true (a .kind) (b .kind) (and-left _ _ h) in
       let k = and-right (eqb (a .kind) (b .kind)) _ h in
