@@ -1,34 +1,27 @@
 use Rattle.supplier.proofs.grammar.formals.Statement.{statement}
 use Rattle.supplier.proofs.grammar.formals.Tie as tie
-use Rattle.supplier.proofs.grammar.formals.Reads as reads
-use Rattle.supplier.proofs.grammar.formals.Lts as lts
-use Rattle.layout.proofs.item.head.Reads as head-reads
-use Rattle.layout.proofs.item.kind.Reads as kind-reads
-use Rattle.layout.proofs.item.tail.Reads as tail-reads
-use Rattle.supplier.proofs.scope.innermost.Reads as innermost-reads
+use borrow.Author.Needs.{needs}
 use mathlib.Core.Path.{sym, _∙_}
 use native.Mathlib.Omega.{arith}
 use Prim.Native.Nat.{_-_}
 use lib.ListN.{length}
-use borrow.Author.Needs.{needs}
 use Rattle.supplier.specs.FormalsLaws.{Taking, taking-start, taking-in, taking-pair, taking-head-in, taking-small, taking-none, taking-twice, taking-next, taking-many, taking-end, formals-low, passing-other, passing-not}
 
 abbrev Inv-loop : tie.InvT-loop
-Inv-loop items i scope₀ top j₀ n₀ scope j n =
-    Taking items i scope₀ top scope j n
+Inv-loop items i scope₀ top first j₀ n₀ scope j n =
+    Taking items i scope₀ top first scope j n
 
 abbrev μ-loop : tie.MeasureT-loop
-μ-loop items i scope₀ top j₀ n₀ scope j n =
+μ-loop items i scope₀ top first j₀ n₀ scope j n =
     length items - j
 
 loop-holds : tie.Need-loop-holds Inv-loop μ-loop
 loop-holds c =
-    let args = c .before .before .args in
-    taking-start (args .items .now) (args .i) (args .scope .now) (args .top) (c .before .before .pre .0)
+    taking-start (c .before .before .args .items .now) (c .before .before .args .i) (c .before .before .args .scope .now) (c .before .before .args .top) (c .before .before .args .first) (c .before .before .pre .0)
 
 kind-requires : tie.Need-kind-requires Inv-loop μ-loop
 kind-requires c κs =
-    taking-in _ _ _ _ _ _ _ (c .loop .inv)
+    taking-in _ _ _ _ _ _ _ _ (c .loop .inv)
 
 same-length : tie.Need-same-length Inv-loop μ-loop
 same-length c =
@@ -36,16 +29,15 @@ same-length c =
 
 returns : tie.Need-returns Inv-loop μ-loop
 returns c =
-    let loop = c .before .before .before .loop in
-    (taking-many _ _ _ _ _ _ _ (loop .inv) (sym (c .before .before .kind .ensures) ∙ c .before .if1 .taken) (c .if2 .taken), loop .inv .kept)
+    (taking-many _ _ _ _ _ _ _ _ (c .before .before .before .loop .inv) (sym (c .before .before .kind .ensures) ∙ c .before .if1 .taken) (c .if2 .taken), c .before .before .before .loop .inv .kept)
 
 head-requires : tie.Need-head-requires Inv-loop μ-loop
 head-requires c κs =
-    taking-in _ _ _ _ _ _ _ (c .before .before .before .loop .inv)
+    taking-in _ _ _ _ _ _ _ _ (c .before .before .before .loop .inv)
 
 kind-requires-2 : tie.Need-kind-requires-2 Inv-loop μ-loop
 kind-requires-2 c κs =
-    taking-head-in _ _ _ _ _ _ _ (c .before .before .before .before .loop .inv) (sym (c .before .before .before .kind .ensures) ∙ c .before .before .if1 .taken) _ (c .head .ensures)
+    taking-head-in _ _ _ _ _ _ _ _ (c .before .before .before .before .loop .inv) (sym (c .before .before .before .kind .ensures) ∙ c .before .before .if1 .taken) _ (c .head .ensures)
 
 same-length-2 : tie.Need-same-length-2 Inv-loop μ-loop
 same-length-2 c =
@@ -53,12 +45,11 @@ same-length-2 c =
 
 returns-2 : tie.Need-returns-2 Inv-loop μ-loop
 returns-2 c =
-    let loop = c .before .before .before .before .before .before .loop in
-    (passing-other _ _ _ (loop .inv .passed) (loop .inv .passing) _ (sym (c .before .before .before .before .before .kind .ensures) ∙ c .before .before .before .before .if1 .taken) (c .before .before .head .ensures) (λ e. c .if3 .taken (c .before .kind2 .ensures ∙ e)), loop .inv .kept)
+    (passing-other _ _ _ (c .before .before .before .before .before .before .loop .inv .passed) (c .before .before .before .before .before .before .loop .inv .passing) _ (sym (c .before .before .before .before .before .kind .ensures) ∙ c .before .before .before .before .if1 .taken) (c .before .before .head .ensures) (λ e. c .if3 .taken (c .before .kind2 .ensures ∙ e)), c .before .before .before .before .before .before .loop .inv .kept)
 
 head-requires-2 : tie.Need-head-requires-2 Inv-loop μ-loop
 head-requires-2 c κs =
-    taking-head-in _ _ _ _ _ _ _ (c .before .before .before .before .before .before .loop .inv) (sym (c .before .before .before .before .before .kind .ensures) ∙ c .before .before .before .before .if1 .taken) _ (c .before .before .head .ensures)
+    taking-head-in _ _ _ _ _ _ _ _ (c .before .before .before .before .before .before .loop .inv) (sym (c .before .before .before .before .before .kind .ensures) ∙ c .before .before .before .before .if1 .taken) _ (c .before .before .head .ensures)
 
 same-length-3 : tie.Need-same-length-3 Inv-loop μ-loop
 same-length-3 c =
@@ -66,8 +57,7 @@ same-length-3 c =
 
 returns-3 : tie.Need-returns-3 Inv-loop μ-loop
 returns-3 c =
-    let loop = c .before .before .before .before .before .before .before .before .loop in
-    (taking-none _ _ _ _ _ _ _ (loop .inv) (sym (c .before .before .before .before .before .before .before .kind .ensures) ∙ c .before .before .before .before .before .before .if1 .taken) _ (c .before .before .before .before .head .ensures) (sym (c .before .before .before .kind2 .ensures) ∙ c .before .before .if3 .left) _ (c .before .head2 .ensures) (formals-low (loop .inv .passed) _ (c .if4 .taken)), loop .inv .kept)
+    (taking-none _ _ _ _ _ _ _ _ (c .before .before .before .before .before .before .before .before .loop .inv) (sym (c .before .before .before .before .before .before .before .kind .ensures) ∙ c .before .before .before .before .before .before .if1 .taken) _ (c .before .before .before .before .head .ensures) (sym (c .before .before .before .kind2 .ensures) ∙ c .before .before .if3 .left) _ (c .before .head2 .ensures) (formals-low (c .before .before .before .before .before .before .before .before .loop .inv .passed) _ (c .if4 .taken)), c .before .before .before .before .before .before .before .before .loop .inv .kept)
 
 add-innermost : tie.Need-add-innermost Inv-loop μ-loop
 add-innermost c =
@@ -75,8 +65,7 @@ add-innermost c =
 
 innermost-requires : tie.Need-innermost-requires Inv-loop μ-loop
 innermost-requires c κs =
-    let loop = c .before .before .before .before .before .before .before .before .before .loop in
-    omega (arith, loop .inv .few, loop .inv .sized, c .before .before .before .before .before .before .before .before .before .before .before .before .pre .1)
+    omega (arith, c .before .before .before .before .before .before .before .before .before .loop .inv .few, c .before .before .before .before .before .before .before .before .before .loop .inv .sized, c .before .before .before .before .before .before .before .before .before .before .before .before .pre .1)
 
 same-length-4 : tie.Need-same-length-4 Inv-loop μ-loop
 same-length-4 c =
@@ -84,42 +73,47 @@ same-length-4 c =
 
 returns-4 : tie.Need-returns-4 Inv-loop μ-loop
 returns-4 c =
-    let loop = c .before .before .before .before .before .before .before .before .before .before .before .loop in
-    (taking-twice _ _ _ _ _ _ _ (loop .inv) (sym (c .before .before .before .before .before .before .before .before .before .before .kind .ensures) ∙ c .before .before .before .before .before .before .before .before .before .if1 .taken) _ (c .before .before .before .before .before .before .before .head .ensures) (sym (c .before .before .before .before .before .before .kind2 .ensures) ∙ c .before .before .before .before .before .if3 .left) _ (c .before .before .before .before .head2 .ensures) (omega (arith, c .if5 .taken, c .before .innermost .ensures)), loop .inv .kept)
-
-cast-scope : tie.Need-cast-scope Inv-loop μ-loop
-cast-scope c =
-    omega (arith, taking-small _ _ _ _ _ _ _ (c .before .before .before .before .before .before .before .before .before .before .before .loop .inv) (sym (c .before .before .before .before .before .before .before .before .before .before .kind .ensures) ∙ c .before .before .before .before .before .before .before .before .before .if1 .taken) _ (c .before .before .before .before .before .before .before .head .ensures) (sym (c .before .before .before .before .before .before .kind2 .ensures) ∙ c .before .before .before .before .before .if3 .left) _ (c .before .before .before .before .head2 .ensures))
+    (taking-twice _ _ _ _ _ _ _ _ (c .before .before .before .before .before .before .before .before .before .before .before .loop .inv) (sym (c .before .before .before .before .before .before .before .before .before .before .kind .ensures) ∙ c .before .before .before .before .before .before .before .before .before .if1 .taken) _ (c .before .before .before .before .before .before .before .head .ensures) (sym (c .before .before .before .before .before .before .kind2 .ensures) ∙ c .before .before .before .before .before .if3 .left) _ (c .before .before .before .before .head2 .ensures) (omega (arith, c .if5 .taken, c .before .innermost .ensures)), c .before .before .before .before .before .before .before .before .before .before .before .loop .inv .kept)
 
 add-scope : tie.Need-add-scope Inv-loop μ-loop
 add-scope c =
-    omega (arith, c .before .before .before .before .before .before .before .before .before .before .before .loop .inv .few, c .before .before .before .before .before .before .before .before .before .before .before .before .before .before .pre .1, c .before .before .before .before .before .before .before .before .before .before .before .before .before .before .good .1)
+    omega (arith, c .before .before .before .before .before .before .before .before .before .before .before .before .loop .inv .few, c .wide .ensures, c .before .before .before .before .before .before .before .before .before .before .before .before .before .before .before .fits)
+
+mul-scope : tie.Need-mul-scope Inv-loop μ-loop
+mul-scope c =
+    omega (arith, c .before .before .before .before .before .before .before .before .before .before .before .before .loop .inv .few, c .wide .ensures, c .before .before .before .before .before .before .before .before .before .before .before .before .before .before .before .fits)
+
+add-scope-2 : tie.Need-add-scope-2 Inv-loop μ-loop
+add-scope-2 c =
+    omega (arith, c .before .before .before .before .before .before .before .before .before .before .before .before .loop .inv .few, c .wide .ensures, c .before .before .before .before .before .before .before .before .before .before .before .before .before .before .before .fits, taking-small _ _ _ _ _ _ _ _ (c .before .before .before .before .before .before .before .before .before .before .before .before .loop .inv) (sym (c .before .before .before .before .before .before .before .before .before .before .before .kind .ensures) ∙ c .before .before .before .before .before .before .before .before .before .before .if1 .taken) _ (c .before .before .before .before .before .before .before .before .head .ensures) (sym (c .before .before .before .before .before .before .before .kind2 .ensures) ∙ c .before .before .before .before .before .before .if3 .left) _ (c .before .before .before .before .before .head2 .ensures))
+
+add-scope-3 : tie.Need-add-scope-3 Inv-loop μ-loop
+add-scope-3 c =
+    omega (arith, c .before .before .before .before .before .before .before .before .before .before .before .before .loop .inv .few, c .before .before .before .before .before .before .before .before .before .before .before .before .before .before .before .pre .1, c .before .before .before .before .before .before .before .before .before .before .before .before .before .before .before .good .1)
 
 slice-write-scope : tie.Need-slice-write-scope Inv-loop μ-loop
 slice-write-scope c =
-    let loop = c .before .before .before .before .before .before .before .before .before .before .before .loop in
-    omega (arith, loop .inv .few, c .before .before .before .before .before .before .before .before .if2 .left, loop .inv .sized, c .before .before .before .before .before .before .before .before .before .before .before .before .before .before .pre .1)
+    omega (arith, c .before .before .before .before .before .before .before .before .before .before .before .before .loop .inv .few, c .before .before .before .before .before .before .before .before .before .if2 .left, c .before .before .before .before .before .before .before .before .before .before .before .before .loop .inv .sized, c .before .before .before .before .before .before .before .before .before .before .before .before .before .before .before .pre .1)
 
 add-n : tie.Need-add-n Inv-loop μ-loop
 add-n c =
-    omega (arith, c .before .before .before .before .before .before .before .before .before .before .before .loop .inv .few)
+    omega (arith, c .before .before .before .before .before .before .before .before .before .before .before .before .loop .inv .few)
 
 tail-requires : tie.Need-tail-requires Inv-loop μ-loop
 tail-requires c κs =
-    taking-in _ _ _ _ _ _ _ (c .before .before .before .before .before .before .before .before .before .before .before .loop .inv)
+    taking-in _ _ _ _ _ _ _ _ (c .before .before .before .before .before .before .before .before .before .before .before .before .loop .inv)
 
 loop-less : tie.Need-loop-less Inv-loop μ-loop
 loop-less c =
-    let loop = c .before .before .before .before .before .before .before .before .before .before .before .before .loop in
-    let p = taking-pair _ _ _ _ _ _ _ (loop .inv) (sym (c .before .before .before .before .before .before .before .before .before .before .before .kind .ensures) ∙ c .before .before .before .before .before .before .before .before .before .before .if1 .taken) .pair in omega (arith, c .tail .ensures, p .tailIs, taking-in _ _ _ _ _ _ _ (loop .inv))
+    omega (arith, c .tail .ensures, taking-pair _ _ _ _ _ _ _ _ (c .before .before .before .before .before .before .before .before .before .before .before .before .before .loop .inv) (sym (c .before .before .before .before .before .before .before .before .before .before .before .before .kind .ensures) ∙ c .before .before .before .before .before .before .before .before .before .before .before .if1 .taken) .pair .tailIs, taking-in _ _ _ _ _ _ _ _ (c .before .before .before .before .before .before .before .before .before .before .before .before .before .loop .inv))
 
 loop-again : tie.Need-loop-again Inv-loop μ-loop
 loop-again c =
-    taking-next _ _ _ _ _ _ _ (c .before .before .before .before .before .before .before .before .before .before .before .before .loop .inv) (sym (c .before .before .before .before .before .before .before .before .before .before .before .kind .ensures) ∙ c .before .before .before .before .before .before .before .before .before .before .if1 .taken) _ (c .before .before .before .before .before .before .before .before .head .ensures) (sym (c .before .before .before .before .before .before .before .kind2 .ensures) ∙ c .before .before .before .before .before .before .if3 .left) _ (c .before .before .before .before .before .head2 .ensures) (c .before .before .before .before .if4 .left) (omega (arith, c .before .if5 .left, c .before .before .innermost .ensures)) (c .before .before .before .before .before .before .before .before .before .if2 .left) (c .before .before .before .before .before .before .before .before .before .before .before .before .before .before .before .pre .1) _ (c .tail .ensures)
+    taking-next _ _ _ _ _ _ _ _ (c .before .before .before .before .before .before .before .before .before .before .before .before .before .loop .inv) (sym (c .before .before .before .before .before .before .before .before .before .before .before .before .kind .ensures) ∙ c .before .before .before .before .before .before .before .before .before .before .before .if1 .taken) _ (c .before .before .before .before .before .before .before .before .before .head .ensures) (sym (c .before .before .before .before .before .before .before .before .kind2 .ensures) ∙ c .before .before .before .before .before .before .before .if3 .left) _ (c .before .before .before .before .before .before .head2 .ensures) (c .before .before .before .before .before .if4 .left) (omega (arith, c .before .before .if5 .left, c .before .before .before .innermost .ensures)) (c .before .before .before .before .before .before .before .before .before .before .if2 .left) (c .before .before .before .before .before .before .before .before .before .before .before .before .before .before .before .before .pre .1) _ (c .tail .ensures) _ (c .before .wide .ensures)
 
 kind-requires-3 : tie.Need-kind-requires-3 Inv-loop μ-loop
 kind-requires-3 c κs =
-    taking-in _ _ _ _ _ _ _ (c .before .before .loop .inv)
+    taking-in _ _ _ _ _ _ _ _ (c .before .before .loop .inv)
 
 same-length-5 : tie.Need-same-length-5 Inv-loop μ-loop
 same-length-5 c =
@@ -127,8 +121,7 @@ same-length-5 c =
 
 returns-5 : tie.Need-returns-5 Inv-loop μ-loop
 returns-5 c =
-    let loop = c .before .before .before .before .loop in
-    (passing-not _ _ _ (loop .inv .passed) (loop .inv .passing) (λ e. c .before .before .if1 .left (c .before .before .before .kind .ensures ∙ e)) (λ e. c .if6 .taken (c .before .kind3 .ensures ∙ e)), loop .inv .kept)
+    (passing-not _ _ _ (c .before .before .before .before .loop .inv .passed) (c .before .before .before .before .loop .inv .passing) (λ e. c .before .before .if1 .left (c .before .before .before .kind .ensures ∙ e)) (λ e. c .if6 .taken (c .before .kind3 .ensures ∙ e)), c .before .before .before .before .loop .inv .kept)
 
 same-length-6 : tie.Need-same-length-6 Inv-loop μ-loop
 same-length-6 c =
@@ -136,8 +129,7 @@ same-length-6 c =
 
 returns-6 : tie.Need-returns-6 Inv-loop μ-loop
 returns-6 c =
-    let loop = c .before .before .before .before .loop in
-    (taking-end _ _ _ _ _ _ _ (loop .inv) (sym (c .before .kind3 .ensures) ∙ c .if6 .left), loop .inv .kept)
+    (taking-end _ _ _ _ _ _ _ _ (c .before .before .before .before .loop .inv) (sym (c .before .kind3 .ensures) ∙ c .if6 .left), c .before .before .before .before .loop .inv .kept)
 
 pub formals-spec : {M : Type 1} → statement M
 formals-spec =
@@ -160,9 +152,12 @@ formals-spec =
     innermost-requires
     same-length-4
     returns-4
-    cast-scope
+    (λ c κs. search needs)  -- wide-requires
     add-scope
-    (λ c. search needs)  -- mul-scope
+    mul-scope
+    add-scope-2
+    add-scope-3
+    (λ c. search needs)  -- mul-scope-2
     slice-write-scope
     add-n
     tail-requires

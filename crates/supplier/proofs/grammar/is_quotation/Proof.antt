@@ -7,7 +7,7 @@ use Rattle.layout.proofs.item.head.Reads as head-reads
 use Rattle.layout.proofs.item.kind.Reads as kind-reads
 use Rattle.supplier.proofs.grammar.count.Reads as count-reads
 use Rattle.supplier.specs.ItemsLaws.{held-in, all-in}
-use Rattle.supplier.specs.JudgedLaws.{quotes-other, one-held, quotes-at-name, quotes-at-empty, quotes-at-pair, quotes-at-constant}
+use Rattle.supplier.specs.ListLaws.{quotes-other, one-held, quotes-at-name, quotes-at-empty, quotes-at-pair, quotes-at-constant}
 
 returns : tie.Need-returns
 returns c =
