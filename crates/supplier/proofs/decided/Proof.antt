@@ -10,7 +10,8 @@ slice-aggregate-expression c =
 
 expression-requires : tie.Need-expression-requires
 expression-requires c κs =
-    (c .before .before .before .before .before .before .pre .0, (omega arith, c .before .before .before .before .before .before .pre .1, omega arith), c .before .before .before .before .before .before .pre .2)
+    let pre′ = c .before .before .before .before .before .before .pre in
+    (pre′ .0, (omega arith, pre′ .1, omega arith), pre′ .2)
 
 returns : tie.Need-returns
 returns c =
@@ -26,7 +27,9 @@ returns-3 c =
 
 returns-4 : tie.Need-returns-4
 returns-4 c =
-    element-outside _ _ _ _ _ _ _ (c .before .before .before .before .before .before .before .expression .ensures .0) (c .before .before .before .before .if1 .left) (c .before .before .if2 .left) (c .if3 .left)
+    let at-if2 = c .before .before in
+    let at-if1 = at-if2 .before .before in
+    element-outside _ _ _ _ _ _ _ (at-if1 .before .before .before .expression .ensures .0) (at-if1 .if1 .left) (at-if2 .if2 .left) (c .if3 .left)
 
 pub decided-spec : {M : Type 1} → statement M
 decided-spec =

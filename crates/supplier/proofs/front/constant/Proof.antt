@@ -17,11 +17,18 @@ returns-3 c =
 
 returns-4 : tie.Need-returns-4
 returns-4 c =
-    constant-second _ _ (c .before .before .before .before .before .before .before .before .before .own .ensures) _ _ (c .before .before .wide2 .ensures) (c .before .if4 .taken) _ (c .lost4 .ensures)
+    let at-if4 = c .before in
+    let at-wide2 = at-if4 .before in
+    constant-second _ _ (at-wide2 .before .before .before .before .before .before .before .own .ensures) _ _ (at-wide2 .wide2 .ensures) (at-if4 .if4 .taken) _ (c .lost4 .ensures)
 
 returns-5 : tie.Need-returns-5
 returns-5 c =
-    constant-same _ _ (c .before .before .before .before .before .before .before .before .own .ensures) _ (c .before .before .before .before .before .before .if1 .left) (c .before .before .before .before .if2 .left) _ (c .before .before .before .wide .ensures) (c .before .before .if3 .left) _ (c .before .wide2 .ensures) (c .if4 .left)
+    let at-wide2 = c .before in
+    let at-if3 = at-wide2 .before in
+    let at-wide = at-if3 .before in
+    let at-if2 = at-wide .before in
+    let at-if1 = at-if2 .before .before in
+    constant-same _ _ (at-if1 .before .before .own .ensures) _ (at-if1 .if1 .left) (at-if2 .if2 .left) _ (at-wide .wide .ensures) (at-if3 .if3 .left) _ (at-wide2 .wide2 .ensures) (c .if4 .left)
 
 pub constant-spec : {M : Type 1} → statement M
 constant-spec =

@@ -17,7 +17,8 @@ abbrev μ-loop : tie.MeasureT-loop
 
 loop-holds : tie.Need-loop-holds Inv-loop μ-loop
 loop-holds c =
-    taking-start (c .before .before .args .items .now) (c .before .before .args .i) (c .before .before .args .scope .now) (c .before .before .args .top) (c .before .before .args .first) (c .before .before .pre .0)
+    let at-args = c .before .before in
+    taking-start (at-args .args .items .now) (at-args .args .i) (at-args .args .scope .now) (at-args .args .top) (at-args .args .first) (at-args .pre .0)
 
 kind-requires : tie.Need-kind-requires Inv-loop μ-loop
 kind-requires c κs =
@@ -45,11 +46,19 @@ same-length-2 c =
 
 returns-2 : tie.Need-returns-2 Inv-loop μ-loop
 returns-2 c =
-    (passing-other _ _ _ (c .before .before .before .before .before .before .loop .inv .passed) (c .before .before .before .before .before .before .loop .inv .passing) _ (sym (c .before .before .before .before .before .kind .ensures) ∙ c .before .before .before .before .if1 .taken) (c .before .before .head .ensures) (λ e. c .if3 .taken (c .before .kind2 .ensures ∙ e)), c .before .before .before .before .before .before .loop .inv .kept)
+    let at-kind2 = c .before in
+    let at-head = at-kind2 .before in
+    let at-if1 = at-head .before .before in
+    let at-kind = at-if1 .before in
+    let loop′ = at-kind .before .loop in
+    (passing-other _ _ _ (loop′ .inv .passed) (loop′ .inv .passing) _ (sym (at-kind .kind .ensures) ∙ at-if1 .if1 .taken) (at-head .head .ensures) (λ e. c .if3 .taken (at-kind2 .kind2 .ensures ∙ e)), loop′ .inv .kept)
 
 head-requires-2 : tie.Need-head-requires-2 Inv-loop μ-loop
 head-requires-2 c κs =
-    taking-head-in _ _ _ _ _ _ _ _ (c .before .before .before .before .before .before .loop .inv) (sym (c .before .before .before .before .before .kind .ensures) ∙ c .before .before .before .before .if1 .taken) _ (c .before .before .head .ensures)
+    let at-head = c .before .before in
+    let at-if1 = at-head .before .before in
+    let at-kind = at-if1 .before in
+    taking-head-in _ _ _ _ _ _ _ _ (at-kind .before .loop .inv) (sym (at-kind .kind .ensures) ∙ at-if1 .if1 .taken) _ (at-head .head .ensures)
 
 same-length-3 : tie.Need-same-length-3 Inv-loop μ-loop
 same-length-3 c =
@@ -57,15 +66,25 @@ same-length-3 c =
 
 returns-3 : tie.Need-returns-3 Inv-loop μ-loop
 returns-3 c =
-    (taking-none _ _ _ _ _ _ _ _ (c .before .before .before .before .before .before .before .before .loop .inv) (sym (c .before .before .before .before .before .before .before .kind .ensures) ∙ c .before .before .before .before .before .before .if1 .taken) _ (c .before .before .before .before .head .ensures) (sym (c .before .before .before .kind2 .ensures) ∙ c .before .before .if3 .left) _ (c .before .head2 .ensures) (formals-low (c .before .before .before .before .before .before .before .before .loop .inv .passed) _ (c .if4 .taken)), c .before .before .before .before .before .before .before .before .loop .inv .kept)
+    let at-head2 = c .before in
+    let at-if3 = at-head2 .before in
+    let at-kind2 = at-if3 .before in
+    let at-head = at-kind2 .before in
+    let at-if1 = at-head .before .before in
+    let at-kind = at-if1 .before in
+    let loop′ = at-kind .before .loop in
+    (taking-none _ _ _ _ _ _ _ _ (loop′ .inv) (sym (at-kind .kind .ensures) ∙ at-if1 .if1 .taken) _ (at-head .head .ensures) (sym (at-kind2 .kind2 .ensures) ∙ at-if3 .if3 .left) _ (at-head2 .head2 .ensures) (formals-low (loop′ .inv .passed) _ (c .if4 .taken)), loop′ .inv .kept)
 
 add-innermost : tie.Need-add-innermost Inv-loop μ-loop
 add-innermost c =
-    omega (arith, c .before .before .before .before .before .before .before .before .before .loop .inv .few, c .before .before .before .before .before .before .before .before .before .before .before .before .pre .1, c .before .before .before .before .before .before .before .before .before .before .before .before .good .1)
+    let at-loop = c .before .before .before .before .before .before .before .before .before in
+    let at-good = at-loop .before .before .before in
+    omega (arith, at-loop .loop .inv .few, at-good .pre .1, at-good .good .1)
 
 innermost-requires : tie.Need-innermost-requires Inv-loop μ-loop
 innermost-requires c κs =
-    omega (arith, c .before .before .before .before .before .before .before .before .before .loop .inv .few, c .before .before .before .before .before .before .before .before .before .loop .inv .sized, c .before .before .before .before .before .before .before .before .before .before .before .before .pre .1)
+    let at-loop = c .before .before .before .before .before .before .before .before .before in
+    omega (arith, at-loop .loop .inv .few, at-loop .loop .inv .sized, at-loop .before .before .before .pre .1)
 
 same-length-4 : tie.Need-same-length-4 Inv-loop μ-loop
 same-length-4 c =
@@ -73,27 +92,48 @@ same-length-4 c =
 
 returns-4 : tie.Need-returns-4 Inv-loop μ-loop
 returns-4 c =
-    (taking-twice _ _ _ _ _ _ _ _ (c .before .before .before .before .before .before .before .before .before .before .before .loop .inv) (sym (c .before .before .before .before .before .before .before .before .before .before .kind .ensures) ∙ c .before .before .before .before .before .before .before .before .before .if1 .taken) _ (c .before .before .before .before .before .before .before .head .ensures) (sym (c .before .before .before .before .before .before .kind2 .ensures) ∙ c .before .before .before .before .before .if3 .left) _ (c .before .before .before .before .head2 .ensures) (omega (arith, c .if5 .taken, c .before .innermost .ensures)), c .before .before .before .before .before .before .before .before .before .before .before .loop .inv .kept)
+    let at-innermost = c .before in
+    let at-head2 = at-innermost .before .before .before in
+    let at-if3 = at-head2 .before in
+    let at-kind2 = at-if3 .before in
+    let at-head = at-kind2 .before in
+    let at-if1 = at-head .before .before in
+    let at-kind = at-if1 .before in
+    let loop′ = at-kind .before .loop in
+    (taking-twice _ _ _ _ _ _ _ _ (loop′ .inv) (sym (at-kind .kind .ensures) ∙ at-if1 .if1 .taken) _ (at-head .head .ensures) (sym (at-kind2 .kind2 .ensures) ∙ at-if3 .if3 .left) _ (at-head2 .head2 .ensures) (omega (arith, c .if5 .taken, at-innermost .innermost .ensures)), loop′ .inv .kept)
 
 add-scope : tie.Need-add-scope Inv-loop μ-loop
 add-scope c =
-    omega (arith, c .before .before .before .before .before .before .before .before .before .before .before .before .loop .inv .few, c .wide .ensures, c .before .before .before .before .before .before .before .before .before .before .before .before .before .before .before .fits)
+    let at-loop = c .before .before .before .before .before .before .before .before .before .before .before .before in
+    omega (arith, at-loop .loop .inv .few, c .wide .ensures, at-loop .before .before .before .fits)
 
 mul-scope : tie.Need-mul-scope Inv-loop μ-loop
 mul-scope c =
-    omega (arith, c .before .before .before .before .before .before .before .before .before .before .before .before .loop .inv .few, c .wide .ensures, c .before .before .before .before .before .before .before .before .before .before .before .before .before .before .before .fits)
+    let at-loop = c .before .before .before .before .before .before .before .before .before .before .before .before in
+    omega (arith, at-loop .loop .inv .few, c .wide .ensures, at-loop .before .before .before .fits)
 
 add-scope-2 : tie.Need-add-scope-2 Inv-loop μ-loop
 add-scope-2 c =
-    omega (arith, c .before .before .before .before .before .before .before .before .before .before .before .before .loop .inv .few, c .wide .ensures, c .before .before .before .before .before .before .before .before .before .before .before .before .before .before .before .fits, taking-small _ _ _ _ _ _ _ _ (c .before .before .before .before .before .before .before .before .before .before .before .before .loop .inv) (sym (c .before .before .before .before .before .before .before .before .before .before .before .kind .ensures) ∙ c .before .before .before .before .before .before .before .before .before .before .if1 .taken) _ (c .before .before .before .before .before .before .before .before .head .ensures) (sym (c .before .before .before .before .before .before .before .kind2 .ensures) ∙ c .before .before .before .before .before .before .if3 .left) _ (c .before .before .before .before .before .head2 .ensures))
+    let at-head2 = c .before .before .before .before .before in
+    let at-if3 = at-head2 .before in
+    let at-kind2 = at-if3 .before in
+    let at-head = at-kind2 .before in
+    let at-if1 = at-head .before .before in
+    let at-kind = at-if1 .before in
+    let at-loop = at-kind .before in
+    omega (arith, at-loop .loop .inv .few, c .wide .ensures, at-loop .before .before .before .fits, taking-small _ _ _ _ _ _ _ _ (at-loop .loop .inv) (sym (at-kind .kind .ensures) ∙ at-if1 .if1 .taken) _ (at-head .head .ensures) (sym (at-kind2 .kind2 .ensures) ∙ at-if3 .if3 .left) _ (at-head2 .head2 .ensures))
 
 add-scope-3 : tie.Need-add-scope-3 Inv-loop μ-loop
 add-scope-3 c =
-    omega (arith, c .before .before .before .before .before .before .before .before .before .before .before .before .loop .inv .few, c .before .before .before .before .before .before .before .before .before .before .before .before .before .before .before .pre .1, c .before .before .before .before .before .before .before .before .before .before .before .before .before .before .before .good .1)
+    let at-loop = c .before .before .before .before .before .before .before .before .before .before .before .before in
+    let at-good = at-loop .before .before .before in
+    omega (arith, at-loop .loop .inv .few, at-good .pre .1, at-good .good .1)
 
 slice-write-scope : tie.Need-slice-write-scope Inv-loop μ-loop
 slice-write-scope c =
-    omega (arith, c .before .before .before .before .before .before .before .before .before .before .before .before .loop .inv .few, c .before .before .before .before .before .before .before .before .before .if2 .left, c .before .before .before .before .before .before .before .before .before .before .before .before .loop .inv .sized, c .before .before .before .before .before .before .before .before .before .before .before .before .before .before .before .pre .1)
+    let at-if2 = c .before .before .before .before .before .before .before .before .before in
+    let at-loop = at-if2 .before .before .before in
+    omega (arith, at-loop .loop .inv .few, at-if2 .if2 .left, at-loop .loop .inv .sized, at-loop .before .before .before .pre .1)
 
 add-n : tie.Need-add-n Inv-loop μ-loop
 add-n c =
@@ -105,11 +145,26 @@ tail-requires c κs =
 
 loop-less : tie.Need-loop-less Inv-loop μ-loop
 loop-less c =
-    omega (arith, c .tail .ensures, taking-pair _ _ _ _ _ _ _ _ (c .before .before .before .before .before .before .before .before .before .before .before .before .before .loop .inv) (sym (c .before .before .before .before .before .before .before .before .before .before .before .before .kind .ensures) ∙ c .before .before .before .before .before .before .before .before .before .before .before .if1 .taken) .pair .tailIs, taking-in _ _ _ _ _ _ _ _ (c .before .before .before .before .before .before .before .before .before .before .before .before .before .loop .inv))
+    let at-if1 = c .before .before .before .before .before .before .before .before .before .before .before in
+    let at-kind = at-if1 .before in
+    let loop′ = at-kind .before .loop in
+    omega (arith, c .tail .ensures, taking-pair _ _ _ _ _ _ _ _ (loop′ .inv) (sym (at-kind .kind .ensures) ∙ at-if1 .if1 .taken) .pair .tailIs, taking-in _ _ _ _ _ _ _ _ (loop′ .inv))
 
 loop-again : tie.Need-loop-again Inv-loop μ-loop
 loop-again c =
-    taking-next _ _ _ _ _ _ _ _ (c .before .before .before .before .before .before .before .before .before .before .before .before .before .loop .inv) (sym (c .before .before .before .before .before .before .before .before .before .before .before .before .kind .ensures) ∙ c .before .before .before .before .before .before .before .before .before .before .before .if1 .taken) _ (c .before .before .before .before .before .before .before .before .before .head .ensures) (sym (c .before .before .before .before .before .before .before .before .kind2 .ensures) ∙ c .before .before .before .before .before .before .before .if3 .left) _ (c .before .before .before .before .before .before .head2 .ensures) (c .before .before .before .before .before .if4 .left) (omega (arith, c .before .before .if5 .left, c .before .before .before .innermost .ensures)) (c .before .before .before .before .before .before .before .before .before .before .if2 .left) (c .before .before .before .before .before .before .before .before .before .before .before .before .before .before .before .before .pre .1) _ (c .tail .ensures) _ (c .before .wide .ensures)
+    let at-wide = c .before in
+    let at-if5 = at-wide .before in
+    let at-innermost = at-if5 .before in
+    let at-if4 = at-innermost .before .before in
+    let at-head2 = at-if4 .before in
+    let at-if3 = at-head2 .before in
+    let at-kind2 = at-if3 .before in
+    let at-head = at-kind2 .before in
+    let at-if2 = at-head .before in
+    let at-if1 = at-if2 .before in
+    let at-kind = at-if1 .before in
+    let at-loop = at-kind .before in
+    taking-next _ _ _ _ _ _ _ _ (at-loop .loop .inv) (sym (at-kind .kind .ensures) ∙ at-if1 .if1 .taken) _ (at-head .head .ensures) (sym (at-kind2 .kind2 .ensures) ∙ at-if3 .if3 .left) _ (at-head2 .head2 .ensures) (at-if4 .if4 .left) (omega (arith, at-if5 .if5 .left, at-innermost .innermost .ensures)) (at-if2 .if2 .left) (at-loop .before .before .before .pre .1) _ (c .tail .ensures) _ (at-wide .wide .ensures)
 
 kind-requires-3 : tie.Need-kind-requires-3 Inv-loop μ-loop
 kind-requires-3 c κs =
@@ -121,7 +176,11 @@ same-length-5 c =
 
 returns-5 : tie.Need-returns-5 Inv-loop μ-loop
 returns-5 c =
-    (passing-not _ _ _ (c .before .before .before .before .loop .inv .passed) (c .before .before .before .before .loop .inv .passing) (λ e. c .before .before .if1 .left (c .before .before .before .kind .ensures ∙ e)) (λ e. c .if6 .taken (c .before .kind3 .ensures ∙ e)), c .before .before .before .before .loop .inv .kept)
+    let at-kind3 = c .before in
+    let at-if1 = at-kind3 .before in
+    let at-kind = at-if1 .before in
+    let loop′ = at-kind .before .loop in
+    (passing-not _ _ _ (loop′ .inv .passed) (loop′ .inv .passing) (λ e. at-if1 .if1 .left (at-kind .kind .ensures ∙ e)) (λ e. c .if6 .taken (at-kind3 .kind3 .ensures ∙ e)), loop′ .inv .kept)
 
 same-length-6 : tie.Need-same-length-6 Inv-loop μ-loop
 same-length-6 c =

@@ -12,7 +12,11 @@ count-requires c κs =
 
 returns : tie.Need-returns
 returns c =
-    lambda-not-two (c .before .before .before .before .before .before .before .args .items .now) (c .before .before .before .before .before .before .before .args .words .now) (c .before .before .before .before .before .before .before .args .scope .now) (c .before .before .before .before .before .before .before .args .at) (c .before .before .before .before .before .before .before .pre .1 .0) (c .before .before .before .before .before .before .before .pre .0) _ (c .before .before .before .count .ensures) _ (c .before .before .if1 .taken) (c .before .lost .ensures) _ (c .begun .ensures)
+    let at-lost = c .before in
+    let at-if1 = at-lost .before in
+    let at-count = at-if1 .before in
+    let at-args = at-count .before .before .before .before in
+    lambda-not-two (at-args .args .items .now) (at-args .args .words .now) (at-args .args .scope .now) (at-args .args .at) (at-args .pre .1 .0) (at-args .pre .0) _ (at-count .count .ensures) _ (at-if1 .if1 .taken) (at-lost .lost .ensures) _ (c .begun .ensures)
 
 head-requires : tie.Need-head-requires
 head-requires c κs =
@@ -20,7 +24,11 @@ head-requires c κs =
 
 formals-requires : tie.Need-formals-requires
 formals-requires c κs =
-    (formals-held (c .before .before .before .before .before .before .before .before .args .items .now) (c .before .before .before .before .before .before .before .before .args .words .now) (c .before .before .before .before .before .before .before .before .args .scope .now) (c .before .before .before .before .before .before .before .before .args .at) (c .before .before .before .before .before .before .before .before .pre .1 .0) (c .before .before .before .before .before .before .before .before .pre .0) _ (c .before .before .before .before .count .ensures) (record { rank = 0; taken = 0 }) (c .before .before .before .if1 .left) _ (c .before .head .ensures), omega (arith, c .before .before .before .before .before .before .before .before .pre .1 .0, c .before .before .before .before .before .before .before .before .pre .1 .1, c .before .before .before .before .before .before .before .before .pre .1 .2, all-in _ _ (c .before .before .before .before .before .before .before .before .pre .0)))
+    let at-head = c .before in
+    let at-if1 = at-head .before .before in
+    let at-count = at-if1 .before in
+    let at-args = at-count .before .before .before .before in
+    (formals-held (at-args .args .items .now) (at-args .args .words .now) (at-args .args .scope .now) (at-args .args .at) (at-args .pre .1 .0) (at-args .pre .0) _ (at-count .count .ensures) (record { rank = 0; taken = 0 }) (at-if1 .if1 .left) _ (at-head .head .ensures), omega (arith, at-args .pre .1 .0, at-args .pre .1 .1, at-args .pre .1 .2, all-in _ _ (at-args .pre .0)))
 
 same-length : tie.Need-same-length
 same-length c =
@@ -28,7 +36,14 @@ same-length c =
 
 returns-2 : tie.Need-returns-2
 returns-2 c =
-    lambda-no-formals (c .before .before .before .before .before .before .before .before .before .before .before .before .before .before .before .args .items .now) (c .before .before .before .before .before .before .before .before .before .before .before .before .before .before .before .args .words .now) (c .before .before .before .before .before .before .before .before .before .before .before .before .before .before .before .args .scope .now) (c .before .before .before .before .before .before .before .before .before .before .before .before .before .before .before .args .at) (c .before .before .before .before .before .before .before .before .before .before .before .before .before .before .before .pre .1 .0) (c .before .before .before .before .before .before .before .before .before .before .before .before .before .before .before .pre .0) _ (c .before .before .before .before .before .before .before .before .before .before .before .count .ensures) _ (c .before .before .before .before .before .before .before .before .before .before .if1 .left) _ (c .before .before .before .before .before .before .before .before .head .ensures) _ _ _ (c .before .before .before .before .before .before .formals .ensures .0) (c .before .before .before .before .before .before .formals .ensures .1) (c .before .before .enum-told .given .1) (c .before .lost2 .ensures) _ (c .begun2 .ensures)
+    let at-lost2 = c .before in
+    let at-enum-told = at-lost2 .before in
+    let at-formals = at-enum-told .before .before .before .before in
+    let at-head = at-formals .before .before in
+    let at-if1 = at-head .before .before in
+    let at-count = at-if1 .before in
+    let at-args = at-count .before .before .before .before in
+    lambda-no-formals (at-args .args .items .now) (at-args .args .words .now) (at-args .args .scope .now) (at-args .args .at) (at-args .pre .1 .0) (at-args .pre .0) _ (at-count .count .ensures) _ (at-if1 .if1 .left) _ (at-head .head .ensures) _ _ _ (at-formals .formals .ensures .0) (at-formals .formals .ensures .1) (at-enum-told .enum-told .given .1) (at-lost2 .lost2 .ensures) _ (c .begun2 .ensures)
 
 tail-requires : tie.Need-tail-requires
 tail-requires c κs =
@@ -36,7 +51,14 @@ tail-requires c κs =
 
 add-t15 : tie.Need-add-t15
 add-t15 c =
-    omega (arith, body-room (c .before .before .before .before .before .before .before .before .before .before .before .before .before .before .before .before .args .items .now) (c .before .before .before .before .before .before .before .before .before .before .before .before .before .before .before .before .args .words .now) (c .before .before .before .before .before .before .before .before .before .before .before .before .before .before .before .before .args .scope .now) (c .before .before .before .before .before .before .before .before .before .before .before .before .before .before .before .before .args .at) (c .before .before .before .before .before .before .before .before .before .before .before .before .before .before .before .before .pre .1 .0) (c .before .before .before .before .before .before .before .before .before .before .before .before .before .before .before .before .pre .0) _ (c .before .before .before .before .before .before .before .before .before .before .before .before .count .ensures) (record { rank = 0; taken = 0 }) (c .before .before .before .before .before .before .before .before .before .before .before .if1 .left) _ (c .before .before .before .before .before .before .before .before .before .head .ensures) _ _ _ (c .before .before .before .before .before .before .before .formals .ensures .0) (c .before .before .before .before .before .before .before .formals .ensures .1) _ (c .before .before .before .n .given .1) _ (c .before .tail .ensures) .1, c .before .before .before .before .before .before .before .before .before .before .before .before .before .before .before .before .pre .1 .0, all-in _ _ (c .before .before .before .before .before .before .before .before .before .before .before .before .before .before .before .before .pre .0), c .before .before .before .before .before .before .before .before .before .before .before .before .before .before .before .before .good)
+    let at-tail = c .before in
+    let at-n = at-tail .before .before in
+    let at-formals = at-n .before .before .before .before in
+    let at-head = at-formals .before .before in
+    let at-if1 = at-head .before .before in
+    let at-count = at-if1 .before in
+    let at-args = at-count .before .before .before .before in
+    omega (arith, body-room (at-args .args .items .now) (at-args .args .words .now) (at-args .args .scope .now) (at-args .args .at) (at-args .pre .1 .0) (at-args .pre .0) _ (at-count .count .ensures) (record { rank = 0; taken = 0 }) (at-if1 .if1 .left) _ (at-head .head .ensures) _ _ _ (at-formals .formals .ensures .0) (at-formals .formals .ensures .1) _ (at-n .n .given .1) _ (at-tail .tail .ensures) .1, at-args .pre .1 .0, all-in _ _ (at-args .pre .0), at-args .good)
 
 same-length-2 : tie.Need-same-length-2
 same-length-2 c =
@@ -44,7 +66,16 @@ same-length-2 c =
 
 returns-3 : tie.Need-returns-3
 returns-3 c =
-    lambda-body (c .before .before .before .before .before .before .before .before .before .before .before .before .before .before .before .before .before .before .args .items .now) (c .before .before .before .before .before .before .before .before .before .before .before .before .before .before .before .before .before .before .args .words .now) (c .before .before .before .before .before .before .before .before .before .before .before .before .before .before .before .before .before .before .args .scope .now) (c .before .before .before .before .before .before .before .before .before .before .before .before .before .before .before .before .before .before .args .at) (c .before .before .before .before .before .before .before .before .before .before .before .before .before .before .before .before .before .before .pre .1 .0) (c .before .before .before .before .before .before .before .before .before .before .before .before .before .before .before .before .before .before .pre .0) _ (c .before .before .before .before .before .before .before .before .before .before .before .before .before .before .count .ensures) _ (c .before .before .before .before .before .before .before .before .before .before .before .before .before .if1 .left) _ (c .before .before .before .before .before .before .before .before .before .before .before .head .ensures) _ _ _ (c .before .before .before .before .before .before .before .before .before .formals .ensures .0) (c .before .before .before .before .before .before .before .before .before .formals .ensures .1) _ (c .before .before .before .before .before .n .given .1) _ (c .before .before .before .before .before .before .before .before .before .before .before .before .own .ensures) refl (c .before .takes .ensures) _ (c .before .before .before .tail .ensures) _ (c .begun3 .ensures)
+    let at-takes = c .before in
+    let at-tail = at-takes .before .before in
+    let at-n = at-tail .before .before in
+    let at-formals = at-n .before .before .before .before in
+    let at-head = at-formals .before .before in
+    let at-own = at-head .before in
+    let at-if1 = at-own .before in
+    let at-count = at-if1 .before in
+    let at-args = at-count .before .before .before .before in
+    lambda-body (at-args .args .items .now) (at-args .args .words .now) (at-args .args .scope .now) (at-args .args .at) (at-args .pre .1 .0) (at-args .pre .0) _ (at-count .count .ensures) _ (at-if1 .if1 .left) _ (at-head .head .ensures) _ _ _ (at-formals .formals .ensures .0) (at-formals .formals .ensures .1) _ (at-n .n .given .1) _ (at-own .own .ensures) refl (at-takes .takes .ensures) _ (at-tail .tail .ensures) _ (c .begun3 .ensures)
 
 pub lambda-spec : {M : Type 1} → statement M
 lambda-spec =

@@ -12,7 +12,10 @@ count-requires c κs =
 
 returns : tie.Need-returns
 returns c =
-    start-quoted _ _ _ _ (c .before .before .before .before .before .before .before .pre .1 .0) _ (c .before .before .before .if1 .taken) _ (c .before .before .count .ensures) (c .before .takes .ensures) _ (c .begun .ensures)
+    let at-takes = c .before in
+    let at-count = at-takes .before in
+    let at-if1 = at-count .before in
+    start-quoted _ _ _ _ (at-if1 .before .before .before .before .pre .1 .0) _ (at-if1 .if1 .taken) _ (at-count .count .ensures) (at-takes .takes .ensures) _ (c .begun .ensures)
 
 kind-requires : tie.Need-kind-requires
 kind-requires c κs =
@@ -20,7 +23,11 @@ kind-requires c κs =
 
 returns-2 : tie.Need-returns-2
 returns-2 c =
-    start-none _ _ _ _ (c .before .before .before .before .before .before .before .before .pre .1 .0) _ (c .before .before .before .before .if1 .left) _ (c .before .before .before .kind .ensures) (c .before .before .if2 .taken) (c .before .lost .ensures) _ (c .begun2 .ensures)
+    let at-lost = c .before in
+    let at-if2 = at-lost .before in
+    let at-kind = at-if2 .before in
+    let at-if1 = at-kind .before in
+    start-none _ _ _ _ (at-if1 .before .before .before .before .pre .1 .0) _ (at-if1 .if1 .left) _ (at-kind .kind .ensures) (at-if2 .if2 .taken) (at-lost .lost .ensures) _ (c .begun2 .ensures)
 
 head-requires : tie.Need-head-requires
 head-requires c κs =
@@ -36,23 +43,51 @@ tail-requires c κs =
 
 quotation-requires : tie.Need-quotation-requires
 quotation-requires c κs =
-    tail-held _ _ _ (c .before .before .before .before .before .kind .ensures) (c .before .before .before .before .if2 .left) (c .before .before .before .before .before .before .before .before .before .before .pre .0) _ (c .before .tail .ensures) .0
+    let at-tail = c .before in
+    let at-if2 = at-tail .before .before .before in
+    let at-kind = at-if2 .before in
+    tail-held _ _ _ (at-kind .kind .ensures) (at-if2 .if2 .left) (at-kind .before .before .before .before .before .pre .0) _ (at-tail .tail .ensures) .0
 
 returns-3 : tie.Need-returns-3
 returns-3 c =
-    start-quote _ _ _ _ (c .before .before .before .before .before .before .before .before .before .before .before .before .pre .1 .0) _ (c .before .before .before .before .before .before .before .before .if1 .left) _ (c .before .before .before .before .before .before .before .kind .ensures) (c .before .before .before .before .before .before .if2 .left) _ (c .before .before .before .before .before .head .ensures) _ (c .before .before .before .before .form .ensures) _ (c .before .before .before .tail .ensures) (c .before .before .if3 .taken) (c .before .before .before .before .before .before .before .before .before .before .before .before .pre .0) (c .before .quotation .ensures) _ (c .begun3 .ensures)
+    let at-quotation = c .before in
+    let at-if3 = at-quotation .before in
+    let at-tail = at-if3 .before in
+    let at-form = at-tail .before in
+    let at-head = at-form .before in
+    let at-if2 = at-head .before in
+    let at-kind = at-if2 .before in
+    let at-if1 = at-kind .before in
+    let pre′ = at-if1 .before .before .before .before .pre in
+    start-quote _ _ _ _ (pre′ .1 .0) _ (at-if1 .if1 .left) _ (at-kind .kind .ensures) (at-if2 .if2 .left) _ (at-head .head .ensures) _ (at-form .form .ensures) _ (at-tail .tail .ensures) (at-if3 .if3 .taken) (pre′ .0) (at-quotation .quotation .ensures) _ (c .begun3 .ensures)
 
 conditional-requires : tie.Need-conditional-requires
 conditional-requires c κs =
-    tail-held _ _ _ (c .before .before .before .before .before .before .kind .ensures) (c .before .before .before .before .before .if2 .left) (c .before .before .before .before .before .before .before .before .before .before .before .pre .0) _ (c .before .before .tail .ensures) .0
+    let at-tail = c .before .before in
+    let at-if2 = at-tail .before .before .before in
+    let at-kind = at-if2 .before in
+    tail-held _ _ _ (at-kind .kind .ensures) (at-if2 .if2 .left) (at-kind .before .before .before .before .before .pre .0) _ (at-tail .tail .ensures) .0
 
 returns-4 : tie.Need-returns-4
 returns-4 c =
-    start-if _ _ _ _ (c .before .before .before .before .before .before .before .before .before .before .before .before .before .pre .1 .0) _ (c .before .before .before .before .before .before .before .before .before .if1 .left) _ (c .before .before .before .before .before .before .before .before .kind .ensures) (c .before .before .before .before .before .before .before .if2 .left) _ (c .before .before .before .before .before .before .head .ensures) _ (c .before .before .before .before .before .form .ensures) _ (c .before .before .before .before .tail .ensures) (c .before .before .if4 .taken) (c .before .before .before .before .before .before .before .before .before .before .before .before .before .pre .0) (c .before .conditional .ensures) _ (c .begun4 .ensures)
+    let at-conditional = c .before in
+    let at-if4 = at-conditional .before in
+    let at-tail = at-if4 .before .before in
+    let at-form = at-tail .before in
+    let at-head = at-form .before in
+    let at-if2 = at-head .before in
+    let at-kind = at-if2 .before in
+    let at-if1 = at-kind .before in
+    let pre′ = at-if1 .before .before .before .before .pre in
+    start-if _ _ _ _ (pre′ .1 .0) _ (at-if1 .if1 .left) _ (at-kind .kind .ensures) (at-if2 .if2 .left) _ (at-head .head .ensures) _ (at-form .form .ensures) _ (at-tail .tail .ensures) (at-if4 .if4 .taken) (pre′ .0) (at-conditional .conditional .ensures) _ (c .begun4 .ensures)
 
 lambda-requires : tie.Need-lambda-requires
 lambda-requires c κs =
-    let t = tail-held _ _ _ (c .before .before .before .before .before .before .before .before .kind .ensures) (c .before .before .before .before .before .before .before .if2 .left) (c .before .before .before .before .before .before .before .before .before .before .before .before .before .pre .0) _ (c .before .before .before .before .tail .ensures) in (t .0, (omega (arith, c .before .before .before .before .before .before .before .before .before .before .before .before .before .pre .1 .0, t .1), c .before .before .before .before .before .before .before .before .before .before .before .before .before .pre .1 .1, c .before .before .before .before .before .before .before .before .before .before .before .before .before .pre .1 .2))
+    let at-tail = c .before .before .before .before in
+    let at-if2 = at-tail .before .before .before in
+    let at-kind = at-if2 .before in
+    let pre′ = at-kind .before .before .before .before .before .pre in
+    let t = tail-held _ _ _ (at-kind .kind .ensures) (at-if2 .if2 .left) (pre′ .0) _ (at-tail .tail .ensures) in (t .0, (omega (arith, pre′ .1 .0, t .1), pre′ .1 .1, pre′ .1 .2))
 
 same-length : tie.Need-same-length
 same-length c =
@@ -60,15 +95,39 @@ same-length c =
 
 returns-5 : tie.Need-returns-5
 returns-5 c =
-    start-lambda _ _ _ _ (c .before .before .before .before .before .before .before .before .before .before .before .before .before .before .before .before .pre .1 .0) (record { rank = 0; taken = 0 }) (c .before .before .before .before .before .before .before .before .before .before .before .before .if1 .left) _ (c .before .before .before .before .before .before .before .before .before .before .before .kind .ensures) (c .before .before .before .before .before .before .before .before .before .before .if2 .left) _ (c .before .before .before .before .before .before .before .before .before .head .ensures) _ (c .before .before .before .before .before .before .before .before .form .ensures) _ (c .before .before .before .before .before .before .before .tail .ensures) (c .before .before .before .before .if5 .taken) (c .before .before .before .before .before .before .before .before .before .before .before .before .before .before .before .before .pre .0) _ _ refl refl _ (c .before .before .lambda .ensures)
+    let at-lambda = c .before .before in
+    let at-if5 = at-lambda .before .before in
+    let at-tail = at-if5 .before .before .before in
+    let at-form = at-tail .before in
+    let at-head = at-form .before in
+    let at-if2 = at-head .before in
+    let at-kind = at-if2 .before in
+    let at-if1 = at-kind .before in
+    let pre′ = at-if1 .before .before .before .before .pre in
+    start-lambda _ _ _ _ (pre′ .1 .0) (record { rank = 0; taken = 0 }) (at-if1 .if1 .left) _ (at-kind .kind .ensures) (at-if2 .if2 .left) _ (at-head .head .ensures) _ (at-form .form .ensures) _ (at-tail .tail .ensures) (at-if5 .if5 .taken) (pre′ .0) _ _ refl refl _ (at-lambda .lambda .ensures)
 
 count-requires-2 : tie.Need-count-requires-2
 count-requires-2 c κs =
-    tail-held _ _ _ (c .before .before .before .before .before .before .before .kind .ensures) (c .before .before .before .before .before .before .if2 .left) (c .before .before .before .before .before .before .before .before .before .before .before .before .pre .0) _ (c .before .before .before .tail .ensures) .0
+    let at-tail = c .before .before .before in
+    let at-if2 = at-tail .before .before .before in
+    let at-kind = at-if2 .before in
+    tail-held _ _ _ (at-kind .kind .ensures) (at-if2 .if2 .left) (at-kind .before .before .before .before .before .pre .0) _ (at-tail .tail .ensures) .0
 
 returns-6 : tie.Need-returns-6
 returns-6 c =
-    start-application _ _ _ _ (c .before .before .before .before .before .before .before .before .before .before .before .before .before .before .before .pre .1 .0) _ (c .before .before .before .before .before .before .before .before .before .before .before .if1 .left) _ (c .before .before .before .before .before .before .before .before .before .before .kind .ensures) (c .before .before .before .before .before .before .before .before .before .if2 .left) _ (c .before .before .before .before .before .before .before .before .head .ensures) _ (c .before .before .before .before .before .before .before .form .ensures) _ (c .before .before .before .before .before .before .tail .ensures) (c .before .before .before .before .before .if3 .left) (c .before .before .before .before .if4 .left) (c .before .before .before .if5 .left) (c .before .before .before .before .before .before .before .before .before .before .before .before .before .before .before .pre .0) _ (c .before .before .count2 .ensures) (c .before .takes2 .ensures) _ (c .begun5 .ensures)
+    let at-takes2 = c .before in
+    let at-count2 = at-takes2 .before in
+    let at-if5 = at-count2 .before in
+    let at-if4 = at-if5 .before in
+    let at-if3 = at-if4 .before in
+    let at-tail = at-if3 .before in
+    let at-form = at-tail .before in
+    let at-head = at-form .before in
+    let at-if2 = at-head .before in
+    let at-kind = at-if2 .before in
+    let at-if1 = at-kind .before in
+    let pre′ = at-if1 .before .before .before .before .pre in
+    start-application _ _ _ _ (pre′ .1 .0) _ (at-if1 .if1 .left) _ (at-kind .kind .ensures) (at-if2 .if2 .left) _ (at-head .head .ensures) _ (at-form .form .ensures) _ (at-tail .tail .ensures) (at-if3 .if3 .left) (at-if4 .if4 .left) (at-if5 .if5 .left) (pre′ .0) _ (at-count2 .count2 .ensures) (at-takes2 .takes2 .ensures) _ (c .begun5 .ensures)
 
 pub list-spec : {M : Type 1} → statement M
 list-spec =

@@ -65,7 +65,8 @@ expression-claims t = (kind-reads.Asked, kind-reads.Learnt, head-reads.Asked, he
 
 all-loop-holds : (t : ℕ) → all-lts.Need-loop-holds (all-claims t) (all-at t) all.Post all-Inv-loop all-μ-loop
 all-loop-holds t c =
-    (c .before .before .before .before .before .before .pre .1 .0, walking-start _ _ _ _ (c .before .before .before .before .before .before .args .words .now) _ _ _ _ _, c .before .before .before .before .before .before .pre .1 .3, (λ k l. refl), refl, omega arith)
+    let at-args = c .before .before .before .before .before .before in
+    (at-args .pre .1 .0, walking-start _ _ _ _ (at-args .args .words .now) _ _ _ _ _, at-args .pre .1 .3, (λ k l. refl), refl, omega arith)
 
 all-kind-requires : (t : ℕ) → all-lts.Need-kind-requires (all-claims t) (all-at t) all.Post all-Inv-loop all-μ-loop
 all-kind-requires t c κs =
@@ -77,7 +78,8 @@ all-head-requires t c κs =
 
 all-mul-expression : (t : ℕ) → all-lts.Need-mul-expression (all-claims t) (all-at t) all.Post all-Inv-loop all-μ-loop
 all-mul-expression t c =
-    omega (arith, c .before .before .before .loop .inv .2 .within, c .before .before .before .before .before .before .before .before .before .before .good)
+    let at-loop = c .before .before .before in
+    omega (arith, at-loop .loop .inv .2 .within, at-loop .before .before .before .before .before .before .before .good)
 
 all-sub-expression : (t : ℕ) → all-lts.Need-sub-expression (all-claims t) (all-at t) all.Post all-Inv-loop all-μ-loop
 all-sub-expression t c =
@@ -93,11 +95,21 @@ all-part-expression-end t c =
 
 all-expression-requires : (t : ℕ) → all-lts.Need-expression-requires (all-claims t) (all-at t) all.Post all-Inv-loop all-μ-loop
 all-expression-requires t c κs =
-    let h = head-held _ _ _ (c .before .before .before .before .kind .ensures) (c .before .before .before .if1 .taken) (c .before .before .before .before .before .loop .inv .0) _ (c .before .before .head .ensures) in (omega (arith, c .before .before .before .before .before .before .before .before .before .before .before .before .pre .0, h .1, c .before .before .before .before .before .loop .inv .5, all-in _ _ (c .before .before .before .before .before .loop .inv .0)), (h .0, (omega (arith, c .before .before .before .before .before .before .before .before .before .before .before .before .pre .1 .1 .0, h .1, c .before .before .before .before .before .loop .inv .5), c .before .before .before .before .before .before .before .before .before .before .before .before .pre .1 .1 .1, omega (arith, c .before .before .before .before .before .before .before .before .before .before .before .before .pre .1 .1 .2, c .before .before .before .before .before .loop .inv .4)), c .before .before .before .before .before .before .before .before .before .before .before .before .pre .1 .2))
+    let at-head = c .before .before in
+    let at-if1 = at-head .before in
+    let at-kind = at-if1 .before in
+    let at-loop = at-kind .before in
+    let pre′ = at-loop .before .before .before .before .before .before .before .pre in
+    let h = head-held _ _ _ (at-kind .kind .ensures) (at-if1 .if1 .taken) (at-loop .loop .inv .0) _ (at-head .head .ensures) in (omega (arith, pre′ .0, h .1, at-loop .loop .inv .5, all-in _ _ (at-loop .loop .inv .0)), (h .0, (omega (arith, pre′ .1 .1 .0, h .1, at-loop .loop .inv .5), pre′ .1 .1 .1, omega (arith, pre′ .1 .1 .2, at-loop .loop .inv .4)), pre′ .1 .2))
 
 all-joined-requires : (t : ℕ) → all-lts.Need-joined-requires (all-claims t) (all-at t) all.Post all-Inv-loop all-μ-loop
 all-joined-requires t c κs =
-    (c .before .before .before .before .before .before .before .before .loop .inv .2 .within, next-within _ _ _ _ _ _ _ _ _ _ _ _ (c .before .before .before .before .before .before .before .before .loop .inv .1) _ (c .before .before .before .before .before .before .before .kind .ensures) (c .before .before .before .before .before .before .if1 .taken) _ (c .before .before .before .before .before .head .ensures) (c .before .before .before .before .before .before .before .before .loop .inv .2) _ (c .before .before .before .before .before .before .before .before .loop .inv .3) _ (rest-is (c .before .before .before .before .before .before .before .before .loop .found .taken) (c .before .before .before .before .before .before .before .before .before .before .before .before .before .before .before .args .words .now)) _ (c .before .before .expression .ensures .0) (head-held _ _ _ (c .before .before .before .before .before .before .before .kind .ensures) (c .before .before .before .before .before .before .if1 .taken) (c .before .before .before .before .before .before .before .before .loop .inv .0) _ (c .before .before .before .before .before .head .ensures) .0))
+    let at-expression = c .before .before in
+    let at-head = at-expression .before .before .before in
+    let at-if1 = at-head .before in
+    let at-kind = at-if1 .before in
+    let at-loop = at-kind .before in
+    (at-loop .loop .inv .2 .within, next-within _ _ _ _ _ _ _ _ _ _ _ _ (at-loop .loop .inv .1) _ (at-kind .kind .ensures) (at-if1 .if1 .taken) _ (at-head .head .ensures) (at-loop .loop .inv .2) _ (at-loop .loop .inv .3) _ (rest-is (at-loop .loop .found .taken) (at-loop .before .before .before .before .before .before .before .args .words .now)) _ (at-expression .expression .ensures .0) (head-held _ _ _ (at-kind .kind .ensures) (at-if1 .if1 .taken) (at-loop .loop .inv .0) _ (at-head .head .ensures) .0))
 
 all-tail-requires : (t : ℕ) → all-lts.Need-tail-requires (all-claims t) (all-at t) all.Post all-Inv-loop all-μ-loop
 all-tail-requires t c κs =
@@ -105,11 +117,20 @@ all-tail-requires t c κs =
 
 all-loop-less : (t : ℕ) → all-lts.Need-loop-less (all-claims t) (all-at t) all.Post all-Inv-loop all-μ-loop
 all-loop-less t c =
-    omega (arith, tail-held _ _ _ (c .before .before .before .before .before .before .before .before .before .kind .ensures) (c .before .before .before .before .before .before .before .before .if1 .taken) (c .before .before .before .before .before .before .before .before .before .before .loop .inv .0) _ (c .tail .ensures) .1, all-in _ _ (c .before .before .before .before .before .before .before .before .before .before .loop .inv .0))
+    let at-if1 = c .before .before .before .before .before .before .before .before in
+    let at-kind = at-if1 .before in
+    let loop′ = at-kind .before .loop in
+    omega (arith, tail-held _ _ _ (at-kind .kind .ensures) (at-if1 .if1 .taken) (loop′ .inv .0) _ (c .tail .ensures) .1, all-in _ _ (loop′ .inv .0))
 
 all-loop-again : (t : ℕ) → all-lts.Need-loop-again (all-claims t) (all-at t) all.Post all-Inv-loop all-μ-loop
 all-loop-again t c =
-    let n = tail-held _ _ _ (c .before .before .before .before .before .before .before .before .before .kind .ensures) (c .before .before .before .before .before .before .before .before .if1 .taken) (c .before .before .before .before .before .before .before .before .before .before .loop .inv .0) _ (c .tail .ensures) in (n .0, walking-next _ _ _ _ _ _ _ _ _ _ _ _ (c .before .before .before .before .before .before .before .before .before .before .loop .inv .1) _ (c .before .before .before .before .before .before .before .before .before .kind .ensures) (c .before .before .before .before .before .before .before .before .if1 .taken) _ (c .before .before .before .before .before .before .before .head .ensures) (c .before .before .before .before .before .before .before .before .before .before .loop .inv .2) _ (c .before .before .before .before .before .before .before .before .before .before .loop .inv .3) _ (rest-is (c .before .before .before .before .before .before .before .before .before .before .loop .found .taken) (c .before .before .before .before .before .before .before .before .before .before .before .before .before .before .before .before .before .args .words .now)) _ (c .before .before .before .before .expression .ensures .0) _ (c .before .joined .ensures) _ (c .tail .ensures), c .before .joined .ensures _ refl .1, (λ k l. c .before .before .before .before .expression .ensures .1 k l ∙ c .before .before .before .before .before .before .before .before .before .before .loop .inv .3 k l), c .before .before .before .before .expression .kept .1 .1 .1 .1 .1 .0 ∙ c .before .before .before .before .before .before .before .before .before .before .loop .inv .4, omega (arith, c .before .before .before .before .before .before .before .before .before .before .loop .inv .5, n .1))
+    let at-joined = c .before in
+    let at-expression = at-joined .before .before .before in
+    let at-head = at-expression .before .before .before in
+    let at-if1 = at-head .before in
+    let at-kind = at-if1 .before in
+    let at-loop = at-kind .before in
+    let n = tail-held _ _ _ (at-kind .kind .ensures) (at-if1 .if1 .taken) (at-loop .loop .inv .0) _ (c .tail .ensures) in (n .0, walking-next _ _ _ _ _ _ _ _ _ _ _ _ (at-loop .loop .inv .1) _ (at-kind .kind .ensures) (at-if1 .if1 .taken) _ (at-head .head .ensures) (at-loop .loop .inv .2) _ (at-loop .loop .inv .3) _ (rest-is (at-loop .loop .found .taken) (at-loop .before .before .before .before .before .before .before .args .words .now)) _ (at-expression .expression .ensures .0) _ (at-joined .joined .ensures) _ (c .tail .ensures), at-joined .joined .ensures _ refl .1, (λ k l. at-expression .expression .ensures .1 k l ∙ at-loop .loop .inv .3 k l), at-expression .expression .kept .1 .1 .1 .1 .1 .0 ∙ at-loop .loop .inv .4, omega (arith, at-loop .loop .inv .5, n .1))
 
 all-same-length : (t : ℕ) → all-lts.Need-same-length (all-claims t) (all-at t) all.Post all-Inv-loop all-μ-loop
 all-same-length t c =
@@ -129,7 +150,11 @@ expression-head-requires t c κs =
 
 expression-quoted-name-requires : (t : ℕ) → expression-lts.Need-quoted-name-requires (expression-claims t) (expression-at t) expression.Post
 expression-quoted-name-requires t c κs =
-    c .before .before .before .before .before .before .before .before .before .before .pre .1 .2 .0 _ (name-held _ _ _ (c .before .before .before .kind .ensures) (c .before .before .before .before .before .before .before .before .before .before .pre .1 .0) (c .before .before .if1 .taken) _ (c .before .head .ensures))
+    let at-head = c .before in
+    let at-if1 = at-head .before in
+    let at-kind = at-if1 .before in
+    let pre′ = at-kind .before .before .before .before .before .before .before .pre in
+    pre′ .1 .2 .0 _ (name-held _ _ _ (at-kind .kind .ensures) (pre′ .1 .0) (at-if1 .if1 .taken) _ (at-head .head .ensures))
 
 expression-returns : (t : ℕ) → expression-lts.Need-returns (expression-claims t) (expression-at t) expression.Post
 expression-returns t c =
@@ -137,11 +162,18 @@ expression-returns t c =
 
 expression-reference-requires : (t : ℕ) → expression-lts.Need-reference-requires (expression-claims t) (expression-at t) expression.Post
 expression-reference-requires t c κs =
-    (c .before .before .before .before .before .before .before .before .before .before .before .pre .1 .2, name-held _ _ _ (c .before .before .before .before .kind .ensures) (c .before .before .before .before .before .before .before .before .before .before .before .pre .1 .0) (c .before .before .before .if1 .taken) _ (c .before .before .head .ensures), omega (arith, c .before .before .before .before .before .before .before .before .before .before .before .pre .1 .1 .0, c .before .before .before .before .before .before .before .before .before .before .before .pre .1 .1 .1, c .before .before .before .before .before .before .before .before .before .before .before .pre .1 .1 .2, held-in _ _ (c .before .before .before .before .before .before .before .before .before .before .before .pre .1 .0)))
+    let at-head = c .before .before in
+    let at-if1 = at-head .before in
+    let at-kind = at-if1 .before in
+    let pre′ = at-kind .before .before .before .before .before .before .before .pre in
+    (pre′ .1 .2, name-held _ _ _ (at-kind .kind .ensures) (pre′ .1 .0) (at-if1 .if1 .taken) _ (at-head .head .ensures), omega (arith, pre′ .1 .1 .0, pre′ .1 .1 .1, pre′ .1 .1 .2, held-in _ _ (pre′ .1 .0)))
 
 expression-returns-2 : (t : ℕ) → expression-lts.Need-returns-2 (expression-claims t) (expression-at t) expression.Post
 expression-returns-2 t c =
-    (walks-name _ _ _ _ _ _ _ _ _ _ (c .before .before .before .before .before .kind .ensures) _ (c .before .before .before .before .if1 .taken) _ (c .before .before .before .head .ensures) _ (c .before .before .if2 .left) (c .reference .ensures), λ k l. refl)
+    let at-if2 = c .before .before in
+    let at-head = at-if2 .before in
+    let at-if1 = at-head .before in
+    (walks-name _ _ _ _ _ _ _ _ _ _ (at-if1 .before .kind .ensures) _ (at-if1 .if1 .taken) _ (at-head .head .ensures) _ (at-if2 .if2 .left) (c .reference .ensures), λ k l. refl)
 
 expression-head-requires-2 : (t : ℕ) → expression-lts.Need-head-requires-2 (expression-claims t) (expression-at t) expression.Post
 expression-head-requires-2 t c κs =
@@ -153,15 +185,29 @@ expression-tail-requires t c κs =
 
 expression-returns-3 : (t : ℕ) → expression-lts.Need-returns-3 (expression-claims t) (expression-at t) expression.Post
 expression-returns-3 t c =
-    (walks-constant _ _ _ _ _ _ _ _ _ _ (c .before .before .before .before .before .before .kind .ensures) _ (sym (c .before .before .before .before .is-list-kind .ensures) ∙ not-true _ (c .before .before .before .if3 .taken)) (c .before .before .before .before .before .if1 .left) _ _ (c .before .before .head2 .ensures) (c .before .tail .ensures) (c .constant .ensures), λ k l. refl)
+    let at-tail = c .before in
+    let at-head2 = at-tail .before in
+    let at-if3 = at-head2 .before in
+    let at-is-list-kind = at-if3 .before in
+    let at-if1 = at-is-list-kind .before in
+    (walks-constant _ _ _ _ _ _ _ _ _ _ (at-if1 .before .kind .ensures) _ (sym (at-is-list-kind .is-list-kind .ensures) ∙ not-true _ (at-if3 .if3 .taken)) (at-if1 .if1 .left) _ _ (at-head2 .head2 .ensures) (at-tail .tail .ensures) (c .constant .ensures), λ k l. refl)
 
 expression-list-requires : (t : ℕ) → expression-lts.Need-list-requires (expression-claims t) (expression-at t) expression.Post
 expression-list-requires t c κs =
-    (list-held (c .before .before .before .before .before .before .before .before .before .before .before .args .theirs .now) (c .before .before .before .before .before .before .before .before .before .before .before .args .ours .now) (c .before .before .before .before .before .before .before .before .before .before .before .args .operations .now) _ (c .before .before .before .before .before .before .before .before .before .before .before .args .words .now) (c .before .before .before .before .before .before .before .before .before .before .before .args .at .quoted) (c .before .before .before .before .before .before .before .before .before .before .before .args .scope .now) (c .before .before .before .before .before .before .before .before .before .before .before .args .at .top) _ _ (c .before .before .before .before .kind .ensures) (record { rank = 0; taken = 0 }) (sym (c .before .before .is-list-kind .ensures) ∙ not-false _ (c .before .if3 .left)) (c .before .before .before .before .before .before .before .before .before .before .before .pre .1 .0), c .before .before .before .before .before .before .before .before .before .before .before .pre .1 .1)
+    let at-if3 = c .before in
+    let at-is-list-kind = at-if3 .before in
+    let at-kind = at-is-list-kind .before .before in
+    let at-args = at-kind .before .before .before .before .before .before .before in
+    (list-held (at-args .args .theirs .now) (at-args .args .ours .now) (at-args .args .operations .now) _ (at-args .args .words .now) (at-args .args .at .quoted) (at-args .args .scope .now) (at-args .args .at .top) _ _ (at-kind .kind .ensures) (record { rank = 0; taken = 0 }) (sym (at-is-list-kind .is-list-kind .ensures) ∙ not-false _ (at-if3 .if3 .left)) (at-args .pre .1 .0), at-args .pre .1 .1)
 
 expression-all-requires : (t : ℕ) → expression-lts.Need-all-requires (expression-claims t) (expression-at t) expression.Post
 expression-all-requires t c κs =
-    let s = c .before .before .before .list .ensures in (omega (arith, c .before .before .before .before .before .before .before .before .before .before .before .before .before .before .before .pre .0, s .1 .later), (start-held (c .before .before .before .before .before .before .before .before .before .before .before .before .before .before .before .args .theirs .now) (c .before .before .before .before .before .before .before .before .before .before .before .before .before .before .before .args .ours .now) (c .before .before .before .before .before .before .before .before .before .before .before .before .before .before .before .args .operations .now) _ (c .before .before .before .before .before .before .before .before .before .before .before .before .before .before .before .args .words .now) (c .before .before .before .before .before .before .before .before .before .before .before .before .before .before .before .args .at .quoted) (c .before .before .before .before .before .before .before .before .before .before .before .before .before .before .before .args .scope .now) (c .before .before .before .before .before .before .before .before .before .before .before .before .before .before .before .args .at .top) _ _ (c .before .before .before .before .before .before .before .before .kind .ensures) (record { rank = 0; taken = 0 }) (sym (c .before .before .before .before .before .before .is-list-kind .ensures) ∙ not-false _ (c .before .before .before .before .before .if3 .left)) (c .before .before .before .before .before .before .before .before .before .before .before .before .before .before .before .args .at) refl refl refl _ _ s (c .before .before .before .before .before .before .before .before .before .before .before .before .before .before .before .pre .1 .0), (s .1 .room, c .before .before .before .before .before .before .before .before .before .before .before .before .before .before .before .pre .1 .1 .1, omega (arith, c .before .before .before .before .before .before .before .before .before .before .before .before .before .before .before .pre .1 .1 .2, c .before .before .before .list .kept .1 .1 .0)), c .before .before .before .before .before .before .before .before .before .before .before .before .before .before .before .pre .1 .2, s .1 .stands))
+    let at-list = c .before .before .before in
+    let at-if3 = at-list .before .before in
+    let at-is-list-kind = at-if3 .before in
+    let at-kind = at-is-list-kind .before .before in
+    let at-args = at-kind .before .before .before .before .before .before .before in
+    let s = at-list .list .ensures in (omega (arith, at-args .pre .0, s .1 .later), (start-held (at-args .args .theirs .now) (at-args .args .ours .now) (at-args .args .operations .now) _ (at-args .args .words .now) (at-args .args .at .quoted) (at-args .args .scope .now) (at-args .args .at .top) _ _ (at-kind .kind .ensures) (record { rank = 0; taken = 0 }) (sym (at-is-list-kind .is-list-kind .ensures) ∙ not-false _ (at-if3 .if3 .left)) (at-args .args .at) refl refl refl _ _ s (at-args .pre .1 .0), (s .1 .room, at-args .pre .1 .1 .1, omega (arith, at-args .pre .1 .1 .2, at-list .list .kept .1 .1 .0)), at-args .pre .1 .2, s .1 .stands))
 
 expression-same-length-2 : (t : ℕ) → expression-lts.Need-same-length-2 (expression-claims t) (expression-at t) expression.Post
 expression-same-length-2 t c =
@@ -169,7 +215,12 @@ expression-same-length-2 t c =
 
 expression-returns-4 : (t : ℕ) → expression-lts.Need-returns-4 (expression-claims t) (expression-at t) expression.Post
 expression-returns-4 t c =
-    (walks-list _ _ _ _ _ _ _ _ _ _ (c .before .before .before .before .before .before .before .before .before .before .before .kind .ensures) _ (sym (c .before .before .before .before .before .before .before .before .before .is-list-kind .ensures) ∙ not-false _ (c .before .before .before .before .before .before .before .before .if3 .left)) (c .before .before .before .before .before .before .before .before .before .before .before .before .before .before .before .before .before .before .args .at) refl refl refl _ _ (c .before .before .before .before .before .before .list .ensures) (c .before .before .all .ensures .0), λ k l. c .before .before .all .ensures .1 k (omega (arith, c .before .before .before .before .before .before .list .ensures .1 .more)) ∙ c .before .before .before .before .before .before .list .ensures .1 .kept k l)
+    let at-all = c .before .before in
+    let at-list = at-all .before .before .before .before in
+    let at-if3 = at-list .before .before in
+    let at-is-list-kind = at-if3 .before in
+    let at-kind = at-is-list-kind .before .before in
+    (walks-list _ _ _ _ _ _ _ _ _ _ (at-kind .kind .ensures) _ (sym (at-is-list-kind .is-list-kind .ensures) ∙ not-false _ (at-if3 .if3 .left)) (at-kind .before .before .before .before .before .before .before .args .at) refl refl refl _ _ (at-list .list .ensures) (at-all .all .ensures .0), λ k l. at-all .all .ensures .1 k (omega (arith, at-list .list .ensures .1 .more)) ∙ at-list .list .ensures .1 .kept k l)
 
 pub +all+expression-spec : {M : Type 1} → statement M
 +all+expression-spec =

@@ -12,17 +12,28 @@ returns c =
 
 any-name-requires : tie.Need-any-name-requires
 any-name-requires c κs =
-    (c .before .before .before .before .before .before .before .pre .0 .0 _ (c .before .before .before .before .before .before .before .pre .1), c .before .before .before .before .before .before .before .pre .0 .1)
+    let pre′ = c .before .before .before .before .before .before .before .pre in
+    (pre′ .0 .0 _ (pre′ .1), pre′ .0 .1)
 
 returns-2 : tie.Need-returns-2
 unfolding isOperation
 returns-2 c =
-    free-other _ _ _ _ _ (c .before .before .before .before .before .own .ensures) _ _ (c .before .before .before .before .is-place .ensures _ (c .before .before .before .before .before .own .ensures)) (c .before .before .before .if1 .left) _ (c .before .before .any-name .ensures) _ (c .before .if2 .taken) (c .lost .ensures)
+    let at-if2 = c .before in
+    let at-any-name = at-if2 .before in
+    let at-if1 = at-any-name .before in
+    let at-is-place = at-if1 .before in
+    let own′ = at-is-place .before .own in
+    free-other _ _ _ _ _ (own′ .ensures) _ _ (at-is-place .is-place .ensures _ (own′ .ensures)) (at-if1 .if1 .left) _ (at-any-name .any-name .ensures) _ (at-if2 .if2 .taken) (c .lost .ensures)
 
 returns-3 : tie.Need-returns-3
 unfolding isOperation
 returns-3 c =
-    free-open _ _ _ _ _ (c .before .before .before .before .before .own .ensures) _ _ (c .before .before .before .before .is-place .ensures _ (c .before .before .before .before .before .own .ensures)) (c .before .before .before .if1 .left) _ (c .before .before .any-name .ensures) _ (c .before .if2 .left) (c .lost2 .ensures)
+    let at-if2 = c .before in
+    let at-any-name = at-if2 .before in
+    let at-if1 = at-any-name .before in
+    let at-is-place = at-if1 .before in
+    let own′ = at-is-place .before .own in
+    free-open _ _ _ _ _ (own′ .ensures) _ _ (at-is-place .is-place .ensures _ (own′ .ensures)) (at-if1 .if1 .left) _ (at-any-name .any-name .ensures) _ (at-if2 .if2 .left) (c .lost2 .ensures)
 
 pub free-spec : {M : Type 1} → statement M
 free-spec =

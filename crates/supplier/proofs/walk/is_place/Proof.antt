@@ -16,11 +16,16 @@ returns-2 c =
 
 same-name-requires : tie.Need-same-name-requires
 same-name-requires c κs =
-    (c .before .before .before .before .before .before .before .before .before .pre .0 .0 _ (c .before .before .before .before .before .before .before .before .before .pre .1), subst (Slot _) (sym (c .small .ensures)) (c .before .before .before .before .before .before .before .before .before .pre .0 .1 _ (c .before .before .if2 .left)))
+    let at-if2 = c .before .before in
+    let pre′ = at-if2 .before .before .before .before .before .before .before .pre in
+    (pre′ .0 .0 _ (pre′ .1), subst (Slot _) (sym (c .small .ensures)) (pre′ .0 .1 _ (at-if2 .if2 .left)))
 
 returns-3 : tie.Need-returns-3
 returns-3 c =
-    λ ws f. place-is _ _ _ ws _ f _ _ (c .before .before .before .before .wide .ensures) (c .before .before .before .before .before .if1 .left) (c .before .before .before .if2 .left) _ (c .before .small .ensures) _ (c .same-name .ensures)
+    let at-small = c .before in
+    let at-if2 = at-small .before .before in
+    let at-wide = at-if2 .before in
+    λ ws f. place-is _ _ _ ws _ f _ _ (at-wide .wide .ensures) (at-wide .before .if1 .left) (at-if2 .if2 .left) _ (at-small .small .ensures) _ (c .same-name .ensures)
 
 pub is-place-spec : {M : Type 1} → statement M
 is-place-spec =

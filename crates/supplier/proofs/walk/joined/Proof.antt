@@ -14,11 +14,15 @@ returns-2 c =
 
 add-t5 : tie.Need-add-t5
 add-t5 c =
-    omega (arith, c .before .before .before .before .before .before .before .pre .0, c .before .before .before .before .before .before .before .pre .1, c .before .before .before .before .before .before .before .fits)
+    let at-fits = c .before .before .before .before .before .before .before in
+    omega (arith, at-fits .pre .0, at-fits .pre .1, at-fits .fits)
 
 returns-3 : tie.Need-returns-3
 returns-3 c =
-    joined-same _ _ _ (c .before .before .if2 .left) (c .before .before .before .before .if1 .left) (c .before .before .before .before .before .before .before .pre .0) (c .before .before .before .before .before .before .before .pre .1)
+    let at-if2 = c .before .before in
+    let at-if1 = at-if2 .before .before in
+    let pre′ = at-if1 .before .before .before .pre in
+    joined-same _ _ _ (at-if2 .if2 .left) (at-if1 .if1 .left) (pre′ .0) (pre′ .1)
 
 pub joined-spec : {M : Type 1} → statement M
 joined-spec =

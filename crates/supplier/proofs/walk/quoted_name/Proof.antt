@@ -12,7 +12,10 @@ returns c =
 
 returns-2 : tie.Need-returns-2
 returns-2 c =
-    λ operations. quoted-unnamed _ _ operations _ _ (c .before .before .before .before .before .before .own .ensures) _ _ (c .before .before .before .wide .ensures) (sym (c .before .before .has-name .ensures) ∙ not-true _ (c .before .if2 .taken)) _ (c .lost2 .ensures)
+    let at-if2 = c .before in
+    let at-has-name = at-if2 .before in
+    let at-wide = at-has-name .before in
+    λ operations. quoted-unnamed _ _ operations _ _ (at-wide .before .before .before .own .ensures) _ _ (at-wide .wide .ensures) (sym (at-has-name .has-name .ensures) ∙ not-true _ (at-if2 .if2 .taken)) _ (c .lost2 .ensures)
 
 same-name-requires : tie.Need-same-name-requires
 same-name-requires c κs =
@@ -20,11 +23,19 @@ same-name-requires c κs =
 
 returns-3 : tie.Need-returns-3
 returns-3 c =
-    λ operations. quoted-same _ _ operations _ _ (c .before .before .before .before .before .before .before .own .ensures) _ _ (c .before .before .before .before .wide .ensures) (c .before .before .before .before .before .if1 .left) (sym (c .before .before .before .has-name .ensures) ∙ not-false _ (c .before .before .if2 .left)) (sym (c .before .same-name .ensures) ∙ c .if3 .taken)
+    let at-same-name = c .before in
+    let at-if2 = at-same-name .before in
+    let at-has-name = at-if2 .before in
+    let at-wide = at-has-name .before in
+    let at-if1 = at-wide .before in
+    λ operations. quoted-same _ _ operations _ _ (at-if1 .before .before .own .ensures) _ _ (at-wide .wide .ensures) (at-if1 .if1 .left) (sym (at-has-name .has-name .ensures) ∙ not-false _ (at-if2 .if2 .left)) (sym (at-same-name .same-name .ensures) ∙ c .if3 .taken)
 
 returns-4 : tie.Need-returns-4
 returns-4 c =
-    λ operations. quoted-other _ _ operations _ _ (c .before .before .before .before .before .before .before .before .own .ensures) _ _ (c .before .before .before .before .before .wide .ensures) (sym (c .before .before .same-name .ensures) ∙ c .before .if3 .left) _ (c .lost3 .ensures)
+    let at-if3 = c .before in
+    let at-same-name = at-if3 .before in
+    let at-wide = at-same-name .before .before .before in
+    λ operations. quoted-other _ _ operations _ _ (at-wide .before .before .before .own .ensures) _ _ (at-wide .wide .ensures) (sym (at-same-name .same-name .ensures) ∙ at-if3 .if3 .left) _ (c .lost3 .ensures)
 
 pub quoted-name-spec : {M : Type 1} → statement M
 quoted-name-spec =

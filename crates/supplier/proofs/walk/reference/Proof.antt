@@ -14,7 +14,8 @@ innermost-requires c κs =
 
 free-requires : tie.Need-free-requires
 free-requires c κs =
-    (c .before .before .before .before .before .before .before .before .pre .0, c .before .before .before .before .before .before .before .before .pre .1)
+    let pre′ = c .before .before .before .before .before .before .before .before .pre in
+    (pre′ .0, pre′ .1)
 
 returns-2 : tie.Need-returns-2
 returns-2 c =
@@ -26,7 +27,10 @@ sub-variable c =
 
 variable-requires : tie.Need-variable-requires
 variable-requires c κs =
-    omega (arith, c .before .before .before .before .before .before .before .before .pre .2, reference-within (c .before .before .before .before .before .before .before .before .args .theirs .now) (c .before .before .before .before .before .before .before .before .args .ours .now) (c .before .before .before .before .before .before .before .before .args .operations .now) (c .before .before .before .before .before .before .before .before .args .words .now) (c .before .before .before .before .before .before .before .before .args .scope .now) (c .before .before .before .before .before .before .before .before .args .top) (c .before .before .before .before .before .before .before .before .args .n) (record { rank = 0; taken = 0 }) (c .before .before .if1 .left) _ (c .before .innermost .ensures) (c .if2 .left))
+    let at-innermost = c .before in
+    let at-if1 = at-innermost .before in
+    let at-args = at-if1 .before .before .before .before .before .before in
+    omega (arith, at-args .pre .2, reference-within (at-args .args .theirs .now) (at-args .args .ours .now) (at-args .args .operations .now) (at-args .args .words .now) (at-args .args .scope .now) (at-args .args .top) (at-args .args .n) (record { rank = 0; taken = 0 }) (at-if1 .if1 .left) _ (at-innermost .innermost .ensures) (c .if2 .left))
 
 returns-3 : tie.Need-returns-3
 returns-3 c =
