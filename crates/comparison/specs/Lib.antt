@@ -19,3 +19,4 @@ pub mod WrittenLaws
 pub mod Said
 pub mod ClosedLaws
 pub mod Yes
+pub mod Call
