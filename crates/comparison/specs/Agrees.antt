@@ -7,9 +7,9 @@ use Prim.Native.Nat.{ℕ, suc}
 use lib.Dec.{eqb}
 use lib.ListN.{length, getD}
 use Rattle.words.specs.Lists.{equal}
-use Rattle.datum.specs.Constant.{Constant}
+use Rattle.datum.specs.Constant.{matches}
 use Rattle.datum.specs.Datum.{Datum, constantD, nameD, listD, Data, noneD, moreD}
-use Rattle.core_term.specs.Term.{variableC, operationC, datumC, ifC, lambdaC, applicationC, noneC, moreC, Plain, Plains}
+use Rattle.core_term.specs.Term.{Term, Terms, variableC, operationC, datumC, ifC, lambdaC, applicationC, noneC, moreC}
 use Rattle.comparison.specs.Expression.{Expression, referenceE, datumE, ifE, lambdaE, applicationE, Expressions, noneE, moreE}
 
 -- ---- scopes
@@ -28,10 +28,10 @@ unfoldable pub bind : List ℕ → ℕ → Scope → Scope
 bind [] v scope = scope
 bind (n ∷ ns) v scope = bind ns (suc v) ((n, v) ∷ scope)
 
--- ---- what a term is
+-- ---- what a term is, whatever is said of its variables
 
-module _ {A : Type 0} (no : A) where
-  unfoldable pub onVariable : (ℕ → A) → Plain → A
+module _ {A F : Type 0} (no : A) where
+  unfoldable pub onVariable : (ℕ → A) → Term F → A
   onVariable f (variableC v) = f v
   onVariable f (operationC p) = no
   onVariable f (datumC d) = no
@@ -39,7 +39,7 @@ module _ {A : Type 0} (no : A) where
   onVariable f (lambdaC v fs x) = no
   onVariable f (applicationC h ts) = no
 
-  unfoldable pub onOperation : (ℕ → A) → Plain → A
+  unfoldable pub onOperation : (ℕ → A) → Term F → A
   onOperation f (variableC v) = no
   onOperation f (operationC p) = f p
   onOperation f (datumC d) = no
@@ -47,7 +47,7 @@ module _ {A : Type 0} (no : A) where
   onOperation f (lambdaC v fs x) = no
   onOperation f (applicationC h ts) = no
 
-  unfoldable pub onDatum : (Datum → A) → Plain → A
+  unfoldable pub onDatum : (Datum → A) → Term F → A
   onDatum f (variableC v) = no
   onDatum f (operationC p) = no
   onDatum f (datumC d) = f d
@@ -55,7 +55,7 @@ module _ {A : Type 0} (no : A) where
   onDatum f (lambdaC v fs x) = no
   onDatum f (applicationC h ts) = no
 
-  unfoldable pub onIf : (Plain → Plain → Plain → A) → Plain → A
+  unfoldable pub onIf : (Term F → Term F → Term F → A) → Term F → A
   onIf f (variableC v) = no
   onIf f (operationC p) = no
   onIf f (datumC d) = no
@@ -64,7 +64,7 @@ module _ {A : Type 0} (no : A) where
   onIf f (applicationC h ts) = no
 
   -- a lambda's first variable, how many, and its body
-  unfoldable pub onLambda : (ℕ → ℕ → Plain → A) → Plain → A
+  unfoldable pub onLambda : (ℕ → ℕ → Term F → A) → Term F → A
   onLambda f (variableC v) = no
   onLambda f (operationC p) = no
   onLambda f (datumC d) = no
@@ -72,7 +72,7 @@ module _ {A : Type 0} (no : A) where
   onLambda f (lambdaC v fs x) = f v (length fs) x
   onLambda f (applicationC h ts) = no
 
-  unfoldable pub onApplication : (Plain → Plains → A) → Plain → A
+  unfoldable pub onApplication : (Term F → Terms F → A) → Term F → A
   onApplication f (variableC v) = no
   onApplication f (operationC p) = no
   onApplication f (datumC d) = no
@@ -82,16 +82,12 @@ module _ {A : Type 0} (no : A) where
 
 -- ---- agreement
 
--- a decimal has its places: 0.80 is not 0.8
-unfoldable pub sameConstant : Constant → Constant → Bool
-sameConstant a b = eqb (a .kind) (b .kind) && (eqb (a .first) (b .first) && eqb (a .second) (b .second))
-
 -- how each side spells its names, and the operations in the order of their places
 module _ (theirs ours : ℕ → List ℕ) (operations : List (List ℕ)) where
-  -- quoted names by spelling
+  -- quoted names by spelling; a decimal has its places: 0.80 is not 0.8
   unfoldable mutual
     pub sameDatum : Datum → Datum → Bool
-    sameDatum (constantD a) (constantD b) = sameConstant a b
+    sameDatum (constantD a) (constantD b) = matches a b
     sameDatum (constantD a) (nameD k) = false
     sameDatum (constantD a) (listD es) = false
     sameDatum (nameD n) (constantD b) = false
@@ -108,19 +104,19 @@ module _ (theirs ours : ℕ → List ℕ) (operations : List (List ℕ)) where
     sameData (moreD d ds) (moreD e es) = sameDatum d e && sameData ds es
 
   -- a name is the variable that it means, or, where no formal has it, an operation of this spelling
-  unfoldable pub sameName : ℕ → Option ℕ → Plain → Bool
+  unfoldable pub sameName : {F : Type 0} → ℕ → Option ℕ → Term F → Bool
   sameName n (some v) = onVariable false (eqb v)
   sameName n none = onOperation false (λ p. equal (theirs n) (getD operations p []))
 
   unfoldable mutual
-    pub agrees : Scope → Expression → Plain → Bool
+    pub agrees : {F : Type 0} → Scope → Expression → Term F → Bool
     agrees scope (referenceE n) = sameName n (meant n scope)
     agrees scope (datumE d) = onDatum false (sameDatum d)
     agrees scope (ifE x y z) = onIf false (λ a b c. agrees scope x a && (agrees scope y b && agrees scope z c))
     agrees scope (lambdaE ns x) = onLambda false (λ v count a. eqb (length ns) count && agrees (bind ns v scope) x a)
     agrees scope (applicationE h xs) = onApplication false (λ g ts. agrees scope h g && agreeAll scope xs ts)
 
-    pub agreeAll : Scope → Expressions → Plains → Bool
+    pub agreeAll : {F : Type 0} → Scope → Expressions → Terms F → Bool
     agreeAll scope noneE noneC = true
     agreeAll scope noneE (moreC t ts) = false
     agreeAll scope (moreE x xs) noneC = false

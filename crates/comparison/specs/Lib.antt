@@ -3,6 +3,7 @@ pub mod Expression
 pub mod Grammar
 pub mod Closed
 pub mod Agrees
+pub mod Heedless
 pub mod Compare
 pub mod Rows
 pub mod Same
@@ -18,3 +19,4 @@ pub mod WrittenLaws
 pub mod Said
 pub mod ClosedLaws
 pub mod Yes
+pub mod Call

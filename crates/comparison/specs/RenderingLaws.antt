@@ -10,11 +10,11 @@ use Rattle.words.specs.ListLaws.{equal-refl}
 use Rattle.words.specs.Each.{Each, noneOf, also}
 use Rattle.words.specs.Lists.{equal}
 use Rattle.words.specs.TestLaws.{and-both}
-use Rattle.datum.specs.Constant.{Constant}
+use Rattle.datum.specs.Constant.{Constant, matches}
 use Rattle.datum.specs.Datum.{Datum, Data}
 use Rattle.core_term.specs.Term.{Plain, Plains}
 use Rattle.comparison.specs.Closed.{inside}
-use Rattle.comparison.specs.Agrees.{Scope, meant, bind, sameConstant, sameDatum, sameData, agrees}
+use Rattle.comparison.specs.Agrees.{Scope, meant, bind, sameDatum, sameData, agrees}
 use Rattle.comparison.specs.Same as S
 use Rattle.comparison.specs.Same.{Same, SameAll}
 use Rattle.comparison.specs.SameLaws.{same-agrees}
@@ -26,8 +26,8 @@ use Rattle.comparison.specs.Rendering.{Choice, renderDatum, renderData, 
 pub equal-is : (cs ds : List ℕ) → cs ≡ ds → equal cs ds ≡ true
 equal-is cs ds e = subst (λ l. equal cs l ≡ true) e (equal-refl cs)
 
-pub constant-self : (a : Constant) → sameConstant a a ≡ true
-unfolding sameConstant
+pub constant-self : (a : Constant) → matches a a ≡ true
+unfolding matches
 constant-self a = and-both _ _ (eq-eqb (a .kind) (a .kind) refl) (and-both _ _ (eq-eqb (a .first) (a .first) refl) (eq-eqb (a .second) (a .second) refl))
 
 numbers-length : (v k : ℕ) → length (numbers v k) ≡ k

@@ -9,6 +9,7 @@ use Rattle.words.specs.Options as Options
 use Rattle.words.specs.Tables as Tables
 use Rattle.words.specs.Limits.{itemWordsLeast, nameBytesLeast, filingFuel, filingWork, filingCore}
 use Rattle.words.specs.Text.{bytes}
+use Rattle.datum.specs.Constant.{matches}
 use Rattle.datum.specs.NameTable as NameTable
 use Rattle.reading.specs.Elements.{Answer, got, refusedFor}
 use Rattle.reading.specs.Read.{Recipe, elementsOf, readElements, itemWords, nameBytes}
@@ -30,7 +31,7 @@ unfolding
     Grammar.conditional Grammar.formals Grammar.withBody Grammar.applied Grammar.headed Grammar.expressionOf
     Closed.inside Closed.closed
     Agrees.meant Agrees.bind Agrees.onVariable Agrees.onOperation Agrees.onDatum Agrees.onIf Agrees.onLambda Agrees.onApplication
-    Agrees.sameConstant Agrees.sameDatum Agrees.sameName Agrees.agrees
+    matches Agrees.sameDatum Agrees.sameName Agrees.agrees
     Compare.decided Compare.held Compare.require Compare.spelledOperations Compare.ourTerm Compare.withTerm Compare.comparison Compare.compare
 called = Compare.compare
 

@@ -33,12 +33,12 @@ use Rattle.comparison.specs.ClosedLaws.{agrees-closed}
 
 -- ---- verdicts differ
 
-abbrev code : Verdict → ℕ
+abbrev pub code : Verdict → ℕ
 code yes = 0
 code no = 1
 code (refusedOn g) = 2
 
-not-yes : {A : Type 0} {v : Verdict} → v ≡ yes → (code v ≡ 0 → ⊥) → A
+pub not-yes : {A : Type 0} {v : Verdict} → v ≡ yes → (code v ≡ 0 → ⊥) → A
 not-yes e f = absurd (f (ap code e))
 
 module _ (ours : ℕ → List ℕ) (operations : List (List ℕ)) (t : Plain) (r : Recipe) where

@@ -17,13 +17,13 @@ use Rattle.datum.specs.Datum.{Datum, constantD, nameD, listD, Data, noneD, more
 use Rattle.recipe.specs.Table.{kindAt}
 use Rattle.recipe.specs.TreeFrom.{headAt, tailAt}
 use Rattle.comparison.specs.Grammar.{isFree, distinct, areFormals, names, after, formals}
-use Rattle.comparison.specs.Closed.{inside}
+use Rattle.comparison.specs.Agrees.{bind}
 use Rattle.supplier.specs.declared.grammar.Bound.the-variants.{Formals}
 use Rattle.supplier.specs.Items.{DatumAt, Held}
 use Rattle.supplier.specs.ItemsLaws.{as-datum, pair-datum, name-datum, empty-datum, name-kind, none-is, more-is, as-list, datum-in, ListAt}
-use Rattle.supplier.specs.Scope.{round, innermost, Kept}
-use Rattle.supplier.specs.ScopeLaws.{found-past, none-past, Own, own-round, own-more, kept-set, kept-round}
-use Rattle.supplier.specs.Judged.{FormalsAre}
+use Rattle.supplier.specs.Scope.{nameIn, scopeOf, innermost, Kept}
+use Rattle.supplier.specs.ScopeLaws.{found-past, none-past, Own, own-name, own-scope, own-more, kept-set, kept-scope}
+use Rattle.supplier.specs.Forms.{FormalsAre}
 
 -- the names of a list, where it is one of names
 unfoldable pub namesIn : Datum → Option (List ℕ)
@@ -190,20 +190,20 @@ module _ (ws : List ℕ) (i j : ℕ) (ps : List ℕ) (p : Passing ws i j ps) whe
 
 -- ---- the walk with its scope
 
-pub record Taking (ws : List ℕ) (i : ℕ) (before : List ℕ) (top : ℕ) (scope : List ℕ) (j n : ℕ) : Type 0 where
+pub record Taking (ws : List ℕ) (i : ℕ) (before : List ℕ) (top v : ℕ) (scope : List ℕ) (j n : ℕ) : Type 0 where
   pub held : Held ws j
   pub passed : List ℕ
   pub passing : Passing ws i j passed
   pub count : n ≡ length passed
   pub few : n ≤ formalsMost
   pub good : areFormals passed ≡ true
-  pub own : Own scope top passed
+  pub own : Own scope top v passed
   pub kept : Kept top before scope
   pub sized : length scope ≡ length before
 
-pub taking-start : (ws : List ℕ) (i : ℕ) (scope : List ℕ) (top : ℕ) → Held ws i → Taking ws i scope top scope i 0
+pub taking-start : (ws : List ℕ) (i : ℕ) (scope : List ℕ) (top v : ℕ) → Held ws i → Taking ws i scope top v scope i 0
 unfolding areFormals allOf distinct
-taking-start ws i scope top h = record {
+taking-start ws i scope top v h = record {
   held = h;
   passed = [];
   passing = passing-start ws i;
@@ -215,7 +215,7 @@ taking-start ws i scope top h = record {
   sized = refl;
 }
 
-module _ (ws : List ℕ) (i : ℕ) (before : List ℕ) (top : ℕ) (scope : List ℕ) (j n : ℕ) (t : Taking ws i before top scope j n) where
+module _ (ws : List ℕ) (i : ℕ) (before : List ℕ) (top v : ℕ) (scope : List ℕ) (j n : ℕ) (t : Taking ws i before top v scope j n) where
   pub taking-in : 3 * j + 2 < length ws
   taking-in = datum-in ws j (t .held .0) (t .held .1)
 
@@ -243,13 +243,13 @@ module _ (ws : List ℕ) (i : ℕ) (before : List ℕ) (top : ℕ) (scope : List
             let p = found-past name scope top (top + n) l in
             let s : top + (p .0 - top) ≡ p .0 = omega (arith, p .1 .0) in
             let u : p .0 - top < length (t .passed) = omega (arith, p .1 .0, p .1 .1, t .count) in
-            taking-none (formals-twice (t .passed) name (p .0 - top) u (sym (t .own (p .0 - top) u) ∙ ap (λ x. getD scope x 0) s ∙ p .1 .2))
+            taking-none (formals-twice (t .passed) name (p .0 - top) u (sym (own-name scope top v (t .passed) (t .own) (p .0 - top) u) ∙ ap (nameIn scope) s ∙ p .1 .2))
 
         pub taking-next : 3 ≤ name → innermost name scope (top + n) ≤ top → (n ≡ 8 → ⊥) → top + 8 ≤ length before → (next : ℕ) → next ≡ tailAt ws j
-            → Taking ws i before top (set scope (top + n) name) next (n + 1)
-        taking-next l b c r next x =
+            → (w : ℕ) → w ≡ v → Taking ws i before top v (set scope (top + n) (namesMost * (w + n) + name)) next (n + 1)
+        taking-next l b c r next x w y =
             let few : n < 8 = omega (arith, t .few, c) in
-            let far : (y : ℕ) → y < length (t .passed) → getD (t .passed) y 0 ≡ name → ⊥ = λ y h q. none-past name scope top (top + n) b (top + y) (omega arith) (omega (arith, t .count)) (t .own y h ∙ q) in
+            let far : (y : ℕ) → y < length (t .passed) → getD (t .passed) y 0 ≡ name → ⊥ = λ y h q. none-past name scope top (top + n) b (top + y) (omega arith) (omega (arith, t .count)) (own-name scope top v (t .passed) (t .own) y h ∙ q) in
             let q = taking-pair .pair in
             record {
               held = (listD (q .rest), subst (λ y. DatumAt ws y (listD (q .rest))) (sym x) (as-datum ws (tailAt ws j) (q .rest) (q .tail)));
@@ -258,9 +258,9 @@ module _ (ws : List ℕ) (i : ℕ) (before : List ℕ) (top : ℕ) (scope : List
               count = omega (arith, t .count, length-append (t .passed) (name ∷ []));
               few = omega arith;
               good = formals-more (t .passed) (t .good) name l far (omega (arith, t .count));
-              own = own-more (t .passed) name top n scope (t .count) (omega (arith, t .sized)) (t .own);
-              kept = kept-set top n name before scope (t .kept);
-              sized = length-set scope (top + n) name ∙ t .sized;
+              own = subst (λ u. Own (set scope (top + n) (namesMost * (u + n) + name)) top v (t .passed ++ (name ∷ []))) (sym y) (own-more (t .passed) name top v n scope (t .count) (omega (arith, t .sized)) taking-small (t .own));
+              kept = kept-set top n (namesMost * (w + n) + name) before scope (t .kept);
+              sized = length-set scope (top + n) (namesMost * (w + n) + name) ∙ t .sized;
             }
 
   -- there are eight already
@@ -270,10 +270,10 @@ module _ (ws : List ℕ) (i : ℕ) (before : List ℕ) (top : ℕ) (scope : List
       (λ q. taking-none k (headAt ws j) refl (eqb-true _ 3 q) (headAt ws (headAt ws j)) refl (formals-many (t .passed) (headAt ws (headAt ws j)) (sym (t .count) ∙ e)))
       (λ q. passing-other ws i j (t .passed) (t .passing) (headAt ws j) k refl (eqb-false _ 3 q))
 
-  pub taking-end : kindAt ws j ≡ 0 → (d : Datum) → DatumAt ws i d → FormalsAre d top before scope (Formals n)
+  pub taking-end : kindAt ws j ≡ 0 → (d : Datum) → DatumAt ws i d → FormalsAre d top v before scope (Formals n)
   taking-end k d h = (
     t .passed,
     passing-end ws i j (t .passed) (t .passing) k (t .good) d h,
     t .count,
-    ap (λ x. round scope (top + x)) (t .count) ∙ own-round (t .passed) top scope (t .own) ∙ ap (inside (t .passed)) (kept-round top before scope (t .kept)),
+    ap (λ x. scopeOf scope (top + x)) (t .count) ∙ own-scope (t .passed) top v scope (t .own) ∙ ap (bind (t .passed) v) (kept-scope top before scope (t .kept)),
   )

@@ -7,11 +7,13 @@ use Prim.Native.Nat.{ℕ, _*_, _-_, _≤_, _<_}
 use native.Mathlib.Omega.{arith}
 use lib.ListN.{length, take, replicate, length-append}
 use lib.Seq.{take-at, length-take-le}
-use Rattle.words.specs.Limits.{namesMost}
-use Rattle.words.specs.Lists.{allOf}
-use Rattle.words.specs.ListLaws.{never}
+use borrow.Author.Tests.{le-leb, lt-leb, leb-true, leb-false}
+use Rattle.words.specs.Limits.{namesMost, itemWordsLeast}
+use Rattle.words.specs.Lists.{within, allOf, anyOf, equal}
+use Rattle.words.specs.ListLaws.{either, never}
 use Rattle.words.specs.Tables.{Stage, filled, leftAt}
 use Rattle.words.specs.TableLaws.{zeros-left}
+use Rattle.words.specs.TestLaws.{or-left, or-right, or-none, within-is, outside-below}
 use Rattle.datum.specs.Datum.{dataItems}
 use Rattle.datum.specs.NameTable.{nameAt, hasName}
 use Rattle.reading.specs.Elements.{Answer, got, refusedFor}
@@ -23,6 +25,7 @@ use Rattle.reader.specs.declared.Reading.the-variants as RV
 use Rattle.reader.specs.Served as R
 use Rattle.recipe.specs.Table.{isLayout, treeOf}
 use Rattle.core_term.specs.Term.{Plain}
+use Rattle.core_term.specs.Every.{every}
 use Rattle.core_term.specs.Words.{encode}
 use Rattle.core_term.specs.Check.{termOf, isSome, isTerm}
 use Rattle.core_term.specs.CheckLaws.{isTerm-some}
@@ -33,8 +36,8 @@ use Rattle.supplier.specs.declared.Comparison.{Comparison}
 use Rattle.supplier.specs.declared.Comparison.the-variants.{Refused}
 use Rattle.supplier.specs.Names.{Slot}
 use Rattle.supplier.specs.Items.{DatumAt, Held}
-use Rattle.supplier.specs.Terms.{isGoodTerm}
-use Rattle.supplier.specs.GoodLaws.{our-term}
+use Rattle.supplier.specs.WalkSays.{goodIn}
+use Rattle.supplier.specs.OurTerm.{our-term}
 use Rattle.supplier.specs.TextLaws.{elementOf, the-element, element-at, items-few, text-slots, text-names}
 use Rattle.supplier.specs.Service.{verdictOf, isRefusal, Gives, Compared}
 use Rattle.supplier.specs.Text.{ElementRight, TextRight}
@@ -109,8 +112,8 @@ module _ (text words words′ bytes bytes′ : List ℕ) (q : Reading) (p : R.Se
   pub text-held : Held (take (3 * i) words′) 1
   text-held = subst (λ (l : List ℕ). Held l 1) (sym items-front) (_, element)
 
-  pub text-few : length (take (3 * i) words′) ≤ 12288
-  text-few = subst (λ (l : List ℕ). length l ≤ 12288) (sym items-front) (items-few text (length words) (length bytes) recipe is-read)
+  pub text-few : length (take (3 * i) words′) ≤ itemWordsLeast
+  text-few = subst (λ (l : List ℕ). length l ≤ itemWordsLeast) (sym items-front) (items-few text (length words) (length bytes) recipe is-read)
 
   pub names-slots : (k : ℕ) → k < namesMost → Slot bytes′ k
   names-slots k h = subst (λ (l : List ℕ). Slot l k) (sym names-read) (text-slots text (length words) (length bytes) recipe is-read bytes refl k h)
@@ -119,7 +122,7 @@ module _ (text words words′ bytes bytes′ : List ℕ) (q : Reading) (p : R.Se
     abbrev spelled : List (List ℕ)
     spelled = map (nameAt ours) operations
 
-    module _ (t : Plain) (g : isGoodTerm ours (length operations) t ≡ true) (w : our ≡ encode t) where
+    module _ (t : Plain) (g : every (goodIn ours operations) tt 0 t ≡ true) (w : our ≡ encode t) where
       element-verdict : verdictOf r ≡ held (nameAt ours) spelled t answer
       unfolding held after
       element-verdict =
@@ -218,6 +221,6 @@ module _ (items names words text : List ℕ) (textItems textNames : List ℕ) wh
             → TextRight words names (take count list) text textItems textItems′ textNames textNames′ r → Compared items names words text textItems textItems′ textNames textNames′ r
         unfolding compare comparison require ourTerm withTerm spelledOperations
         compared-text k textItems′ textNames′ r f =
-            let g = our-term (length numbers) names words (term .0) (term .1) in
+            let g = our-term names numbers words (term .0) (term .1) in
             let f′ = subst (λ (m : List ℕ). TextRight words names m text textItems textItems′ textNames textNames′ r) o f in
             rw (a, b, term .1, sym (ap (allOf (hasName names)) o) ∙ k) (f′ (term .0) (g .0) (g .1))

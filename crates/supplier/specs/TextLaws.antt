@@ -6,7 +6,7 @@ use mathlib.Core.Option.{some}
 use Prim.Native.Nat.{ℕ, _+_, _*_, _-_, _≤_, _<_}
 use native.Mathlib.Omega.{arith}
 use lib.ListN.{length, replicate, length-append, length-replicate}
-use Rattle.words.specs.Limits.{namesMost}
+use Rattle.words.specs.Limits.{namesMost, itemWordsLeast}
 use Rattle.words.specs.Tables.{filled}
 use Rattle.words.specs.TestLaws.{and-left}
 use Rattle.datum.specs.Datum.{Datum, noneD, moreD, dataItems}
@@ -57,7 +57,7 @@ module _ (text : List ℕ) (n m : ℕ) (r : Recipe) (h : readElements 1 text n m
       subst (λ (l : List ℕ). DatumAt l 1 elementOf) (sym e)
       (record { back = _; words = head-words ws 0 elementOf noneD [] (sym (append-nil ws)); fine = element-fits })
 
-  pub items-few : length (itemWords r) ≤ 12288
+  pub items-few : length (itemWords r) ≤ itemWordsLeast
   unfolding itemWords coreElement
   items-few =
       let c : dataItems (r .elements) ≡ 1 + 2 * sizeAll (one (read-one .element)) = ap (λ q. dataItems (q .elements)) (read-one .same) ∙ elements-items (one (read-one .element)) baseNames in

@@ -1,14 +1,22 @@
-// A text's element: whether it is an expression (ground 21), and closed (ground 22).
+// The lists of a text: how many elements, which form, a lambda's formals, and how the walk through one begins.
 ghost use mathlib.Core.Path.{_≡_};
+ghost use mathlib.Core.Bool.{cond};
 ghost use Prim.Native.Nat.{ℕ, _+_, _*_, _≤_, _<_};
-ghost use Rattle.words.specs.Limits.{namesMost};
+ghost use lib.Dec.{eqb};
 ghost use lib.ListN.{length};
-ghost use Rattle.datum.specs.Datum.{Data, Datum, count, nameD};
-ghost use Rattle.comparison.specs.Grammar.{expressionOf, expressionsOf};
+ghost use Rattle.datum.specs.Datum.{Data, Datum, count};
+ghost use Rattle.core_term.specs.Node.{nodeAt};
 ghost use Rattle.supplier.specs.Items.{DatumAt, DataAt, Held, HeldAll};
-ghost use Rattle.supplier.specs.Judged.{judge, judgeAll, quotes, formOf, lambdaOf, Spelling, isOperation, FormalsAre, Room, isOutside, openAfter};
-ghost use Rattle.supplier.specs.Scope.{round, Kept};
-use crate::names::any_name;
+ghost use Rattle.supplier.specs.Scope.{Kept};
+ghost use Rattle.supplier.specs.Walk.{outside, same, quotes, formOf, takes, ifSort, oursOf};
+ghost use Rattle.supplier.specs.Told.{Told};
+ghost use Rattle.supplier.specs.Forms.{FormalsAre, Room, Started, LambdaStarted};
+use crate::front;
+use crate::front::Walked;
+use crate::front::lost;
+use crate::front::own;
+use crate::front::takes;
+use crate::front::wide;
 use crate::scope::innermost;
 use layout::item::EMPTY;
 use layout::item::NAME;
@@ -16,21 +24,31 @@ use layout::item::PAIR;
 use layout::item::head;
 use layout::item::kind;
 use layout::item::tail;
+use words::NAMES;
 
 // Formals of one lambda.
-const FORMALS: usize = 8;
-
-// An expression that is closed, one that is not, or no expression.
-pub enum Judged {
-    Closed,
-    Open,
-    Outside,
-}
+pub const FORMALS: usize = words::FORMALS as usize;
 
 // How many formals a lambda has, where it may bind them.
 pub enum Bound {
     Formals(usize),
     No,
+}
+
+// An element or a list of the text: its item, how many formals are round it, whether it is quoted.
+pub struct Place {
+    pub i: usize,
+    pub top: usize,
+    pub quoted: bool,
+}
+
+// The same of a list whose elements are walked through, and what was found before them.
+pub struct Start {
+    pub i: usize,
+    pub top: usize,
+    pub quoted: bool,
+    pub rank: u32,
+    pub taken: usize,
 }
 
 // How many elements a list has.
@@ -68,34 +86,10 @@ fn is_quotation(items: &[u32], i: usize) -> bool
     false
 }
 
-// A name as an expression.
-fn name_judged(
-    theirs: &[u8],
-    ours: &[u8],
-    operations: &[u16],
-    scope: &[u16],
-    top: usize,
-    n: usize,
-) -> Judged
-    requires { ⌜ Spelling (now theirs) (now ours) (now operations) × (n < namesMost) × (top ≤ length (now scope)) ⌝ }
-    ensures { λ r. ⌜ r ≡ judge (isOperation (now (theirs .entry)) (now (ours .entry)) (now (operations .entry))) (round (now (scope .entry)) top) (expressionOf (nameD n)) ⌝ }
-{
-    if n < 3 {
-        return Judged::Outside;
-    }
-    if innermost(scope, top, n) != 0 {
-        return Judged::Closed;
-    }
-    if any_name(theirs, n, ours, operations) {
-        return Judged::Closed;
-    }
-    Judged::Open
-}
-
-// The formals of a lambda, from item i on, put into the scope behind its first `top`.
-pub fn formals(items: &[u32], i: usize, scope: &mut [u16], top: usize) -> Bound
+// The formals of a lambda, from item i on, put into the scope behind its first `top`, for our variables from `first` on.
+pub fn formals(items: &[u32], i: usize, scope: &mut [usize], top: usize, first: u32) -> Bound
     requires { ⌜ Held (now items) i × (top + 8 ≤ length (now scope)) ⌝ }
-    ensures formals { λ r. ⌜ ((d : Datum) → DatumAt (now (items .entry)) i d → FormalsAre d top (now (scope .entry)) (now (scope .exit)) r) ⌝ }
+    ensures formals { λ r. ⌜ ((d : Datum) → DatumAt (now (items .entry)) i d → FormalsAre d top first (now (scope .entry)) (now (scope .exit)) r) ⌝ }
     ensures kept { λ r. ⌜ Kept top (now (scope .entry)) (now (scope .exit)) ⌝ }
 {
     let mut j = i;
@@ -115,7 +109,7 @@ pub fn formals(items: &[u32], i: usize, scope: &mut [u16], top: usize) -> Bound
         if innermost(scope, top + n, name) > top {
             return Bound::No;
         }
-        scope[top + n] = name as u16;
+        scope[top + n] = NAMES * (wide(first) + n) + name;
         n = n + 1;
         j = tail(items, j);
     }
@@ -140,121 +134,91 @@ pub fn form(items: &[u32], i: usize) -> usize
     3
 }
 
-fn is_outside(v: Judged) -> bool
-    ensures { λ r. ⌜ r ≡ isOutside v ⌝ }
+fn begun(at: Place, quoted: bool, state: Walked) -> Start
+    ensures { λ r. ⌜ r ≡ record { i = at .i; top = at .top; quoted = quoted; rank = state .rank; taken = state .taken } ⌝ }
 {
-    match v {
-        Judged::Outside => true,
-        Judged::Open => false,
-        Judged::Closed => false,
+    Start {
+        i: at.i,
+        top: at.top,
+        quoted: quoted,
+        rank: state.rank,
+        taken: state.taken,
     }
 }
 
-// An element of a list is open, this one or one before.
-fn open_after(v: Judged, opened: bool) -> bool
-    ensures { λ r. ⌜ r ≡ openAfter v opened ⌝ }
+// A quotation has no node of its own.
+fn quotation(items: &[u32], i: usize, words: &[u32]) -> Walked
+    requires { ⌜ HeldAll (now items) i ⌝ }
+    ensures { λ r. ⌜ ((ds : Data) → DataAt (now (items .entry)) i ds → Told (now (words .entry)) (cond (quotes ds) (same (now (words .entry))) outside) r) ⌝ }
 {
-    match v {
-        Judged::Outside => opened,
-        Judged::Open => true,
-        Judged::Closed => opened,
+    if is_quotation(items, i) {
+        return Walked {
+            rank: front::SAME,
+            taken: 0,
+        };
     }
+    lost(words, front::OUTSIDE)
 }
 
-// The element from item i on, inside the first `top` formals of the scope.
-pub fn expression(
-    items: &[u32],
-    theirs: &[u8],
-    ours: &[u8],
-    operations: &[u16],
-    scope: &mut [u16],
-    top: usize,
-    i: usize,
-) -> Judged
-    requires { ⌜ Held (now items) i × Room (now items) (now scope) top i × Spelling (now theirs) (now ours) (now operations) ⌝ }
-    ensures judged { λ r. ⌜ ((d : Datum) → DatumAt (now (items .entry)) i d → r ≡ judge (isOperation (now (theirs .entry)) (now (ours .entry)) (now (operations .entry))) (round (now (scope .entry)) top) (expressionOf d)) ⌝ }
-    ensures kept { λ r. ⌜ Kept top (now (scope .entry)) (now (scope .exit)) ⌝ }
+fn conditional(items: &[u32], i: usize, words: &[u32]) -> Walked
+    requires { ⌜ HeldAll (now items) i ⌝ }
+    ensures { λ r. ⌜ ((ds : Data) → DataAt (now (items .entry)) i ds → Told (now (words .entry)) (cond (eqb (count ds) 3) (takes ifSort 0 (oursOf (nodeAt (now (words .entry))))) outside) r) ⌝ }
 {
-    let k = kind(items, i);
-    if k == NAME {
-        return name_judged(theirs, ours, operations, scope, top, head(items, i));
+    if count(items, i) != 3 {
+        return lost(words, front::OUTSIDE);
     }
-    if k == EMPTY {
-        return Judged::Outside;
+    takes(words, front::IF, 0)
+}
+
+// What stands behind lambda: its formals and its body. Our name words are not heeded.
+fn lambda(items: &[u32], words: &[u32], scope: &mut [usize], at: Place) -> Start
+    requires { ⌜ HeldAll (now items) (at .i) × Room (now items) (now scope) (at .top) (at .i) ⌝ }
+    ensures { λ r. ⌜ LambdaStarted (now (items .entry)) (now (words .entry)) (now (scope .entry)) (now (scope .exit)) at r ⌝ }
+{
+    if count(items, at.i) != 2 {
+        return begun(at, false, lost(words, front::OUTSIDE));
     }
-    if k != PAIR {
-        return Judged::Closed;
+    let node = own(words);
+    let Bound::Formals(n) = formals(items, head(items, at.i), scope, at.top, node.second) else {
+        return begun(at, false, lost(words, front::OUTSIDE));
+    };
+    let body = Place {
+        i: tail(items, at.i),
+        top: at.top + n,
+        quoted: false,
+    };
+    begun(body, false, takes(words, front::LAMBDA, n))
+}
+
+// How the walk through a list begins: behind the own words of our node, where there is one for it.
+pub fn list(items: &[u32], words: &[u32], scope: &mut [usize], at: Place) -> Start
+    requires { ⌜ HeldAll (now items) (at .i) × Room (now items) (now scope) (at .top) (at .i) ⌝ }
+    ensures { λ r. ⌜ Started (now (items .entry)) (now (words .entry)) (now (scope .entry)) (now (scope .exit)) at r ⌝ }
+{
+    if at.quoted {
+        return begun(at, true, takes(words, front::LIST, count(items, at.i)));
     }
-    let form = form(items, head(items, i));
-    let rest = tail(items, i);
+    if kind(items, at.i) != PAIR {
+        return begun(at, false, lost(words, front::OUTSIDE));
+    }
+    let form = form(items, head(items, at.i));
+    let next = Place {
+        i: tail(items, at.i),
+        top: at.top,
+        quoted: false,
+    };
     if form == 0 {
-        if is_quotation(items, rest) {
-            return Judged::Closed;
-        }
-        return Judged::Outside;
+        return begun(next, true, quotation(items, next.i, words));
     }
     if form == 1 {
-        if count(items, rest) != 3 {
-            return Judged::Outside;
-        }
-        return all(items, theirs, ours, operations, scope, top, rest);
+        return begun(next, false, conditional(items, next.i, words));
     }
     if form == 2 {
-        return lambda(items, theirs, ours, operations, scope, top, rest);
+        return lambda(items, words, scope, next);
     }
-    all(items, theirs, ours, operations, scope, top, i)
-}
-
-// What stands behind lambda: its formals and its body.
-fn lambda(
-    items: &[u32],
-    theirs: &[u8],
-    ours: &[u8],
-    operations: &[u16],
-    scope: &mut [u16],
-    top: usize,
-    i: usize,
-) -> Judged
-    requires { ⌜ HeldAll (now items) i × Room (now items) (now scope) top i × Spelling (now theirs) (now ours) (now operations) ⌝ }
-    ensures judged { λ r. ⌜ ((ds : Data) → DataAt (now (items .entry)) i ds → r ≡ judge (isOperation (now (theirs .entry)) (now (ours .entry)) (now (operations .entry))) (round (now (scope .entry)) top) (lambdaOf ds)) ⌝ }
-    ensures kept { λ r. ⌜ Kept top (now (scope .entry)) (now (scope .exit)) ⌝ }
-{
-    if count(items, i) != 2 {
-        return Judged::Outside;
-    }
-    let Bound::Formals(n) = formals(items, head(items, i), scope, top) else {
-        return Judged::Outside;
-    };
-    let body = head(items, tail(items, i));
-    expression(items, theirs, ours, operations, scope, top + n, body)
-}
-
-// All elements of a list.
-fn all(
-    items: &[u32],
-    theirs: &[u8],
-    ours: &[u8],
-    operations: &[u16],
-    scope: &mut [u16],
-    top: usize,
-    i: usize,
-) -> Judged
-    requires { ⌜ HeldAll (now items) i × Room (now items) (now scope) top i × Spelling (now theirs) (now ours) (now operations) ⌝ }
-    ensures judged { λ r. ⌜ ((ds : Data) → DataAt (now (items .entry)) i ds → r ≡ judgeAll (isOperation (now (theirs .entry)) (now (ours .entry)) (now (operations .entry))) (round (now (scope .entry)) top) (expressionsOf ds)) ⌝ }
-    ensures kept { λ r. ⌜ Kept top (now (scope .entry)) (now (scope .exit)) ⌝ }
-{
-    let mut j = i;
-    let mut opened = false;
-    while kind(items, j) == PAIR {
-        let first = expression(items, theirs, ours, operations, scope, top, head(items, j));
-        if is_outside(first) {
-            return Judged::Outside;
-        }
-        opened = open_after(first, opened);
-        j = tail(items, j);
-    }
-    if opened {
-        return Judged::Open;
-    }
-    Judged::Closed
+    begun(
+        at,
+        false,
+        takes(words, front::APPLICATION, count(items, next.i)),
+    )
 }

@@ -1,27 +1,29 @@
 // The comparison service (request L4): the supplier's expansions held against ours. Its meaning stands in
 // comparison/specs/Compare.antt, its promise in specs/Service.antt.
-mod grammar; // grounds 21 and 22 of a text's element
+mod front; // our node as numbers
+mod grammar; // the text's lists: forms, formals, where the walk goes on
 mod names; // names of two tables
-mod quoted; // quoted data against words
 mod scope; // the formals round an expression
-mod term; // an expression against our words
+mod walk; // the walk
 
 ghost use mathlib.Core.Path.{_≡_};
 ghost use Prim.Native.Nat.{_≤_};
 ghost use lib.ListN.{length};
 ghost use Rattle.supplier.specs.Items.{Held};
-ghost use Rattle.supplier.specs.Judged.{Spelling};
+ghost use Rattle.words.specs.Limits.{itemWordsLeast};
+ghost use Rattle.supplier.specs.Forms.{Spelling};
 ghost use Rattle.supplier.specs.Text.{OperationSlots, ElementRight, TextRight};
 ghost use Rattle.supplier.specs.Service.{verdictOf, isRefusal, Compared};
 use core_term::is_term;
-use grammar::Judged;
+use grammar::FORMALS;
+use grammar::Place;
 use layout::is_layout;
 use layout::operation;
 use names::all_named;
-use quoted::Agreed;
 use reader::Reading;
 use reader::read_elements;
 use words::ITEM;
+use words::MOST_ITEMS;
 use words::NAMES;
 use words::OPERATIONS;
 use words::tables::zero_bytes;
@@ -35,7 +37,7 @@ pub enum Comparison {
 }
 
 // Formals round an expression: a lambda's eight behind those of the lambdas round it, two items of the text for each.
-const SCOPE: usize = 2056;
+const SCOPE: usize = MOST_ITEMS / 2 + FORMALS;
 
 // The element of a text that was read, which item 1 begins: grounds 21 and 22, then yes or no.
 fn decided(
@@ -45,34 +47,26 @@ fn decided(
     ours: &[u8],
     operations: &[u16],
 ) -> Comparison
-    requires { ⌜ Held (now items) 1 × (length (now items) ≤ 12288) × Spelling (now theirs) (now ours) (now operations) ⌝ }
+    requires { ⌜ Held (now items) 1 × (length (now items) ≤ itemWordsLeast) × Spelling (now theirs) (now ours) (now operations) ⌝ }
     ensures { λ r. ⌜ ElementRight (now (items .entry)) (now (theirs .entry)) (now (words .entry)) (now (ours .entry)) (now (operations .entry)) r ⌝ }
 {
-    let mut scope = [0u16; SCOPE];
-    match grammar::expression(items, theirs, ours, operations, &mut scope, 0, 1) {
-        Judged::Outside => {
-            return Comparison::Refused(21);
-        }
-        Judged::Open => {
-            return Comparison::Refused(22);
-        }
-        Judged::Closed => {}
+    let mut scope = [0usize; SCOPE];
+    let at = Place {
+        i: 1,
+        top: 0,
+        quoted: false,
+    };
+    let found = walk::expression(items, words, theirs, ours, operations, &mut scope, at);
+    if found.rank == front::SAME {
+        return Comparison::Yes;
     }
-    let mut variables = [0usize; SCOPE];
-    match term::expression(
-        items,
-        1,
-        words,
-        theirs,
-        ours,
-        operations,
-        &mut scope,
-        &mut variables,
-        0,
-    ) {
-        Agreed::Words(n) => Comparison::Yes,
-        Agreed::No => Comparison::No,
+    if found.rank == front::OTHER {
+        return Comparison::No;
     }
+    if found.rank == front::OPEN {
+        return Comparison::Refused(22);
+    }
+    Comparison::Refused(21)
 }
 
 fn is_refused(v: Comparison) -> bool

@@ -6,15 +6,20 @@ ghost use lib.ListN.{length, getD};
 ghost use Rattle.words.specs.Lists.{allOf, anyOf, equal};
 ghost use Rattle.datum.specs.NameTable.{nameAt, hasName};
 ghost use Rattle.supplier.specs.Names.{Slot};
-use crate::scope::wide;
 use core_term::has_name;
 use reader::names::spells;
 use words::SLOT;
 
-pub fn length_of(b: u8) -> usize
+fn length_of(b: u8) -> usize
     ensures { λ r. ⌜ r ≡ b ⌝ }
 {
     b as usize
+}
+
+pub fn small(n: u16) -> usize
+    ensures { λ r. ⌜ r ≡ n ⌝ }
+{
+    n as usize
 }
 
 // Name n of one table is spelled as name m of the other.
@@ -35,7 +40,7 @@ pub fn any_name(theirs: &[u8], n: usize, ours: &[u8], numbers: &[u16]) -> bool
 {
     let mut k = 0;
     while k < numbers.len() {
-        if same_name(theirs, n, ours, wide(numbers[k])) {
+        if same_name(theirs, n, ours, small(numbers[k])) {
             return true;
         }
         k = k + 1;
@@ -49,7 +54,7 @@ pub fn all_named(names: &[u8], numbers: &[u16]) -> bool
 {
     let mut k = 0;
     while k < numbers.len() {
-        if !has_name(names, wide(numbers[k])) {
+        if !has_name(names, small(numbers[k])) {
             return false;
         }
         k = k + 1;

@@ -28,11 +28,19 @@ returns-2 c =
 
 numbers-requires : tie.Need-numbers-requires
 numbers-requires c κs =
-    ((sym (c .before .before .before .before .before .before .is-layout .ensures) ∙ not-false _ (c .before .before .before .before .before .if1 .left)), (sym (c .before .before .before .operations .ensures .0) ∙ not-false _ (c .before .if2 .left)), omega arith)
+    let at-if2 = c .before in
+    let at-operations = at-if2 .before .before in
+    let at-if1 = at-operations .before .before in
+    ((sym (at-if1 .before .is-layout .ensures) ∙ not-false _ (at-if1 .if1 .left)), (sym (at-operations .operations .ensures .0) ∙ not-false _ (at-if2 .if2 .left)), omega arith)
 
 returns-3 : tie.Need-returns-3
 returns-3 c =
-    compared-term _ _ _ _ _ _ (sym (c .before .before .before .before .before .before .before .before .before .before .is-layout .ensures) ∙ not-false _ (c .before .before .before .before .before .before .before .before .before .if1 .left)) (sym (c .before .before .before .before .before .before .before .operations .ensures .0) ∙ not-false _ (c .before .before .before .before .before .if2 .left)) _ _ (c .before .before .before .numbers .ensures .0) (c .before .before .before .numbers .ensures .1) (sym (c .before .is-term .ensures) ∙ not-true _ (c .if3 .taken))
+    let at-is-term = c .before in
+    let at-numbers = at-is-term .before .before in
+    let at-if2 = at-numbers .before .before in
+    let at-operations = at-if2 .before .before in
+    let at-if1 = at-operations .before .before in
+    compared-term _ _ _ _ _ _ (sym (at-if1 .before .is-layout .ensures) ∙ not-false _ (at-if1 .if1 .left)) (sym (at-operations .operations .ensures .0) ∙ not-false _ (at-if2 .if2 .left)) _ _ (at-numbers .numbers .ensures .0) (at-numbers .numbers .ensures .1) (sym (at-is-term .is-term .ensures) ∙ not-true _ (c .if3 .taken))
 
 slice-aggregate-all-named : tie.Need-slice-aggregate-all-named
 slice-aggregate-all-named c =
@@ -40,7 +48,14 @@ slice-aggregate-all-named c =
 
 returns-4 : tie.Need-returns-4
 returns-4 c =
-    compared-slots _ _ _ _ _ _ (sym (c .before .before .before .before .before .before .before .before .before .before .before .before .before .is-layout .ensures) ∙ not-false _ (c .before .before .before .before .before .before .before .before .before .before .before .before .if1 .left)) (sym (c .before .before .before .before .before .before .before .before .before .before .operations .ensures .0) ∙ not-false _ (c .before .before .before .before .before .before .before .before .if2 .left)) _ _ (c .before .before .before .before .before .before .numbers .ensures .0) (c .before .before .before .before .before .before .numbers .ensures .1) (sym (c .before .before .before .before .is-term .ensures) ∙ not-false _ (c .before .before .before .if3 .left)) (sym (c .before .all-named .ensures) ∙ not-true _ (c .if4 .taken))
+    let at-all-named = c .before in
+    let at-if3 = at-all-named .before .before in
+    let at-is-term = at-if3 .before in
+    let at-numbers = at-is-term .before .before in
+    let at-if2 = at-numbers .before .before in
+    let at-operations = at-if2 .before .before in
+    let at-if1 = at-operations .before .before in
+    compared-slots _ _ _ _ _ _ (sym (at-if1 .before .is-layout .ensures) ∙ not-false _ (at-if1 .if1 .left)) (sym (at-operations .operations .ensures .0) ∙ not-false _ (at-if2 .if2 .left)) _ _ (at-numbers .numbers .ensures .0) (at-numbers .numbers .ensures .1) (sym (at-is-term .is-term .ensures) ∙ not-false _ (at-if3 .if3 .left)) (sym (at-all-named .all-named .ensures) ∙ not-true _ (c .if4 .taken))
 
 slice-aggregate-held : tie.Need-slice-aggregate-held
 slice-aggregate-held c =
@@ -52,7 +67,16 @@ held-requires c κs =
 
 returns-5 : tie.Need-returns-5
 returns-5 c =
-    compared-text _ _ _ _ _ _ (sym (c .before .before .before .before .before .before .before .before .before .before .before .before .before .before .before .before .before .before .before .before .before .is-layout .ensures) ∙ not-false _ (c .before .before .before .before .before .before .before .before .before .before .before .before .before .before .before .before .before .before .before .before .if1 .left)) (sym (c .before .before .before .before .before .before .before .before .before .before .before .before .before .before .before .before .before .before .operations .ensures .0) ∙ not-false _ (c .before .before .before .before .before .before .before .before .before .before .before .before .before .before .before .before .if2 .left)) _ _ (c .before .before .before .before .before .before .before .before .before .before .before .before .before .before .numbers .ensures .0) (c .before .before .before .before .before .before .before .before .before .before .before .before .before .before .numbers .ensures .1) (sym (c .before .before .before .before .before .before .before .before .before .before .before .before .is-term .ensures) ∙ not-false _ (c .before .before .before .before .before .before .before .before .before .before .before .if3 .left)) (sym (c .before .before .before .before .before .before .before .before .before .all-named .ensures) ∙ not-false _ (c .before .before .before .before .before .before .before .before .if4 .left)) _ _ _ (c .before .before .before .before .held .ensures)
+    let at-held = c .before .before .before .before in
+    let at-if4 = at-held .before .before .before .before in
+    let at-all-named = at-if4 .before in
+    let at-if3 = at-all-named .before .before in
+    let at-is-term = at-if3 .before in
+    let at-numbers = at-is-term .before .before in
+    let at-if2 = at-numbers .before .before in
+    let at-operations = at-if2 .before .before in
+    let at-if1 = at-operations .before .before in
+    compared-text _ _ _ _ _ _ (sym (at-if1 .before .is-layout .ensures) ∙ not-false _ (at-if1 .if1 .left)) (sym (at-operations .operations .ensures .0) ∙ not-false _ (at-if2 .if2 .left)) _ _ (at-numbers .numbers .ensures .0) (at-numbers .numbers .ensures .1) (sym (at-is-term .is-term .ensures) ∙ not-false _ (at-if3 .if3 .left)) (sym (at-all-named .all-named .ensures) ∙ not-false _ (at-if4 .if4 .left)) _ _ _ (at-held .held .ensures)
 
 pub compare-spec : {M : Type 1} → statement M
 compare-spec =

@@ -27,19 +27,34 @@ slice-aggregate-decided c =
 
 decided-requires : tie.Need-decided-requires
 decided-requires c κs =
-    (text-held _ _ _ _ _ _ (c .before .before .before .before .before .before .before .before .before .read-elements .ensures) _ _ (c .before .before .before .i .given .1), text-few _ _ _ _ _ _ (c .before .before .before .before .before .before .before .before .before .read-elements .ensures) _ _ (c .before .before .before .i .given .1), (names-slots _ _ _ _ _ _ (c .before .before .before .before .before .before .before .before .before .read-elements .ensures) _ _ (c .before .before .before .i .given .1), c .before .before .before .before .before .before .before .before .before .before .before .before .before .before .before .before .before .before .pre))
+    let at-i = c .before .before .before in
+    let at-read-elements = at-i .before .before .before .before .before .before in
+    (text-held _ _ _ _ _ _ (at-read-elements .read-elements .ensures) _ _ (at-i .i .given .1), text-few _ _ _ _ _ _ (at-read-elements .read-elements .ensures) _ _ (at-i .i .given .1), (names-slots _ _ _ _ _ _ (at-read-elements .read-elements .ensures) _ _ (at-i .i .given .1), at-read-elements .before .before .before .before .before .before .before .before .before .pre))
 
 returns : tie.Need-returns
 returns c =
-    text-zeroed _ _ _ _ _ _ (c .before .before .before .before .before .before .before .before .before .before .before .before .before .before .before .before .before .before .before .before .read-elements .ensures) _ _ (c .before .before .before .before .before .before .before .before .before .before .before .before .before .before .i .given .1) _ _ (c .before .before .before .before .before .before .before .before .before .before .before .before .before .before .before .before .before .before .before .before .before .before .before .before .before .before .before .before .before .args .operations .now) _ (c .before .before .before .before .before .before .before .before .before .before .decided .ensures) (sym (c .before .before .before .before .before .before .before .before .before .is-refused .ensures) ∙ c .before .before .before .before .before .before .before .before .if1 .taken) _ _ (c .before .before .before .before .before .before .zero-words .ensures ∙ ap (λ (k : ℕ). replicate k 0) (c .before .before .before .before .before .before .before .before .before .before .before .before .before .before .before .before .before .before .before .before .read-elements .kept .1 .0)) (c .before .before .zero-bytes .ensures ∙ ap (λ (k : ℕ). replicate k 0) (c .before .before .before .before .before .before .before .before .before .before .before .before .before .before .before .before .before .before .before .before .read-elements .kept .1 .1 .0))
+    let at-zero-bytes = c .before .before in
+    let at-zero-words = at-zero-bytes .before .before .before .before in
+    let at-if1 = at-zero-words .before .before in
+    let at-is-refused = at-if1 .before in
+    let at-decided = at-is-refused .before in
+    let at-i = at-decided .before .before .before .before in
+    let at-read-elements = at-i .before .before .before .before .before .before in
+    text-zeroed _ _ _ _ _ _ (at-read-elements .read-elements .ensures) _ _ (at-i .i .given .1) _ _ (at-read-elements .before .before .before .before .before .before .before .before .before .args .operations .now) _ (at-decided .decided .ensures) (sym (at-is-refused .is-refused .ensures) ∙ at-if1 .if1 .taken) _ _ (at-zero-words .zero-words .ensures ∙ ap (λ (k : ℕ). replicate k 0) (at-read-elements .read-elements .kept .1 .0)) (at-zero-bytes .zero-bytes .ensures ∙ ap (λ (k : ℕ). replicate k 0) (at-read-elements .read-elements .kept .1 .1 .0))
 
 returns-2 : tie.Need-returns-2
 returns-2 c =
-    text-kept _ _ _ _ _ _ (c .before .before .before .before .before .before .before .before .before .before .before .before .read-elements .ensures) _ _ (c .before .before .before .before .before .before .i .given .1) _ _ (c .before .before .before .before .before .before .before .before .before .before .before .before .before .before .before .before .before .before .before .before .before .args .operations .now) _ (c .before .before .decided .ensures) (sym (c .before .is-refused .ensures) ∙ c .if1 .left)
+    let at-is-refused = c .before in
+    let at-decided = at-is-refused .before in
+    let at-i = at-decided .before .before .before .before in
+    let at-read-elements = at-i .before .before .before .before .before .before in
+    text-kept _ _ _ _ _ _ (at-read-elements .read-elements .ensures) _ _ (at-i .i .given .1) _ _ (at-read-elements .before .before .before .before .before .before .before .before .before .args .operations .now) _ (at-decided .decided .ensures) (sym (at-is-refused .is-refused .ensures) ∙ c .if1 .left)
 
 returns-3 : tie.Need-returns-3
 returns-3 c =
-    text-unread _ _ _ _ _ _ (c .before .before .before .before .before .before .before .read-elements .ensures) _ (c .before .ground .given .1) _ _ (c .before .before .before .before .before .before .before .before .before .before .before .before .before .before .before .before .args .operations .now)
+    let at-ground = c .before in
+    let at-read-elements = at-ground .before .before .before .before .before .before in
+    text-unread _ _ _ _ _ _ (at-read-elements .read-elements .ensures) _ (at-ground .ground .given .1) _ _ (at-read-elements .before .before .before .before .before .before .before .before .before .args .operations .now)
 
 pub held-spec : {M : Type 1} → statement M
 held-spec =

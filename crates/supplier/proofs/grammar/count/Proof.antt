@@ -9,7 +9,7 @@ use Prim.Native.Nat.{_-_, _≤_}
 use lib.ListN.{length}
 use Rattle.supplier.specs.Items.{HeldAll}
 use Rattle.supplier.specs.ItemsLaws.{all-in, tail-held}
-use Rattle.supplier.specs.JudgedLaws.{Counting, counting-start, counting-next, counting-end}
+use Rattle.supplier.specs.ListLaws.{Counting, counting-start, counting-next, counting-end}
 
 abbrev Inv-loop : tie.InvT-loop
 Inv-loop items i j₀ n₀ j n =

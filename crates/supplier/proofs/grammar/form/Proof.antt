@@ -5,7 +5,7 @@ use Rattle.supplier.proofs.grammar.form.Lts as lts
 use Rattle.layout.proofs.item.head.Reads as head-reads
 use Rattle.layout.proofs.item.kind.Reads as kind-reads
 use Rattle.supplier.specs.ItemsLaws.{held-in}
-use Rattle.supplier.specs.JudgedLaws.{form-other, form-low, form-high}
+use Rattle.supplier.specs.ListLaws.{form-other, form-low, form-high}
 
 kind-requires : tie.Need-kind-requires
 kind-requires c κs =

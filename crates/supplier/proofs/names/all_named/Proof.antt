@@ -25,11 +25,21 @@ loop-holds c =
 
 returns : tie.Need-returns Inv-loop μ-loop
 returns c =
-    names-bad (hasName (c .before .before .before .before .before .before .before .before .args .names .now)) (c .before .before .before .before .before .before .before .before .args .numbers .now) (c .before .before .before .before .before .loop .k) (c .before .before .before .before .before .loop .inv .1) (c .before .before .before .before .loop-test .taken) (sym (ap (hasName (c .before .before .before .before .before .before .before .before .args .names .now)) (c .before .before .wide .ensures)) ∙ sym (c .before .has-name .ensures) ∙ not-true _ (c .if1 .taken))
+    let at-has-name = c .before in
+    let at-small = at-has-name .before in
+    let at-loop-test = at-small .before .before in
+    let at-loop = at-loop-test .before in
+    let args′ = at-loop .before .before .before .args in
+    names-bad (hasName (args′ .names .now)) (args′ .numbers .now) (at-loop .loop .k) (at-loop .loop .inv .1) (at-loop-test .loop-test .taken) (sym (ap (hasName (args′ .names .now)) (at-small .small .ensures)) ∙ sym (at-has-name .has-name .ensures) ∙ not-true _ (c .if1 .taken))
 
 loop-again : tie.Need-loop-again Inv-loop μ-loop
 loop-again c =
-    (omega (arith, c .before .before .before .before .loop-test .taken), names-next (hasName (c .before .before .before .before .before .before .before .before .args .names .now)) (c .before .before .before .before .before .before .before .before .args .numbers .now) (c .before .before .before .before .before .loop .k) (c .before .before .before .before .before .loop .inv .1) (c .before .before .before .before .loop-test .taken) (sym (ap (hasName (c .before .before .before .before .before .before .before .before .args .names .now)) (c .before .before .wide .ensures)) ∙ sym (c .before .has-name .ensures) ∙ not-false _ (c .if1 .left)))
+    let at-has-name = c .before in
+    let at-small = at-has-name .before in
+    let at-loop-test = at-small .before .before in
+    let at-loop = at-loop-test .before in
+    let args′ = at-loop .before .before .before .args in
+    (omega (arith, at-loop-test .loop-test .taken), names-next (hasName (args′ .names .now)) (args′ .numbers .now) (at-loop .loop .k) (at-loop .loop .inv .1) (at-loop-test .loop-test .taken) (sym (ap (hasName (args′ .names .now)) (at-small .small .ensures)) ∙ sym (at-has-name .has-name .ensures) ∙ not-false _ (c .if1 .left)))
 
 returns-2 : tie.Need-returns-2 Inv-loop μ-loop
 returns-2 c =
@@ -42,9 +52,9 @@ all-named-spec =
     Inv-loop
     μ-loop
     loop-holds
-    (λ c. search needs)  -- mul-wide
-    (λ c. search needs)  -- shared-slice-read-wide
-    (λ c κs. search needs)  -- wide-requires
+    (λ c. search needs)  -- mul-small
+    (λ c. search needs)  -- shared-slice-read-small
+    (λ c κs. search needs)  -- small-requires
     (λ c κs. search needs)  -- has-name-requires
     returns
     (λ c. search needs)  -- add-k
