@@ -6,7 +6,7 @@ use native.Mathlib.Omega.{arith}
 use lib.ListN.{length, take, replicate}
 use Rattle.words.specs.Tables.{filled}
 use Rattle.core_term.specs.PartsLaws.{encode-two}
-use Rattle.expansion.specs.Run.{told, Outcome, accepted, refusedOn, unfinished, Run, coreOf, run}
+use Rattle.expansion.specs.Run.{told, termWords, Outcome, accepted, refusedOn, unfinished, Run, coreOf, run}
 use Rattle.expansion.specs.CoreTerm.{run-term}
 use Rattle.expansion.specs.Bounds.Gas.{run-finished}
 use Rattle.expansion.specs.Ways.Grounds.{RefusedOn, atOnce, later, run-ground}
@@ -41,7 +41,7 @@ module _ (items : List ℕ) (fuel work core : ℕ) where
       go : (o : Outcome) → it .outcome ≡ o → g ≡ groundOf o → _≡_ {A = ℕ} 0 (length (coreOf it)) → it .outcome ≡ refusedOn g
       go accepted h z l =
           let t = run-term items fuel work core h in
-          absurd (omega (arith, encode-two (told (t .term)), ap length (t .words)))
+          absurd (omega (arith, encode-two (told (t .term)), ap (λ x. length (termWords x)) (t .given)))
       go (refusedOn k) h z l = h ∙ ap refusedOn (sym z)
       go unfinished h z l = absurd (run-finished items fuel work core h)
 
