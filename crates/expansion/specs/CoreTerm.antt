@@ -29,6 +29,7 @@ use Rattle.core_term.specs.Check.{outside, small, termOf}
 use Rattle.expansion.specs.Computation.{start}
 use Rattle.expansion.specs.Run.{accepted, Run, told, coreOf, ended, operationNumbers, areOperations, expandRecipe, run}
 use Rattle.expansion.specs.RunLaws.{accepted≢refusedOn, accepted≢unfinished, unbegun, run-holds}
+use Rattle.expansion.specs.Bounds.Gas.{accepted-begun}
 use Rattle.expansion.specs.CoreTerm.Worlds.{World, FineTree, fine-plain}
 use Rattle.expansion.specs.CoreTerm.WorldState.{Closed}
 use Rattle.expansion.specs.CoreTerm.SoundTerms.{sound-termOf}
@@ -44,10 +45,12 @@ pub record CoreTerm (operations : ℕ) (good : ℕ → Bool) (r : Run) : Type 0 
 abbrev pub Named : (good : ℕ → Bool) → List ℕ → Type 0
 Named good ws = Each (NameOf (λ x. good (x .number) ≡ true)) (items 0 ws)
 
-operations-most : (t : Tree) → areOperations t ≡ true → length (operationNumbers t) ≤ operationsMost
+-- an accepted recipe has at most 256 operations
+pub run-operations : (items : List ℕ) (fuel work core : ℕ) → run items fuel work core .outcome ≡ accepted → length (operationNumbers (treeOf items)) ≤ operationsMost
 unfolding areOperations
-operations-most t e =
-    let p = and-parts (allOf isName (elements (element 0 t))) _ e in
+run-operations items fuel work core h =
+    let t = treeOf items in
+    let p = and-parts (allOf isName (elements (element 0 t))) _ (accepted-begun items fuel work core h .operations) in
     leb-true (length (operationNumbers t)) operationsMost (and-parts (leb (length (operationNumbers t)) operationsMost) _ (p .1) .0)
 
 -- ---- a tree whose names' numbers pass
@@ -79,16 +82,13 @@ module _ (good : ℕ → Bool) where
   -- ---- a run
 
   module _ (items : List ℕ) (fuel work core : ℕ) (fine : isLayout items ≡ true → FineTree nowhere (treeOf items)) where
-    abbrev count : ℕ
-    count = length (operationNumbers (treeOf items))
-
-    made-term : (operations : ℕ) → count ≤ operations → (count ≤ operationsMost → operations ≤ operationsMost) → run items fuel work core .outcome ≡ accepted
+    made-term : (operations : ℕ) → length (operationNumbers (treeOf items)) ≤ operations → operations ≤ operationsMost → run items fuel work core .outcome ≡ accepted
         → CoreTerm operations good (run items fuel work core)
     unfolding unbegun ended start nowhere
-    made-term operations l few =
+    made-term operations l m =
         run-holds (λ r. r .outcome ≡ accepted → CoreTerm operations good r) items fuel work core (λ b. expandRecipe-made fuel (treeOf items) (fine (b .layout)))
         (λ g _ e. absurd (accepted≢refusedOn g (sym e)))
-        (λ b t s j q e. record { term = t; given = refl; passes = sound-termOf _ good (told t) (q .passed) operations l (few (operations-most (treeOf items) (b .operations))) })
+        (λ b t s j q e. record { term = t; given = refl; passes = sound-termOf _ good (told t) (q .passed) operations l m })
         (λ b g s j r e. absurd (accepted≢refusedOn g (sym e)))
         (λ b j x e. absurd (accepted≢unfinished (sym e)))
 
@@ -96,8 +96,9 @@ module _ (good : ℕ → Bool) where
 
 pub run-term : (items : List ℕ) (fuel work core : ℕ) → run items fuel work core .outcome ≡ accepted → CoreTerm (length (operationNumbers (treeOf items))) small (run items fuel work core)
 unfolding nowhere small
-run-term items fuel work core =
-    made-term small items fuel work core (λ e. tidy-weaken (λ x p. fine-plain x (lt-ltb (x .number) namesMost (p .small)) (p .plain)) (treeOf-tidy items e)) _ (omega arith) (λ m. m)
+run-term items fuel work core h =
+    made-term small items fuel work core (λ e. tidy-weaken (λ x p. fine-plain x (lt-ltb (x .number) namesMost (p .small)) (p .plain)) (treeOf-tidy items e))
+    _ (omega arith) (run-operations items fuel work core h) h
 
 -- ---- with any test of names that the table's pass
 
@@ -110,11 +111,9 @@ module _ (good : ℕ → Bool) (items : List ℕ) (named : Named good items) whe
   operations-named e = operations-good good (named-fine e)
 
   module _ (fuel work core : ℕ) (h : run items fuel work core .outcome ≡ accepted) where
-    -- with the recipe's count of operations
-    pub named-term : CoreTerm (length (operationNumbers (treeOf items))) good (run items fuel work core)
-    named-term = made-term good items fuel work core named-fine _ (omega arith) (λ m. m) h
+    -- with as many operations as the recipe has, or more
+    pub named-term-within : (operations : ℕ) → length (operationNumbers (treeOf items)) ≤ operations → operations ≤ operationsMost → CoreTerm operations good (run items fuel work core)
+    named-term-within operations l m = made-term good items fuel work core named-fine operations l m h
 
-    -- or more
-    pub named-term-within : (operations : ℕ) → length (operationNumbers (treeOf items)) ≤ operations → operations ≤ operationsMost
-        → CoreTerm operations good (run items fuel work core)
-    named-term-within operations l m = made-term good items fuel work core named-fine operations l (λ _. m) h
+    pub named-term : CoreTerm (length (operationNumbers (treeOf items))) good (run items fuel work core)
+    named-term = named-term-within _ (omega arith) (run-operations items fuel work core h)
