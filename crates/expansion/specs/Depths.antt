@@ -1,45 +1,50 @@
--- Request L2 beside the rule before it: rules are read with the test of depth for a parameter. With the test of the definition that is
--- the definition's reading (`rulesBy-is`); with the test of document 01 it is what was read before.
-use mathlib.Core.Bool.{Bool, false, not, _&&_, _||_, cond}
-use mathlib.Core.List.{List}
-use mathlib.Core.Option.{Option, none, some}
-use Prim.Native.Nat.{ℕ}
+-- Request L2, 'Recipes accepted before have the same expansion', stated over the definition of a run. Nothing is proved here.
+-- Before it, document 01: a variable under d > 0 pattern ellipses must be under exactly d in the template; under none, it may be anywhere.
+use mathlib.Core.Path.{_≡_}
+use mathlib.Core.Bool.{Bool, true, _&&_, _||_, cond}
+use mathlib.Core.List.{List, []}
+use Prim.Native.Nat.{ℕ, zero, suc, _+_}
 use lib.Dec.{eqb}
-use Rattle.words.specs.Options.{onlyIf, mapBoth, traverse}
+use Rattle.words.specs.Limits.{macrosMost}
+use Rattle.words.specs.Lists.{allOf}
 use Rattle.recipe.specs.Name.{Name}
-use Rattle.recipe.specs.Tree.{Tree, empty, constant, name, pair, onName, names, isListOf, elements, element}
-use Rattle.expansion.specs.Rules.{Template, variableT, insertT, constantT, emptyT, Rule, ellipsisOf, literalList, ruleList, rulePattern, matchedPart, ruleTemplate, variableFrom, areVariables, listTemplate, Place, asElement, asRest, asTaken, asEscaped, noEllipsis, dotsNext, depthBefore, placeAfter, patternOf, ruleVariables, isRulesForm}
+use Rattle.recipe.specs.Tree.{Tree, size, element}
+use Rattle.recipe.specs.Table.{treeOf}
+use Rattle.core_term.specs.Term.{Term}
+use Rattle.expansion.specs.Rules.{Template, variableT, insertT, constantT, emptyT, pairT, ellipsisT, Rule}
+use Rattle.expansion.specs.Computation.{start, Out, starved, M, refuse}
+use Rattle.expansion.specs.Forms.{expandTree}
+use Rattle.expansion.specs.Run.{accepted, ended, operationNumbers, run}
+use Rattle.expansion.specs.RunLaws.{Begun}
 
--- document 01: a variable under none may be anywhere; one under d > 0 must be under exactly d
-unfoldable pub exactly : (d here : ℕ) → Bool
-exactly d here = eqb d 0 || eqb d here
+-- each variable of this part of a template, which is under so many ellipses, is under exactly its own d, or has none
+unfoldable pub exactlyIn : (here : ℕ) → Template → Bool
+exactlyIn here (variableT k d) = eqb d 0 || eqb d here
+exactlyIn here (insertT x) = true
+exactlyIn here (constantT a) = true
+exactlyIn here emptyT = true
+exactlyIn here (pairT a b) = exactlyIn here a && exactlyIn here b
+exactlyIn here (ellipsisT e r) = exactlyIn (suc here) e && exactlyIn here r
 
-module _ (fits : (d here : ℕ) → Bool) where
-  unfoldable pub nameBy : ℕ → Name → Option (ℕ × ℕ) → Option Template
-  nameBy here x none = some (insertT x)
-  nameBy here x (some v) = onlyIf (fits (v .1) here) (some (variableT (v .0) (v .1)))
+-- the rules of these macros are ones of document 01
+unfoldable pub areExact : List (List Rule) → Bool
+areExact = allOf (allOf (λ r. exactlyIn 0 (r .template)))
 
-  unfoldable pub templateBy : (dots : Name → Bool) → List (Name × ℕ) → ℕ → Place → Tree → Option Template
-  templateBy dots vs d place empty = some emptyT
-  templateBy dots vs d place (constant a) = some (constantT a)
-  templateBy dots vs d place (name x) = onlyIf (not (dots x)) (nameBy d x (variableFrom 0 vs x))
-  templateBy dots vs d asElement (pair p ps) =
-      let first = templateBy dots vs (depthBefore dots ps d) asElement p in
-      let later = templateBy dots vs d (placeAfter dots ps) ps in
-      let inside = templateBy noEllipsis vs d asEscaped ps in
-      cond (onName dots false p) (onlyIf (isListOf 1 ps) inside) (listTemplate (dotsNext dots ps) first later)
-  templateBy dots vs d asRest (pair p ps) =
-      let first = templateBy dots vs (depthBefore dots ps d) asElement p in
-      let later = templateBy dots vs d (placeAfter dots ps) ps in
-      listTemplate (dotsNext dots ps) first later
-  templateBy dots vs d asTaken (pair p ps) = templateBy dots vs d asRest ps
-  templateBy dots vs d asEscaped (pair p ps) = templateBy dots vs d asElement p
+-- expansion before: as now, but ground 15 where a form has read rules that are none of document 01, before its body is expanded
+unfoldable pub expandBefore : (limit : ℕ) → List ℕ → (fuel gas : ℕ) → Tree → M (Term Name)
+expandBefore limit operations fuel zero t = λ s. starved []
+expandBefore limit operations fuel (suc gas) t = λ s.
+    cond (areExact (s .macros)) (expandTree limit operations fuel (expandBefore limit operations fuel gas)) (λ u. refuse 15) t s
 
-  unfoldable pub ruleBy : (dots : Name → Bool) → List Name → Tree → Option Rule
-  ruleBy dots literals r =
-      let vs = ruleVariables dots literals r in
-      onlyIf (isListOf 2 r && (onName (λ x. not (dots x)) false (element 0 (rulePattern r)) && areVariables vs))
-      (mapBoth (λ q t. record { pattern = q; template = t }) (patternOf dots literals 0 false (matchedPart r)) (templateBy dots vs 0 asElement (ruleTemplate r)))
+-- of a recipe's expression, from the start
+unfoldable pub expandRecipeBefore : ℕ → Tree → Out (Term Name)
+expandRecipeBefore fuel t = expandBefore macrosMost (operationNumbers t) fuel (size t + fuel) (element 1 t) start
 
-  unfoldable pub rulesBy : Tree → Option (List Rule)
-  rulesBy r = onlyIf (isRulesForm r) (traverse (ruleBy (ellipsisOf r) (names (literalList r))) (elements (ruleList r)))
+-- a recipe that passes grounds 7 to 10, which have not moved, and was accepted before has the same expansion: outcome, counts, term, and
+-- what the run shows
+unfoldable pub RecipesBefore : Type 0
+RecipesBefore =
+    (items : List ℕ) (fuel work core : ℕ)
+    → Begun items fuel work core
+    → ended (expandRecipeBefore fuel (treeOf items)) .outcome ≡ accepted
+    → run items fuel work core ≡ ended (expandRecipeBefore fuel (treeOf items))

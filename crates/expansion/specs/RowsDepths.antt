@@ -1,7 +1,21 @@
--- Known answers to request L2, D1 to D15: variables under more ellipses of the template than of the pattern.
+-- Known answers to request L2, D1 to D15: variables under more ellipses of the template than of the pattern. All of them were refused
+-- before; the recipes of document 01 were answered as now, and the claim is tried on one.
 use mathlib.Core.Path.{_≡_, refl}
 use mathlib.Core.List.{List, [], _∷_, map}
-use Rattle.expansion.specs.Row.{Row, gives, refuses, withFuel, filed}
+use Prim.Native.Nat.{ℕ}
+use Prim.Native.String.{String}
+use borrow.Author.Tests.{leb-true}
+use Rattle.words.specs.Limits.{filingWork, filingCore}
+use Rattle.words.specs.Text.{bytes}
+use Rattle.recipe.specs.Table.{treeOf}
+use Rattle.reading.specs.Read.{recipeOf}
+use Rattle.expansion.specs.Run.{accepted, Run, coreOf, ended, run}
+use Rattle.expansion.specs.RunLaws.{Begun}
+use Rattle.expansion.specs.Computed.{computed}
+use Rattle.expansion.specs.Row.{Row, gives, refuses, withFuel, itemsOf, filed}
+use Rattle.expansion.specs.Rows.{E01-to-E16, E17-to-E33, E34-to-E48, E49-to-E62}
+use Rattle.expansion.specs.Depths.{exactlyIn, areExact, expandBefore, expandRecipeBefore, RecipesBefore}
+use Rattle.expansion.specs.DepthLaws.{recipes-before}
 
 unfoldable pub depths : List Row
 unfolding gives refuses withFuel
@@ -49,3 +63,61 @@ depths =
 pub depths-hold : map filed depths ≡ depths
 unfolding filed depths
 depths-hold = refl
+
+-- ---- before
+
+unfoldable pub itemsFrom : String → List ℕ
+unfolding bytes recipeOf itemsOf
+itemsFrom text = itemsOf (recipeOf (bytes text))
+
+unfoldable pub runBefore : String → ℕ → Run
+unfolding itemsFrom exactlyIn areExact expandBefore expandRecipeBefore computed
+runBefore text fuel = ended (expandRecipeBefore fuel (treeOf (itemsFrom text)))
+
+unfoldable pub filedBefore : Row → Row
+unfolding runBefore
+filedBefore r =
+    let before = runBefore (r .text) (r .fuel) in
+    record { text = r .text; fuel = r .fuel; outcome = before .outcome; steps = before .steps; sum = before .sum; core = coreOf before }
+
+pub depths-before : map filedBefore depths ≡ map (λ r. withFuel (r .fuel) (refuses (r .text) 15 0 0)) depths
+unfolding filedBefore depths
+depths-before = refl
+
+pub E01-to-E16-before : map filedBefore E01-to-E16 ≡ E01-to-E16
+unfolding filedBefore E01-to-E16
+E01-to-E16-before = refl
+
+pub E17-to-E33-before : map filedBefore E17-to-E33 ≡ E17-to-E33
+unfolding filedBefore E17-to-E33
+E17-to-E33-before = refl
+
+pub E34-to-E48-before : map filedBefore E34-to-E48 ≡ E34-to-E48
+unfolding filedBefore E34-to-E48
+E34-to-E48-before = refl
+
+pub E49-to-E62-before : map filedBefore E49-to-E62 ≡ E49-to-E62
+unfolding filedBefore E49-to-E62
+E49-to-E62-before = refl
+
+-- the claim, of a recipe with an ellipsis inside another, with two fuels
+unfoldable pub nested : String
+nested = "(list) (let-syntax ((m (syntax-rules () ((_ (a b ...) ...) (list (list a (list b) ...) ...))))) (m (1) (2 3 4)))"
+
+nested-begins : (Begun (itemsFrom nested) 512 filingWork filingCore) × (Begun (itemsFrom nested) 31 filingWork filingCore)
+unfolding itemsFrom nested computed
+nested-begins = (
+  record { layout = refl; fuelled = leb-true _ _ refl; work-room = leb-true _ _ refl; core-room = leb-true _ _ refl; operations = refl },
+  record { layout = refl; fuelled = leb-true _ _ refl; work-room = leb-true _ _ refl; core-room = leb-true _ _ refl; operations = refl },
+)
+
+nested-accepted : (runBefore nested 512 .outcome ≡ accepted) × (runBefore nested 31 .outcome ≡ accepted)
+unfolding runBefore nested
+nested-accepted = (refl, refl)
+
+pub nested-same : (run (itemsFrom nested) 512 filingWork filingCore ≡ runBefore nested 512) × (run (itemsFrom nested) 31 filingWork filingCore ≡ runBefore nested 31)
+unfolding runBefore nested RecipesBefore
+nested-same = (
+  recipes-before (itemsFrom nested) 512 filingWork filingCore (nested-begins .0) (nested-accepted .0),
+  recipes-before (itemsFrom nested) 31 filingWork filingCore (nested-begins .1) (nested-accepted .1),
+)

@@ -1,28 +1,22 @@
 -- Each way through the program's functions.
 use mathlib.Core.Path.{_≡_, refl, sym, ap, subst, _∙_}
-use mathlib.Core.Bool.{true, false, true≢false}
+use mathlib.Core.Bool.{true, false}
 use mathlib.Core.List.{List, [], _∷_, _++_}
-use mathlib.Core.Option.{Option, none, some}
+use mathlib.Core.Option.{Option, some}
 use Prim.Native.Nat.{ℕ, _+_, _-_, _≤_, _<_}
 use native.Mathlib.Omega.{arith}
 use lib.ListN.{length, take, drop, length-append, length-drop, take-append-drop}
 use lib.Seq.{length-take-le}
-use Rattle.words.specs.Limits.{operationsMost}
-use Rattle.datum.specs.NameTable.{nameAt, hasName}
-use Rattle.core_term.specs.Term.{Plain}
-use Rattle.core_term.specs.Check.{termOf, isTerm, isSome}
-use Rattle.core_term.specs.CheckLaws.{isTerm-some}
-use Rattle.core_term.specs.Text.{spacedAfter, spaced, text}
-use Rattle.output.specs.Output.{line, refusal, header, acceptance}
+use Rattle.core_term.specs.Text.{spacedAfter, spaced}
+use Rattle.output.specs.Output.{line, header, acceptance}
 use Rattle.writer.specs.Put.{Put, Done, Full, noPlace, putOf}
 use Rattle.writer.specs.declared.Writing.{Writing}
 use Rattle.writer.specs.declared.Writing.the-variants.{Written, NoTerm, NoRoom}
 use Rattle.writer.specs.Laid.{laid, Left}
 use Rattle.writer.specs.LaidLaws.{laid-length, laid-append, laid-before, laid-part, laid-first, done-is, full-is, left-done, place-holds, full-holds}
-use Rattle.writer.specs.Writing.{textFor, textOf}
 use Rattle.writer.specs.Wrote.{Wrote}
 use Rattle.writer.specs.WroteLaws.{wrote-all, wrote-none, written-fits, written-is, no-room-is, not-no-term, measured-full, measured-is}
-use Rattle.filing.specs.File.{Spared, spared, crowded, Accepted}
+use Rattle.filing.specs.File.{Spared, spared, crowded}
 
 -- an equal output
 pub wrote-is : {x y d e : List ℕ} {r : Writing} → x ≡ y → Wrote (some x) d e r → Wrote (some y) d e r
@@ -77,35 +71,19 @@ module _ {x : List ℕ} {at : ℕ} {d e : List ℕ} where
 
 -- ---- an accepted term
 
--- words that writing refuses
-pub no-acceptance : (words names : List ℕ) (steps sum : ℕ) → isTerm operationsMost (hasName names) words ≡ false
-    → refusal 19 0 0 ≡ acceptance names steps sum (termOf operationsMost (hasName names) words)
-unfolding isTerm isSome acceptance
-no-acceptance words names steps sum = go (termOf operationsMost (hasName names) words)
-  where
-    go : (o : Option Plain) → isSome o ≡ false → refusal 19 0 0 ≡ acceptance names steps sum o
-    go none h = refl
-    go (some t) h = absurd (true≢false h)
-
-pub accepted-parts : (words names : List ℕ) (steps sum : ℕ) → isTerm operationsMost (hasName names) words ≡ true → Accepted words names steps sum
-unfolding textOf textFor acceptance line spaced spacedAfter
-accepted-parts words names steps sum h =
-    let t = isTerm-some operationsMost (hasName names) words h in
-    record {
-      term = text (nameAt names) (t .0);
-      written = ap (textFor names) (t .1);
-      whole = ap (acceptance names steps sum) (t .1);
-    }
-
-module _ {words names : List ℕ} {steps sum : ℕ} (a : Accepted words names steps sum) (d : List ℕ) where
+module _ (steps sum : ℕ) (x d : List ℕ) where
   abbrev first : List ℕ
   first = header steps sum
 
   abbrev all : List ℕ
-  all = acceptance names steps sum (termOf operationsMost (hasName names) words)
+  all = acceptance steps sum x
 
-  all-length : length all ≡ length first + (length (a .term) + 1)
-  all-length = ap length (a .whole) ∙ omega (arith, length-append first (a .term ++ (10 ∷ [])), length-append (a .term) (10 ∷ []))
+  whole : all ≡ first ++ (x ++ (10 ∷ []))
+  unfolding acceptance line spaced spacedAfter
+  whole = refl
+
+  all-length : length all ≡ length first + (length x + 1)
+  all-length = ap length whole ∙ omega (arith, length-append first (x ++ (10 ∷ [])), length-append x (10 ∷ []))
 
   module _ (e : List ℕ) (r : Put) (dry : Left false first 0 d e r) where
     pub header-full : r ≡ Full → Wrote (some all) d e NoRoom
@@ -118,24 +96,18 @@ module _ {words names : List ℕ} {steps sum : ℕ} (a : Accepted words names st
       pub no-byte : length e ≤ from → Wrote (some all) d e NoRoom
       no-byte l = wrote-none all d (omega (arith, all-length, measured, ap length (measured .2))) e (measured .2)
 
-      module _ (f : List ℕ) (s : Put) (laid′ : (x : List ℕ) → textOf words operationsMost names ≡ some x → Spared x from e f s) where
-        told : Spared (a .term) from e f s
-        told = laid′ (a .term) (a .written)
-
+      module _ (f : List ℕ) (s : Put) (told : Spared x from e f s) where
         pub term-full : s ≡ Full → Wrote (some all) d f NoRoom
         term-full g =
-            let k = crowded-is (subst (Spared (a .term) from e f) g told) in
+            let k = crowded-is (subst (Spared x from e f) g told) in
             wrote-none all d (omega (arith, all-length, measured, ap length (measured .2))) f (k .1 ∙ measured .2)
 
         module _ (to : ℕ) (g : s ≡ Done to) where
-          abbrev there : (to ≡ from + length (a .term)) × (to < length e) × (f ≡ laid true (a .term) from e)
-          there = spared-is (subst (Spared (a .term) from e f) g told)
+          abbrev there : (to ≡ from + length x) × (to < length e) × (f ≡ laid true x from e)
+          there = spared-is (subst (Spared x from e f) g told)
 
           there-length : length f ≡ length e
-          there-length = ap length (there .2) ∙ laid-length true (a .term) from e (omega (arith, there))
-
-          pub end-room : to ≤ length f
-          end-room = omega (arith, there, there-length)
+          there-length = ap length (there .2) ∙ laid-length true x from e (omega (arith, there))
 
           module _ (f′ : List ℕ) (u : Put) (lf : Left true (10 ∷ []) to f f′ u) where
             pub end-never-full : u ≡ Full → Wrote (some all) d f′ NoRoom
@@ -146,16 +118,16 @@ module _ {words names : List ℕ} {steps sum : ℕ} (a : Accepted words names st
               ended = done-is (left-done lf end b)
 
               -- the term and LF
-              behind : f′ ≡ laid true (a .term ++ (10 ∷ [])) from d
+              behind : f′ ≡ laid true (x ++ (10 ∷ [])) from d
               behind =
-                  ended .2 ∙ ap (laid true (10 ∷ []) to) (there .2 ∙ ap (laid true (a .term) from) (measured .2))
-                  ∙ laid-append true (a .term) (10 ∷ []) from to d (there .0) (omega (arith, there, ap length (measured .2)))
+                  ended .2 ∙ ap (laid true (10 ∷ []) to) (there .2 ∙ ap (laid true x from) (measured .2))
+                  ∙ laid-append true x (10 ∷ []) from to d (there .0) (omega (arith, there, ap length (measured .2)))
 
-              fits : from + length (a .term ++ (10 ∷ [])) ≤ length d
-              fits = omega (arith, length-append (a .term) (10 ∷ []), there, ap length (measured .2))
+              fits : from + length (x ++ (10 ∷ [])) ≤ length d
+              fits = omega (arith, length-append x (10 ∷ []), there, ap length (measured .2))
 
               behind-length : length f′ ≡ length d
-              behind-length = ap length behind ∙ laid-length true (a .term ++ (10 ∷ [])) from d fits
+              behind-length = ap length behind ∙ laid-length true (x ++ (10 ∷ [])) from d fits
 
               module _ (f″ : List ℕ) (v : Put) (wet : Left true first 0 f′ f″ v) where
                 pub header-never-full : v ≡ Full → Wrote (some all) d f″ NoRoom
@@ -164,8 +136,8 @@ module _ {words names : List ℕ} {steps sum : ℕ} (a : Accepted words names st
                 pub accepted-wrote : (again : ℕ) → v ≡ Done again → Wrote (some all) d f″ (Written end)
                 accepted-wrote again q =
                     let k = done-is (left-done wet again q) in
-                    let y = a .term ++ (10 ∷ []) in
-                    wrote-all all d (omega (arith, all-length, measured, fits, length-append (a .term) (10 ∷ []))) end f″
+                    let y = x ++ (10 ∷ []) in
+                    wrote-all all d (omega (arith, all-length, measured, fits, length-append x (10 ∷ []))) end f″
                     (omega (arith, all-length, measured, there, ended))
                     (k .2 ∙ ap (laid true first 0) behind ∙ laid-before first y 0 from d (omega (arith, measured)) fits
-                    ∙ ap (λ (z : List ℕ). laid true z 0 d) (sym (a .whole)) ∙ laid-first all d)
+                    ∙ ap (λ (z : List ℕ). laid true z 0 d) (sym whole) ∙ laid-first all d)

@@ -1,5 +1,6 @@
 -- The filing program's one call: Filed is its promise.
 pub mod Filed
+pub mod Written
 pub mod Lines
 pub mod File
 pub mod FileLaws

@@ -1,30 +1,31 @@
 -- No output of the filing program passes the 116,736 bytes that it has, so it always prints what the definition says.
-use mathlib.Core.Path.{_≡_, refl, ap, subst}
+use mathlib.Core.Path.{_≡_, refl, sym, ap, subst}
 use mathlib.Core.List.{List, [], _∷_, _++_}
-use mathlib.Core.Option.{Option, none, some}
+use mathlib.Core.Option.{some}
 use Prim.Native.Nat.{ℕ, _≤_, _<_}
 use native.Mathlib.Omega.{arith}
 use lib.ListN.{length, length-append}
 use Rattle.words.specs.Limits.{itemWordsLeast, nameBytesLeast, operationsMost, filingFuel, filingWork, filingCore}
-use Rattle.datum.specs.NameTable.{nameAt, hasName}
+use Rattle.datum.specs.NameTable.{hasName}
 use Rattle.reading.specs.Elements.{Answer, got, refusedFor}
 use Rattle.reading.specs.Read.{Recipe, read, itemWords, nameBytes}
 use Rattle.reading_layout.specs.Answers.{read-ground}
-use Rattle.core_term.specs.Term.{Plain}
 use Rattle.core_term.specs.Decimal.{decimal}
-use Rattle.core_term.specs.Text.{spacedAfter, spaced, text}
-use Rattle.core_term.specs.Check.{termOf}
+use Rattle.core_term.specs.Text.{spacedAfter, spaced}
 use Rattle.core_term.specs.CheckLaws as C
 use Rattle.core_term.specs.TextRoom.{limit, number-room, text-room}
 use Rattle.expansion.specs.Run.{Outcome, accepted, refusedOn, unfinished, Run, coreOf, run}
+use Rattle.expansion.specs.CoreTerm.{CoreTerm, Named}
 use Rattle.expansion.specs.Bounds.{run-sum, run-steps, run-core-fits}
 use Rattle.expansion.specs.Ways.Grounds.{ground-range, run-ground}
-use Rattle.output.specs.Output.{line, refusal, header, acceptance, printed, outputOf, filed, output}
+use Rattle.output.specs.Output.{line, refusal, header, acceptance, termText, printed, outputOf, filed, output}
+use Rattle.output.specs.WrittenLaws.{recipe-named}
 use Rattle.writer.specs.declared.Writing.{Writing}
 use Rattle.writer.specs.declared.Writing.the-variants.{Written, NoTerm, NoRoom}
 use Rattle.writer.specs.Wrote.{Wrote}
 use Rattle.writer.specs.WroteLaws.{written-is, no-room-is, not-no-term}
 use Rattle.program_laws.specs.Printed.{Printed}
+use Rattle.filing.specs.Written.{run-written}
 use Rattle.filing.specs.File.{outputMost}
 use Rattle.filing.specs.Lines.{countsText, refusal-laid, header-laid}
 
@@ -51,31 +52,28 @@ header-room steps sum p q = omega (arith, ap length (header-laid steps sum), cou
 -- ---- outputs
 
 module _ (fuel : ℕ) (small : fuel < limit) where
-  acceptance-room : (names ws : List ℕ) (steps sum : ℕ) → steps < limit → sum < limit → length ws ≤ filingCore
-      → length (acceptance names steps sum (termOf operationsMost (hasName names) ws)) ≤ outputMost
-  unfolding acceptance line spaced spacedAfter
-  acceptance-room names ws steps sum p q l = go (termOf operationsMost (hasName names) ws) refl
-    where
-      go : (o : Option Plain) → termOf operationsMost (hasName names) ws ≡ o → length (acceptance names steps sum o) ≤ outputMost
-      go none e = omega (arith, refusal-room 19 0 0 (omega arith) (omega arith) (omega arith))
-      go (some t) e =
-          let x = text (nameAt names) t in
-          omega (
-            arith,
-            length-append (header steps sum) (x ++ (10 ∷ [])),
-            length-append x (10 ∷ []),
-            header-room steps sum p q,
-            text-room operationsMost names ws t (C.accepted operationsMost (hasName names) ws t e) (omega arith),
-          )
+  acceptance-room : (names : List ℕ) (r : Run) (steps sum : ℕ) → CoreTerm operationsMost (hasName names) r → steps < limit → sum < limit → length (coreOf r) ≤ filingCore
+      → length (acceptance steps sum (termText names (r .term))) ≤ outputMost
+  unfolding acceptance termText line spaced spacedAfter
+  acceptance-room names r steps sum t p q l =
+      let x = termText names (some (t .term)) in
+      let room : length (header steps sum ++ (x ++ (10 ∷ []))) ≤ outputMost = omega (
+        arith,
+        length-append (header steps sum) (x ++ (10 ∷ [])),
+        length-append x (10 ∷ []),
+        header-room steps sum p q,
+        text-room operationsMost names (coreOf r) _ (C.accepted operationsMost (hasName names) (coreOf r) _ (t .passes)) (omega arith),
+      ) in
+      subst (λ o. length (header steps sum ++ (termText names o ++ (10 ∷ []))) ≤ outputMost) (sym (t .given)) room
 
-  module _ (names items : List ℕ) (work core : ℕ) (few : core ≤ filingCore) where
+  module _ (names items : List ℕ) (named : Named (hasName names) items) (work core : ℕ) (few : core ≤ filingCore) where
     abbrev it : Run
     it = run items fuel work core
 
     printed-room : (o : Outcome) → it .outcome ≡ o → length (printed names o it) ≤ outputMost
     unfolding printed
     printed-room accepted e =
-        acceptance-room names (coreOf it) (it .steps) (it .sum) (omega (arith, run-steps items fuel work core, run-sum items fuel work core))
+        acceptance-room names it (it .steps) (it .sum) (run-written names items fuel work core named e) (omega (arith, run-steps items fuel work core, run-sum items fuel work core))
         (omega (arith, run-sum items fuel work core)) (omega (arith, run-core-fits items fuel work core))
     printed-room (refusedOn w g) e =
         omega (
@@ -91,7 +89,7 @@ module _ (fuel : ℕ) (small : fuel < limit) where
   filed-room txt items names work core few = go (read txt items names) refl
     where
       go : (a : Answer Recipe) → read txt items names ≡ a → length (outputOf fuel work core a) ≤ outputMost
-      go (got r) e = printed-room (nameBytes r) (itemWords r) work core few (run (itemWords r) fuel work core .outcome) refl
+      go (got r) e = printed-room (nameBytes r) (itemWords r) (recipe-named txt items names r e) work core few (run (itemWords r) fuel work core .outcome) refl
       go (refusedFor stage g) e = omega (arith, refusal-room g 0 0 (omega (arith, read-ground txt items names stage g e .1)) (omega arith) (omega arith))
 
 -- ---- in the filing program's tables

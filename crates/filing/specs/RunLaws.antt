@@ -9,18 +9,20 @@ use Rattle.datum.specs.NameTable.{hasName}
 use Rattle.reader.specs.declared.Reading.{Reading}
 use Rattle.reader.specs.declared.Reading.the-variants as RV
 use Rattle.reader.specs.Served as R
-use Rattle.core_term.specs.Check.{termOf}
 use Rattle.expansion.specs.Run.{Run, run}
+use Rattle.expansion.specs.CoreTerm.{Named}
 use Rattle.expander.specs.declared.Expansion.{Expansion}
 use Rattle.expander.specs.declared.Expansion.the-variants.{Accepted, Refused}
 use Rattle.expander.specs.Service as E
 use Rattle.expander.specs.Service.{Numbers, numbersOf, runNumbers}
-use Rattle.program_laws.specs.ReadLaws.{refused-read, of-recipe}
+use Rattle.program_laws.specs.ReadLaws.{refused-read, items-named, of-recipe}
 use Rattle.program_laws.specs.RunLaws.{run-told, ran-accepted, ran-refused, term-front}
-use Rattle.output.specs.Output.{refusal, acceptance, printed, outputOf, filed}
+use Rattle.output.specs.Output.{refusal, acceptance, termText, printed, outputOf, filed}
 use Rattle.writer.specs.declared.Writing.{Writing}
+use Rattle.writer.specs.Writing.{textOf}
 use Rattle.writer.specs.Wrote.{Wrote}
 use Rattle.filing.specs.FileLaws.{wrote-is}
+use Rattle.filing.specs.Written.{run-written, term-text}
 use Rattle.filing.specs.Filed.{printedRun, Expanded, workLeft, coreLeft, Filed}
 
 -- ---- expansion
@@ -37,12 +39,15 @@ module _ (items : List ℕ) (fuel : ℕ) (work work′ core core′ : List ℕ) 
   expanded-by e x = record { output = wrote-is e x; work-after = s .work-after; core-after = s .core-after }
 
   pub expanded-accepted : (n m l : ℕ) → r ≡ Accepted n m l → (to : ℕ) → to ≡ l → {names out out′ : List ℕ} {q : Writing}
-      → Wrote (some (acceptance names n m (termOf operationsMost (hasName names) (take to core′)))) out out′ q
-      → Expanded items fuel names work work′ core core′ out out′ q
+      → ((x : List ℕ) → textOf (take to core′) operationsMost names ≡ some x → Wrote (some (acceptance n m x)) out out′ q)
+      → Named (hasName names) items → Expanded items fuel names work work′ core core′ out out′ q
   unfolding numbersOf runNumbers printedRun printed
-  expanded-accepted n m l h to w =
+  expanded-accepted n m l h to w {names} write named =
       let k = counts (Accepted n m l) h in
-      expanded-by (rw (ran-accepted items fuel work work′ core core′ r s n m l h, ap (λ (x : Numbers). x .steps) k, ap (λ (x : Numbers). x .sum) k, term-front items fuel work work′ core core′ r s n m l h to w .1))
+      let done = ran-accepted items fuel work work′ core core′ r s n m l h in
+      let front = term-front items fuel work work′ core core′ r s n m l h to w .1 in
+      let text = term-text operationsMost names ran (run-written names items fuel (length work) (length core) named done) in
+      expanded-by (rw (done, ap (λ (x : Numbers). x .steps) k, ap (λ (x : Numbers). x .sum) k)) (write (termText names (ran .term)) (ap (λ ws. textOf ws operationsMost names) front ∙ text))
 
   pub expanded-refused : (g n m : ℕ) → r ≡ Refused g n m → {names out out′ : List ℕ} {q : Writing} → Wrote (some (refusal g n m)) out out′ q
       → Expanded items fuel names work work′ core core′ out out′ q
@@ -55,10 +60,11 @@ module _ (items : List ℕ) (fuel : ℕ) (work work′ core core′ : List ℕ) 
 
 module _ (text items items′ names names′ : List ℕ) (r : Reading) (s : R.Served text items items′ names names′ r) where
   pub filed-read : (i n : ℕ) → r ≡ RV.Read i n → {fuel : ℕ} {work work′ core core′ out out′ : List ℕ} {w : Writing}
-      → Expanded (take (3 * i) items′) fuel (take (slotSize * n) names′) work work′ core core′ out out′ w
+      → (Named (hasName (take (slotSize * n) names′)) (take (3 * i) items′) → Expanded (take (3 * i) items′) fuel (take (slotSize * n) names′) work work′ core core′ out out′ w)
       → Filed text fuel items items′ names names′ work work′ core core′ out out′ w
   unfolding printedRun filed outputOf workLeft coreLeft
-  filed-read i n h {fuel} {work} {core = core} x =
+  filed-read i n h {fuel} {work} {core = core} expanded =
+      let x = expanded (items-named text items items′ names names′ r s i n h) in
       let ran : List ℕ → Run = λ ws. run ws fuel (length work) (length core) in
       record {
         output = wrote-is (of-recipe text items items′ names names′ r s i n h (λ ws ns. printedRun ns (ran ws)) (outputOf fuel (length work) (length core)) (λ y. refl)) (x .output);

@@ -6,16 +6,15 @@ ghost use Prim.Native.Nat.{ℕ, _<_};
 ghost use lib.ListN.{length};
 ghost use Rattle.words.specs.Limits.{operationsMost};
 ghost use Rattle.datum.specs.NameTable.{hasName};
-ghost use Rattle.core_term.specs.Check.{termOf};
+ghost use Rattle.expansion.specs.CoreTerm.{Named};
 ghost use Rattle.output.specs.Output.{refusal, acceptance};
-ghost use Rattle.writer.specs.Put.{putOf};
+ghost use Rattle.writer.specs.Put.{noPlace, putOf};
 ghost use Rattle.writer.specs.Writing.{textOf};
 ghost use Rattle.writer.specs.Wrote.{Wrote};
 ghost use Rattle.filing.specs.File.{Spared};
 ghost use Rattle.filing.specs.Filed.{Expanded, Filed};
 use crate::lines::accepted_line;
 use crate::lines::refused_line;
-use core_term::is_term;
 use expander::Expansion;
 use expander::expand;
 use reader::Reading;
@@ -44,10 +43,10 @@ fn refused(ground: u32, steps: u32, sum: u32, out: &mut [u8]) -> Writing
     Writing::Written(to)
 }
 
-// The text of the words' term from a place on, where it and one byte more fit.
+// The text of the words' term from a place on, where it and one byte more fit; its end.
 fn term_at(words: &[u32], names: &[u8], out: &mut [u8], from: usize) -> usize
     requires { ⌜ from < length (now out) ⌝ }
-    ensures { λ r. ⌜ ((x : List ℕ) → textOf (now (words .entry)) operationsMost (now (names .entry)) ≡ some x → Spared x from (now (out .entry)) (now (out .exit)) (putOf r)) ⌝ }
+    ensures { λ r. ⌜ ((r ≡ noPlace → ⊥) → r < length (now (out .entry))) × ((x : List ℕ) → textOf (now (words .entry)) operationsMost (now (names .entry)) ≡ some x → Spared x from (now (out .entry)) (now (out .exit)) (putOf r)) ⌝ }
 {
     let last = out.len() - 1;
     match write(words, OPERATIONS, names, &mut out[from..last]) {
@@ -59,11 +58,8 @@ fn term_at(words: &[u32], names: &[u8], out: &mut [u8], from: usize) -> usize
 
 // The output of an accepted term. The term is written at its place, where all fits; then its line before it, and LF behind it.
 fn accepted(words: &[u32], names: &[u8], steps: u32, sum: u32, out: &mut [u8]) -> Writing
-    ensures { λ r. ⌜ Wrote (some (acceptance (now (names .entry)) steps sum (termOf operationsMost (hasName (now (names .entry))) (now (words .entry))))) (now (out .entry)) (now (out .exit)) r ⌝ }
+    ensures { λ r. ⌜ ((x : List ℕ) → textOf (now (words .entry)) operationsMost (now (names .entry)) ≡ some x → Wrote (some (acceptance steps sum x)) (now (out .entry)) (now (out .exit)) r) ⌝ }
 {
-    if !is_term(words, OPERATIONS, names) {
-        return refused(19, 0, 0, out);
-    }
     let from = accepted_line(steps, sum, out, 0, false);
     if from == FULL {
         return Writing::NoRoom;
@@ -95,7 +91,7 @@ fn expanded(
     core: &mut [u32],
     out: &mut [u8],
 ) -> Writing
-    ensures { λ r. ⌜ Expanded (now (items .entry)) fuel (now (names .entry)) (now (work .entry)) (now (work .exit)) (now (core .entry)) (now (core .exit)) (now (out .entry)) (now (out .exit)) r ⌝ }
+    ensures { λ r. ⌜ (Named (hasName (now (names .entry))) (now (items .entry)) → Expanded (now (items .entry)) fuel (now (names .entry)) (now (work .entry)) (now (work .exit)) (now (core .entry)) (now (core .exit)) (now (out .entry)) (now (out .exit)) r) ⌝ }
 {
     match expand(items, fuel, work, core) {
         Expansion::Accepted {

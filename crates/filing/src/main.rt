@@ -66,11 +66,29 @@ fn output(text: &[u8], out: &mut [u8]) -> usize
     }
 }
 
-// A text of more than 65,535 bytes fills the buffer, and is refused by its length.
+// Whether standard input can be read on from where it stands; at its end it can.
+fn can_read() -> bool {
+    let mut more = [0u8; 1];
+    libc::read(STDIN_FILENO, &mut more) >= 0
+}
+
+// Prints the output of a text.
+fn print(text: &[u8]) {
+    let mut out = room();
+    let end = output(text, &mut out);
+    if !io::write_all(STDOUT_FILENO, &out[..end]) {
+        os::fail(b"standard output");
+    }
+}
+
+// A text of more than 65,535 bytes fills the buffer, and is refused by its length. Where standard input cannot be read, standard error says
+// why, and nothing is printed.
 fn main() {
     let mut text = io::large_buffer();
     let length = io::read_full(STDIN_FILENO, &mut text);
-    let mut out = room();
-    let end = output(&text[..length], &mut out);
-    io::write_all(STDOUT_FILENO, &out[..end]);
+    if !can_read() {
+        os::fail(b"standard input");
+        return;
+    }
+    print(&text[..length]);
 }

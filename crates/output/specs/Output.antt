@@ -2,16 +2,16 @@
 use mathlib.Core.List.{List, [], _∷_, _++_}
 use mathlib.Core.Option.{Option, none, some}
 use Prim.Native.Nat.{ℕ}
-use Rattle.words.specs.Limits.{itemWordsLeast, nameBytesLeast, operationsMost, filingWork, filingCore}
+use Rattle.words.specs.Limits.{itemWordsLeast, nameBytesLeast, filingWork, filingCore}
 use Rattle.words.specs.Text.{bytes}
-use Rattle.datum.specs.NameTable.{hasName, nameAt}
+use Rattle.datum.specs.NameTable.{nameAt}
 use Rattle.reading.specs.Elements.{Answer, got, refusedFor}
 use Rattle.reading.specs.Read.{Recipe, read, itemWords, nameBytes}
-use Rattle.core_term.specs.Term.{Plain}
-use Rattle.core_term.specs.Check.{termOf}
+use Rattle.recipe.specs.Name.{Name}
+use Rattle.core_term.specs.Term.{Term}
 use Rattle.core_term.specs.Decimal.{decimal}
 use Rattle.core_term.specs.Text.{spaced, text}
-use Rattle.expansion.specs.Run.{Outcome, accepted, refusedOn, unfinished, Run, coreOf, run}
+use Rattle.expansion.specs.Run.{Outcome, accepted, refusedOn, unfinished, Run, told, run}
 
 -- a line of words, with its LF
 unfoldable pub line : List (List ℕ) → List ℕ
@@ -25,14 +25,18 @@ refusal ground steps sum = line (bytes "refused" ∷ decimal ground ∷ decimal 
 unfoldable pub header : (steps sum : ℕ) → List ℕ
 header steps sum = line (bytes "accepted" ∷ decimal steps ∷ decimal sum ∷ [])
 
--- that, and the term in a line of its own; words that writing refuses are ground 19
-unfoldable pub acceptance : List ℕ → (steps sum : ℕ) → Option Plain → List ℕ
-acceptance names steps sum none = refusal 19 0 0
-acceptance names steps sum (some t) = header steps sum ++ line (text (nameAt names) t ∷ [])
+-- that, and the text of a term in a line of its own
+unfoldable pub acceptance : (steps sum : ℕ) → List ℕ → List ℕ
+acceptance steps sum term = header steps sum ++ line (term ∷ [])
+
+-- the text of a run's term, with the name table of its recipe; that writing gives it is a law (Written)
+unfoldable pub termText : List ℕ → Option (Term Name) → List ℕ
+termText names none = []
+termText names (some t) = text (nameAt names) (told t)
 
 -- a run, with the name table of its recipe
 unfoldable pub printed : List ℕ → Outcome → Run → List ℕ
-printed names accepted r = acceptance names (r .steps) (r .sum) (termOf operationsMost (hasName names) (coreOf r))
+printed names accepted r = acceptance (r .steps) (r .sum) (termText names (r .term))
 printed names (refusedOn stage ground) r = refusal ground (r .steps) (r .sum)
 printed names unfinished r = []
 

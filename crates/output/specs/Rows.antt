@@ -8,11 +8,10 @@ use Rattle.words.specs.Lists as Lists
 use Rattle.words.specs.Text.{bytes}
 use Rattle.datum.specs.NameTable as NameTable
 use Rattle.reading.specs.Read as Read
-use Rattle.core_term.specs.Check as Check
 use Rattle.core_term.specs.Decimal as Decimal
 use Rattle.core_term.specs.Text as Text
 use Rattle.expansion.specs.Computed.{computed}
-use Rattle.output.specs.Output.{line, refusal, header, acceptance, printed, outputOf, filed, output}
+use Rattle.output.specs.Output.{line, refusal, header, acceptance, termText, printed, outputOf, filed, output}
 
 pub record Row : Type 0 where
   pub recipe : String
@@ -30,14 +29,13 @@ row = rowWith filingFuel
 unfoldable pub printedFor : Row → List ℕ
 unfolding
     Lists.within bytes
-    NameTable.slot NameTable.slots NameTable.lengthAt NameTable.nameAt NameTable.hasName
+    NameTable.slot NameTable.slots NameTable.lengthAt NameTable.nameAt
     Read.read Read.itemWords Read.nameBytes
     computed
-    Check.termOf
     Decimal.leading Decimal.digitsBy Decimal.decimal Decimal.padded Decimal.pointed Decimal.signed Decimal.integerText Decimal.decimalText
     Text.spacedAfter Text.spaced Text.parenthesized Text.variableText Text.operationText Text.formalTexts Text.constantText
     Text.bare Text.outermost Text.textIn Text.text
-    line refusal header acceptance printed outputOf filed output
+    line refusal header acceptance termText printed outputOf filed output
 printedFor r = output (bytes (r .recipe)) (r .fuel)
 
 unfoldable pub rows : List Row

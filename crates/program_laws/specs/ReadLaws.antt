@@ -7,10 +7,13 @@ use lib.ListN.{length, take, replicate}
 use Rattle.words.specs.Limits.{slotSize}
 use Rattle.words.specs.Tables.{filled, Stage}
 use Rattle.datum.specs.Datum.{dataItems}
+use Rattle.datum.specs.NameTable.{hasName}
 use Rattle.reading.specs.Elements.{Answer, got, refusedFor}
 use Rattle.reading.specs.Read.{Recipe, read, readNumbers, itemWords, nameBytes, itemsAfter, namesAfter}
 use Rattle.reading_layout.specs.Items.{data-length}
 use Rattle.reading_layout.specs.Answers.{numbers-got, numbers-refused, read-slots}
+use Rattle.reading_layout.specs.Named.{read-named}
+use Rattle.expansion.specs.CoreTerm.{Named}
 use Rattle.reader.specs.declared.Reading.{Reading}
 use Rattle.reader.specs.declared.Reading.the-variants.{Read, Refused}
 use Rattle.reader.specs.Served.{numbersOf, Served}
@@ -52,6 +55,11 @@ module _ (text items items′ names names′ : List ℕ) (r : Reading) (s : Serv
         front (nameBytes recipe) (replicate (length names - length (nameBytes recipe)) 0) names′ (slotSize * n)
         (s .names ∙ ap (λ (a : Answer Recipe). namesAfter a names) is-read)
         (omega (arith, read-slots text (length items) (length names) recipe is-read, recipe-read i n h .3))
+
+    -- each name of the words is in the bytes
+    pub items-named : Named (hasName (take (slotSize * n) names′)) (take (3 * i) items′)
+    unfolding read
+    items-named = rw (items-front .1, names-front .1) (read-named 2 text (length items) (length names) recipe is-read)
 
     -- what is said of the words and bytes that begin the tables is said of the answer
     pub of-recipe : {A : Type 0} (f : (items names : List ℕ) → A) (g : Answer Recipe → A) → ((x : Recipe) → f (itemWords x) (nameBytes x) ≡ g (got x)) → f (take (3 * i) items′) (take (slotSize * n) names′) ≡ g read′

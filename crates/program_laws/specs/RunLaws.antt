@@ -6,7 +6,7 @@ use native.Mathlib.Omega.{arith}
 use lib.ListN.{length, take, replicate}
 use Rattle.words.specs.Tables.{Stage, filled, leftAt}
 use Rattle.core_term.specs.PartsLaws.{encode-two}
-use Rattle.expansion.specs.Run.{told, Outcome, accepted, refusedOn, unfinished, stageOf, Run, coreOf, run}
+use Rattle.expansion.specs.Run.{told, termWords, Outcome, accepted, refusedOn, unfinished, stageOf, Run, coreOf, run}
 use Rattle.expansion.specs.CoreTerm.{run-term}
 use Rattle.expansion.specs.Bounds.Gas.{run-finished}
 use Rattle.expansion.specs.Ways.Grounds.{ground-range, run-ground}
@@ -36,7 +36,7 @@ module _ (items : List ℕ) (fuel work core : ℕ) where
       go : (o : Outcome) → it .outcome ≡ o → g ≡ groundOf o → _≡_ {A = ℕ} 0 (length (coreOf it)) → (w : Stage) × (it .outcome ≡ refusedOn w g)
       go accepted h z l =
           let t = run-term items fuel work core h in
-          absurd (omega (arith, encode-two (told (t .term)), ap length (t .words)))
+          absurd (omega (arith, encode-two (told (t .term)), ap (λ x. length (termWords x)) (t .given)))
       go (refusedOn w k) h z l = (w, h ∙ ap (refusedOn w) (sym z))
       go unfinished h z l = absurd (run-finished items fuel work core h)
 

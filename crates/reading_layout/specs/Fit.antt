@@ -74,7 +74,7 @@ mean-good (R.more w q) h =
 
 -- ---- elements
 
-number-with : (cs : List ℕ) (names : List (List ℕ)) → numberOf cs names < length (withName cs names)
+pub number-with : (cs : List ℕ) (names : List (List ℕ)) → numberOf cs names < length (withName cs names)
 unfolding withName
 number-with cs names =
     either (ltb (numberOf cs names) (length names)) (λ e. rw e (ltb-true _ _ e))

@@ -1,5 +1,5 @@
--- No run is out of gas: the items of the recipe and the fuel together are enough.
-use mathlib.Core.Path.{_≡_}
+-- No run is out of gas: the items of the recipe and the fuel together are enough. So an accepted run has gone all the way.
+use mathlib.Core.Path.{_≡_, sym}
 use mathlib.Core.List.{List}
 use Prim.Native.Nat.{ℕ, _+_}
 use native.Mathlib.Omega.{arith}
@@ -8,8 +8,8 @@ use Rattle.recipe.specs.Tree.{Tree, size, element}
 use Rattle.recipe.specs.TreeLaws.{element-size}
 use Rattle.recipe.specs.Table.{treeOf}
 use Rattle.expansion.specs.Computation.{start}
-use Rattle.expansion.specs.Run.{unfinished, ended, unbegun, operationNumbers, expandRecipe, run}
-use Rattle.expansion.specs.RunLaws.{accepted≢unfinished, refusedOn≢unfinished, run-holds}
+use Rattle.expansion.specs.Run.{accepted, unfinished, ended, unbegun, operationNumbers, expandRecipe, run}
+use Rattle.expansion.specs.RunLaws.{accepted≢refusedOn, accepted≢unfinished, refusedOn≢unfinished, Begun, run-holds}
 use Rattle.expansion.specs.Bounds.Budget.{SpendsTerm, expand-spends}
 
 -- a recipe's expansion is not out of gas, and spends no more than it may
@@ -25,4 +25,14 @@ run-finished items fuel work core =
     (λ g _. refusedOn≢unfinished _ g)
     (λ b t s l q. accepted≢unfinished)
     (λ b g s l r. refusedOn≢unfinished _ g)
+    (λ b l x. absurd x)
+
+-- an accepted run has passed grounds 7 to 10
+pub accepted-begun : (items : List ℕ) (fuel work core : ℕ) → run items fuel work core .outcome ≡ accepted → Begun items fuel work core
+unfolding unbegun ended
+accepted-begun items fuel work core =
+    run-holds (λ r. r .outcome ≡ accepted → Begun items fuel work core) items fuel work core (λ b. expandRecipe-spends _ fuel (treeOf items))
+    (λ g _ e. absurd (accepted≢refusedOn _ g (sym e)))
+    (λ b t s l q e. b)
+    (λ b g s l r e. absurd (accepted≢refusedOn _ g (sym e)))
     (λ b l x. absurd x)

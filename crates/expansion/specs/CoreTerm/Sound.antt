@@ -6,8 +6,8 @@ use mathlib.Core.List.{List, [], _++_, map}
 use Prim.Native.Nat.{ℕ, zero, suc, _+_, _≤_, _<_}
 use native.Mathlib.Omega.{arith}
 use lib.ListN.{length, length-map}
-use borrow.Author.Tests.{leb-true, lt-ltb}
-use Rattle.words.specs.Limits.{formalsMost, namesMost}
+use borrow.Author.Tests.{leb-true}
+use Rattle.words.specs.Limits.{formalsMost}
 use Rattle.words.specs.Lists.{allOf}
 use Rattle.words.specs.TestLaws.{and-parts, and-both}
 use Rattle.words.specs.Each.{Each, each-weaken, each-map, true-each, given-at}
@@ -17,7 +17,7 @@ use Rattle.recipe.specs.Tidy.{tidyEmpty, tidyConstant, tidyName, tidyPair, tidy
 use Rattle.core_term.specs.Node.{isNode}
 use Rattle.core_term.specs.Term.{Term, variableC, operationC, ifC, applicationC, noneC, moreC, variables, variablesAll, onFormals}
 use Rattle.core_term.specs.Every.{Asked, everyDatum, every, everyTerm}
-use Rattle.core_term.specs.Check.{Scope, inside, variableInside, firstNumber, known, small}
+use Rattle.core_term.specs.Check.{Scope, inside, variableInside, firstNumber, known}
 use Rattle.expansion.specs.Lookup.{quote, if, lambda, let-syntax, letrec-syntax, auxiliary, Found}
 use Rattle.expansion.specs.Computation.{State, Out, M}
 use Rattle.expansion.specs.Forms.{isLambda, formals, keywords, rulesForms, expandAll, expandQuote, expandIf, expandLambda, expandMacros, expandUse, expandOperands, expandList, expandName, expandApplication, expandPair, expandTree, expandWithin}
@@ -38,10 +38,10 @@ formals-most {t = t} f e =
     let d = and-parts (allOf isOrdinaryName (elements (element 1 t))) _ (b .1) in
     omega (arith, tidy-formals (tidy-element 1 f) (b .0) (d .0), leb-true (length (elements (element 1 t))) formalsMost (d .1))
 
--- their numbers are below 1,024
-formals-small : {W : World} {t : Tree} → FineTree W t → allOf small (map (λ x. x .number) (formals t)) ≡ true
-unfolding formals small
-formals-small f = true-each small (each-map (λ x. x .number) (λ x g. lt-ltb (x .number) namesMost (g .small)) (tidy-names (tidy-element 1 f)))
+-- their numbers are of the world
+formals-known : {W : World} {t : Tree} → FineTree W t → allOf (W .names) (map (λ x. x .number) (formals t)) ≡ true
+unfolding formals
+formals-known {W} f = true-each (W .names) (each-map (λ x. x .number) (λ x g. g .number) (tidy-names (tidy-element 1 f)))
 
 rulesForms-fine : {W : World} {t : Tree} → FineTree W t → Each (FineTree W) (rulesForms t)
 unfolding rulesForms
@@ -75,12 +75,12 @@ abbrev pub Makes : {A : Type 0} → (A → State → Type 0) → Out A → Type 
 Makes Q o = Holds (Unit {0}) (λ g u l. Unit {0}) (λ a u l. Q a u) o
 
 module _ (limit : ℕ) (operations : List ℕ) (fuel : ℕ) where
-  abbrev asks : Asked Scope
-  asks = sound (length operations)
+  abbrev asks : World → Asked Scope
+  asks W = sound (length operations) (W .names)
 
   -- a sound term, from a state of the world
   abbrev pub MadeTerm : World → State → Term Name → State → Type 0
-  MadeTerm W s w u = Made s (every asks (W .variables) (s .variables) (told w)) (variables (told w)) u
+  MadeTerm W s w u = Made s (every (asks W) (W .variables) (s .variables) (told w)) (variables (told w)) u
 
   abbrev pub MakesTerm : World → State → Out (Term Name) → Type 0
   MakesTerm W s = Makes (MadeTerm W s)
@@ -90,7 +90,7 @@ module _ (limit : ℕ) (operations : List ℕ) (fuel : ℕ) where
   Sound rec = (W : World) (t : Tree) → FineTree W t → (s : State) → Closed W s → MakesTerm W s (rec t s)
 
   module _ (rec : Tree → M (Term Name)) (good : Sound rec) (W : World) where
-    all-made : {t : Tree} → FineTree W t → (s : State) → Closed W s → Makes (λ ws u. Made s (everyTerm asks (W .variables) (s .variables) (toldAll ws)) (variablesAll (toldAll ws)) u) (expandAll limit operations fuel rec t s)
+    all-made : {t : Tree} → FineTree W t → (s : State) → Closed W s → Makes (λ ws u. Made s (everyTerm (asks W) (W .variables) (s .variables) (toldAll ws)) (variablesAll (toldAll ws)) u) (expandAll limit operations fuel rec t s)
     unfolding expandAll onFormals every variables
     all-made tidyEmpty s c = give-holds noneC s (made-none s refl)
     all-made (tidyConstant a) s c = give-holds noneC s (made-none s refl)
@@ -98,14 +98,14 @@ module _ (limit : ℕ) (operations : List ℕ) (fuel : ℕ) where
     all-made (tidyPair h t l) s c =
         then-holds _ _ _ s (good W _ h s c) λ a u i p.
         then-holds _ _ _ u (all-made t u (closed-grown c (p .grown))) λ b v j q.
-        give-holds (moreC a b) v (made-then (λ k. everyTerm asks (W .variables) k (toldAll b)) p q)
+        give-holds (moreC a b) v (made-then (λ k. everyTerm (asks W) (W .variables) k (toldAll b)) p q)
 
     operands-made : (a : Term Name) {t : Tree} (s u : State) → MadeTerm W s a u → FineTree W t → Closed W u
         → MakesTerm W s (expandOperands limit operations fuel rec a t u)
     unfolding expandOperands onFormals every variables sound isNode inside variableInside firstNumber known
     operands-made a s u p f c =
         then-holds _ _ _ u (all-made f u c) λ b v l q.
-        give-holds (applicationC a b) v (made-then (λ k. everyTerm asks (W .variables) k (toldAll b)) p q)
+        give-holds (applicationC a b) v (made-then (λ k. everyTerm (asks W) (W .variables) k (toldAll b)) p q)
 
     application-made : {h t : Tree} → FineTree W h → FineTree W t → (s : State) → Closed W s → MakesTerm W s (expandApplication limit operations fuel rec h t s)
     unfolding expandApplication
@@ -118,7 +118,7 @@ module _ (limit : ℕ) (operations : List ℕ) (fuel : ℕ) where
     quote-made f s =
         test-holds _ _ _ s tt λ _.
         show-holds _ _ s
-        (give-holds _ s (made-none s (strip-sound (length operations) (W .variables) (s .variables) (tidy-element 1 f))))
+        (give-holds _ s (made-none s (strip-sound (length operations) W (W .variables) (s .variables) (tidy-element 1 f))))
 
     if-made : {t : Tree} → FineTree W t → (s : State) → Closed W s → MakesTerm W s (expandIf limit operations fuel rec t s)
     unfolding expandIf onFormals every variables sound isNode inside variableInside firstNumber known
@@ -127,7 +127,7 @@ module _ (limit : ℕ) (operations : List ℕ) (fuel : ℕ) where
         then-holds _ _ _ s (good W _ (tidy-element 1 f) s c) λ x u i p.
         then-holds _ _ _ u (good W _ (tidy-element 2 f) u (closed-grown c (p .grown))) λ y v j q.
         then-holds _ _ _ v (good W _ (tidy-element 3 f) v (closed-grown c (grown-then (p .grown) (q .grown)))) λ z w k r.
-        give-holds (ifC x y z) w (made-then (λ b. every asks (W .variables) b (told y) && every asks (W .variables) (b + variables (told y)) (told z)) p (made-then (λ b. every asks (W .variables) b (told z)) q r))
+        give-holds (ifC x y z) w (made-then (λ b. every (asks W) (W .variables) b (told y) && every (asks W) (W .variables) (b + variables (told y)) (told z)) p (made-then (λ b. every (asks W) (W .variables) b (told z)) q r))
 
     lambda-made : {t : Tree} → FineTree W t → (s : State) → Closed W s → MakesTerm W s (expandLambda limit operations fuel rec t s)
     unfolding expandLambda onFormals every variables sound inside withVariables widen
@@ -142,8 +142,8 @@ module _ (limit : ℕ) (operations : List ℕ) (fuel : ℕ) where
         (addVariables-holds _ _ s
         (then-holds _ _ _ _ (good (withVariables k n W) _ (variables-fine k (formals t) (tidy-element 2 f)) _ (closed-grown (closed-variables k n c) (grown-same refl))) λ w u l p.
         give-holds _ u (record {
-          passed = and-both _ _ (lambda-sound (length operations) (W .variables) k (map (λ x. x .number) (formals t)) (omega (arith, same, formals-most f shape)) (formals-small f))
-              (subst (λ m. every asks (withVariables k m W .variables) (k + m) (told w) ≡ true) (sym same) (p .passed));
+          passed = and-both _ _ (lambda-sound (length operations) (W .names) (W .variables) k (map (λ x. x .number) (formals t)) (omega (arith, same, formals-most f shape)) (formals-known f))
+              (subst (λ m. every (asks W) (withVariables k m W .variables) (k + m) (told w) ≡ true) (sym same) (p .passed));
           counted = omega (arith, p .counted, same);
           grown = grown-then (grown-same refl) (p .grown);
         }))))
@@ -163,7 +163,7 @@ module _ (limit : ℕ) (operations : List ℕ) (fuel : ℕ) where
         (let added : u .macros ++ rules ≡ s .macros ++ rules = ap (λ (z : State). z .macros ++ rules) (read .unchanged) in
         let enough : length xs ≤ length rules = omega (arith, read .count, keywords-count limit t shape, length-map (rulesForms t) (cond inside (bindAll macro k xs) (λ r. r))) in
         weaken (good (withMacros k (length xs) W) _ (macros-fine k xs (tidy-element 2 f)) _ (closed-macros (length xs) rules c enough (read .each) added)) (λ x. x) (λ g v j r. r) λ w v j p.
-        made-after (λ b. every asks (W .variables) b (told w)) (ap (λ (z : State). z .variables) (read .unchanged)) (record { more = rules; macros = added }) p))))
+        made-after (λ b. every (asks W) (W .variables) b (told w)) (ap (λ (z : State). z .variables) (read .unchanged)) (record { more = rules; macros = added }) p))))
 
     use-made : (n : ℕ) → W .macros n ≡ true → {t : Tree} → FineTree W t → (s : State) → Closed W s → MakesTerm W s (expandUse limit operations fuel rec n t s)
     unfolding expandUse
@@ -179,16 +179,16 @@ module _ (limit : ℕ) (operations : List ℕ) (fuel : ℕ) where
         (let template = given-at (firstFit-tidy (tail (mark m t)) (c .rules n h)) e in
         let result = transcribe-tidy (r .pattern) used [] template .0 in
         weaken (good W _ (tidy-produce fine-produce (tidy-mark m (fine-mark m) result)) _ (closed-grown c (grown-same refl))) (λ x. x) (λ g v j r. r) λ w v j p.
-        made-after (λ b. every asks (W .variables) b (told w)) refl (grown-same refl) p)))
+        made-after (λ b. every (asks W) (W .variables) b (told w)) refl (grown-same refl) p)))
 
     -- a variable or an operation
     variable-made : {n : ℕ} → W .variables n ≡ true → (s : State) → MadeTerm W s (variableC n) s
     unfolding onFormals every variables
-    variable-made {n} h s = made-none s (variable-sound (length operations) (W .variables) (s .variables) n h)
+    variable-made {n} h s = made-none s (variable-sound (length operations) (W .names) (W .variables) (s .variables) n h)
 
     operation-made : {p : ℕ} → p < length operations → (s : State) → MadeTerm W s (operationC p) s
     unfolding onFormals every variables
-    operation-made {p} h s = made-none s (operation-sound (length operations) (W .variables) (s .variables) p h)
+    operation-made {p} h s = made-none s (operation-sound (length operations) (W .names) (W .variables) (s .variables) p h)
 
     list-made : {g : Found} → Meant W (length operations) g → (x : Name) {t : Tree} → FineTree W t → (s : State) → Closed W s → MakesTerm W s (expandList limit operations fuel rec g x t s)
     unfolding expandList
@@ -221,7 +221,7 @@ module _ (limit : ℕ) (operations : List ℕ) (fuel : ℕ) where
     tree-made : {t : Tree} → FineTree W t → (s : State) → Closed W s → MakesTerm W s (expandTree limit operations fuel rec t s)
     unfolding expandTree onFormals every everyDatum variables
     tree-made tidyEmpty s c = refuse-holds 13 s tt
-    tree-made (tidyConstant {a} h) s c = give-holds _ s (made-none s (constant-sound (length operations) (W .variables) (s .variables) a h))
+    tree-made (tidyConstant {a} h) s c = give-holds _ s (made-none s (constant-sound (length operations) (W .names) (W .variables) (s .variables) a h))
     tree-made (tidyName {x} f) s c = show-holds _ _ s (bare-made (lookup-meant operations x f) s)
     tree-made (tidyPair h t l) s c = pair-made h t l s c
 

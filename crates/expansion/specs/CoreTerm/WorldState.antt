@@ -71,19 +71,19 @@ widen-cases k n f j e = go (or-cases (leb k j && ltb j (k + n)) (f j) e)
 
 -- inside a lambda that binds n variables from k on
 unfoldable pub withVariables : ℕ → ℕ → World → World
-withVariables k n W = record { variables = widen k n (W .variables); macros = W .macros }
+withVariables k n W = record { names = W .names; variables = widen k n (W .variables); macros = W .macros }
 
 -- inside a form that binds n macros from k on
 unfoldable pub withMacros : ℕ → ℕ → World → World
-withMacros k n W = record { variables = W .variables; macros = widen k n (W .macros) }
+withMacros k n W = record { names = W .names; variables = W .variables; macros = widen k n (W .macros) }
 
 pub variables-within : (k n : ℕ) (W : World) → Within W (withVariables k n W)
 unfolding withVariables
-variables-within k n W = record { variable = widen-old k n (W .variables); macro = λ j e. e }
+variables-within k n W = record { name = λ j e. e; variable = widen-old k n (W .variables); macro = λ j e. e }
 
 pub macros-within : (k n : ℕ) (W : World) → Within W (withMacros k n W)
 unfolding withMacros
-macros-within k n W = record { variable = λ j e. e; macro = widen-old k n (W .macros) }
+macros-within k n W = record { name = λ j e. e; variable = λ j e. e; macro = widen-old k n (W .macros) }
 
 -- a tree in the scope of new variables, and of new macros
 pub variables-fine : (k : ℕ) (xs : List Name) {W : World} {t : Tree} → FineTree W t → FineTree (withVariables k (length xs) W) (bindAll variable k xs t)

@@ -1,4 +1,4 @@
--- The world of a call: the variables and macros of the run that the names at hand may be bound to.
+-- The world of a call: the numbers that the names at hand may have, and the variables and macros of the run that they may be bound to.
 -- Names and trees of a world, what keeps them in it, and what a lookup finds there.
 use mathlib.Core.Path.{_≡_, sym, subst}
 use mathlib.Core.Bool.{Bool, true, false, cond}
@@ -8,21 +8,24 @@ use Prim.Native.Nat.{ℕ, suc, _+_, _≤_, _<_}
 use native.Mathlib.Omega.{arith}
 use lib.Dec.{eqb, ltb}
 use lib.ListN.{length}
-use Rattle.words.specs.Limits.{namesMost, baseNameCount}
+use Rattle.words.specs.Limits.{baseNameCount}
 use Rattle.recipe.specs.Name.{Binding, variable, macro, Name, plainName, markName, produceName, giveBinding}
 use Rattle.recipe.specs.Tree.{Tree}
 use Rattle.recipe.specs.Tidy.{Tidy}
-use Rattle.recipe.specs.TableTidy.{PlainName, IsConstant}
+use Rattle.recipe.specs.TableTidy.{IsConstant}
+use Rattle.recipe.specs.TableNames.{Plain}
 use Rattle.expansion.specs.Rules.{Rule}
 use Rattle.expansion.specs.TidyRules.{TidyRules}
 use Rattle.expansion.specs.Lookup.{Form, Found, bound, form, operation, nothing, placeFrom, unboundMeaning, orUnbound, lookup}
 
 pub record World : Type 0 where
+  pub names : ℕ → Bool
   pub variables : ℕ → Bool
   pub macros : ℕ → Bool
 
 -- all of W is in W′
 pub record Within (W W′ : World) : Type 0 where
+  pub name : (n : ℕ) → W .names n ≡ true → W′ .names n ≡ true
   pub variable : (n : ℕ) → W .variables n ≡ true → W′ .variables n ≡ true
   pub macro : (n : ℕ) → W .macros n ≡ true → W′ .macros n ≡ true
 
@@ -34,7 +37,7 @@ pub data Reaches (W : World) : Option Binding → Type 0 where
   reachesMacro : {n : ℕ} → W .macros n ≡ true → Reaches W (some (macro n))
 
 pub record Fine (W : World) (x : Name) : Type 0 where
-  pub small : x .number < namesMost
+  pub number : W .names (x .number) ≡ true
   pub binding : Reaches W (x .binding)
 
 -- a tree of the world
@@ -51,24 +54,24 @@ reaches-within i (reachesVariable e) = reachesVariable (i .variable _ e)
 reaches-within i (reachesMacro e) = reachesMacro (i .macro _ e)
 
 pub fine-within : {W W′ : World} → Within W W′ → (x : Name) → Fine W x → Fine W′ x
-fine-within i x f = record { small = f .small; binding = reaches-within i (f .binding) }
+fine-within i x f = record { number = i .name _ (f .number); binding = reaches-within i (f .binding) }
 
 module _ {W : World} where
   pub fine-mark : (m : ℕ) (x : Name) → Fine W x → Fine W (markName m x)
   unfolding markName
-  fine-mark m x f = record { small = f .small; binding = f .binding }
+  fine-mark m x f = record { number = f .number; binding = f .binding }
 
   pub fine-produce : (x : Name) → Fine W x → Fine W (produceName x)
   unfolding produceName
-  fine-produce x f = record { small = f .small; binding = f .binding }
+  fine-produce x f = record { number = f .number; binding = f .binding }
 
   pub fine-give : (b : Binding) → Reaches W (some b) → (x : Name) → Fine W x → Fine W (giveBinding b x)
   unfolding giveBinding
-  fine-give b r x f = record { small = f .small; binding = r }
+  fine-give b r x f = record { number = f .number; binding = r }
 
-  pub fine-plain : (x : Name) → PlainName x → Fine W x
+  pub fine-plain : (x : Name) → W .names (x .number) ≡ true → Plain x → Fine W x
   unfolding plainName
-  fine-plain x p = record { small = p .small; binding = subst (λ (y : Name). Reaches W (y .binding)) (sym (p .plain)) reachesNone }
+  fine-plain x n p = record { number = n; binding = subst (λ (y : Name). Reaches W (y .binding)) (sym p) reachesNone }
 
 -- ---- lookups
 

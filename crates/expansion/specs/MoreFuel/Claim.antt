@@ -1,6 +1,6 @@
 -- Request L9 proved: a run on one fuel beside the run on more.
 use mathlib.Core.Path.{_≡_, refl, ap, _∙_}
-use mathlib.Core.Bool.{Bool, true, false}
+use mathlib.Core.Bool.{Bool, true, false, false≢true}
 use mathlib.Core.List.{List}
 use Prim.Native.Nat.{ℕ, _+_, _≤_, _<_}
 use native.Mathlib.Omega.{arith}
@@ -21,7 +21,7 @@ use Rattle.expansion.specs.Bounds.{run-sum}
 use Rattle.expansion.specs.Bounds.Budget.{SpendsTerm}
 use Rattle.expansion.specs.Bounds.Gas.{expandRecipe-spends}
 use Rattle.expansion.specs.MoreFuel.{Try, tried, Enough, MoreFuel, Least, LeastFuel}
-use Rattle.expansion.specs.MoreFuel.Tries.{Beside, alike, short, starves}
+use Rattle.expansion.specs.MoreFuel.Tries.{Beside, alike, short, quits, starves}
 use Rattle.expansion.specs.MoreFuel.Alike.{expand-tries}
 
 -- the run on a fuel, and the run on more: the same, or 18 and a sum past the fuel
@@ -35,18 +35,19 @@ require-runs fuel g true h = h
 require-runs fuel g false h = same
 
 -- neither is out of gas
-ended-runs : (fuel more k : ℕ) (s : State) {x y : Out (Term Name)} → Beside fuel x y → SpendsTerm fuel k s x → SpendsTerm more k s y → Runs fuel (ended x) (ended y)
+ended-runs : (fuel more k : ℕ) (s : State) {x y : Out (Term Name)} → Beside (λ g. false) fuel x y → SpendsTerm fuel k s x → SpendsTerm more k s y → Runs fuel (ended x) (ended y)
 unfolding ended
 ended-runs fuel more k s alike p q = same
 ended-runs fuel more k s (short (isDone h)) p q = differ refl h
 ended-runs fuel more k s (short (isRefused h)) p q = differ refl h
 ended-runs fuel more k s (short (isStarved h)) p (isStarved q) = absurd q
+ended-runs fuel more k s (quits e) p q = absurd (false≢true e)
 ended-runs fuel more k s starves (isStarved p) q = absurd p
 
 recipe-runs : (limit fuel more : ℕ) → fuel ≤ more → (t : Tree) → Runs fuel (ended (expandRecipe limit fuel t)) (ended (expandRecipe limit more t))
 unfolding expandRecipe
 recipe-runs limit fuel more h t =
-    let r = expand-tries limit macrosMost (operationNumbers t) fuel more (size t + fuel) (size t + more) h (omega arith) (element 1 t) start in
+    let r = expand-tries (λ g. false) limit macrosMost (operationNumbers t) fuel more (size t + fuel) (size t + more) h (omega arith) (element 1 t) start in
     ended-runs fuel more _ start (r .beside) (expandRecipe-spends limit fuel t) (expandRecipe-spends limit more t)
 
 -- tried again with more

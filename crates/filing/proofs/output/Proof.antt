@@ -13,15 +13,19 @@ use Rattle.filing.specs.Room.{output-told, output-known, output-fits}
 
 returns : tie.Need-returns
 returns c =
-    output-told _ _ _ _ _ _ _ _ (c .before .before .before .before .before .before .before .before .before .file .ensures .output) (search needs) (search needs) (search needs) (search needs) (c .before .before .before .before .before .before .before .before .before .before .before .before .before .before .before .before .before .before .before .before .before .pre) _ (c .before .length .given .1)
+    let at-length = c .before in
+    let at-file = at-length .before .before .before .before .before .before .before .before in
+    output-told _ _ _ _ _ _ _ _ (at-file .file .ensures .output) (search needs) (search needs) (search needs) (search needs) (at-file .before .before .before .before .before .before .before .before .before .before .before .before .pre) _ (at-length .length .given .1)
 
 returns-2 : tie.Need-returns-2
 returns-2 c =
-    absurd (output-known _ _ _ _ _ _ _ _ (c .before .before .before .before .before .before .before .before .file .ensures .output) (search needs) (search needs) (search needs) (search needs) (c .before .before .before .before .before .before .before .before .before .before .before .before .before .before .before .before .before .before .before .before .pre) (c .enum-told .given .1))
+    let at-file = c .before .before .before .before .before .before .before .before in
+    absurd (output-known _ _ _ _ _ _ _ _ (at-file .file .ensures .output) (search needs) (search needs) (search needs) (search needs) (at-file .before .before .before .before .before .before .before .before .before .before .before .before .pre) (c .enum-told .given .1))
 
 returns-3 : tie.Need-returns-3
 returns-3 c =
-    absurd (output-fits _ _ _ _ _ _ _ _ (c .before .before .before .before .before .before .before .before .file .ensures .output) (search needs) (search needs) (search needs) (search needs) (c .before .before .before .before .before .before .before .before .before .before .before .before .before .before .before .before .before .before .before .before .pre) (c .enum-told2 .given .1))
+    let at-file = c .before .before .before .before .before .before .before .before in
+    absurd (output-fits _ _ _ _ _ _ _ _ (at-file .file .ensures .output) (search needs) (search needs) (search needs) (search needs) (at-file .before .before .before .before .before .before .before .before .before .before .before .before .pre) (c .enum-told2 .given .1))
 
 pub output-spec : {M : Type 1} → statement M
 output-spec =

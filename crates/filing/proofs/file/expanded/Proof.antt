@@ -19,15 +19,22 @@ slice-reshare-prefix-accepted c =
 
 slice-aggregate-accepted : tie.Need-slice-aggregate-accepted
 slice-aggregate-accepted c =
-    sym (length-take-le _ _ (term-front _ _ _ _ _ _ _ (c .before .before .before .before .before .before .before .before .before .expand .ensures) _ _ _ (c .before .before .before .n .given .1) _ (c .before .wide .ensures) .0))
+    let at-wide = c .before in
+    let at-n = at-wide .before .before in
+    sym (length-take-le _ _ (term-front _ _ _ _ _ _ _ (at-n .before .before .before .before .before .before .expand .ensures) _ _ _ (at-n .n .given .1) _ (at-wide .wide .ensures) .0))
 
 returns : tie.Need-returns
 returns c =
-    expanded-accepted _ _ _ _ _ _ _ (c .before .before .before .before .before .before .before .before .before .before .before .before .before .expand .ensures) _ _ _ (c .before .before .before .before .before .before .before .n .given .1) _ (c .before .before .before .before .before .wide .ensures) (c .before .before .accepted .ensures)
+    let at-accepted = c .before .before in
+    let at-wide = at-accepted .before .before .before in
+    let at-n = at-wide .before .before in
+    expanded-accepted _ _ _ _ _ _ _ (at-n .before .before .before .before .before .before .expand .ensures) _ _ _ (at-n .n .given .1) _ (at-wide .wide .ensures) (at-accepted .accepted .ensures)
 
 returns-2 : tie.Need-returns-2
 returns-2 c =
-    expanded-refused _ _ _ _ _ _ _ (c .before .before .before .before .before .before .before .before .before .before .before .expand .ensures) _ _ _ (c .before .before .before .before .before .g .given .1) (c .before .before .refused .ensures)
+    let at-refused = c .before .before in
+    let at-g = at-refused .before .before .before in
+    λ named. expanded-refused _ _ _ _ _ _ _ (at-g .before .before .before .before .before .before .expand .ensures) _ _ _ (at-g .g .given .1) (at-refused .refused .ensures)
 
 pub expanded-spec : {M : Type 1} → statement M
 expanded-spec =

@@ -37,15 +37,20 @@ slice-reshare-prefix-expanded-2 c =
 
 slice-aggregate-expanded-2 : tie.Need-slice-aggregate-expanded-2
 slice-aggregate-expanded-2 c =
-    sym (length-take-le _ _ (names-front _ _ _ _ _ _ (c .before .before .before .before .before .before .before .before .before .read .ensures) _ _ (c .before .before .before .i .given .1) .0))
+    let at-i = c .before .before .before in
+    sym (length-take-le _ _ (names-front _ _ _ _ _ _ (at-i .before .before .before .before .before .before .read .ensures) _ _ (at-i .i .given .1) .0))
 
 returns : tie.Need-returns
 returns c =
-    filed-read _ _ _ _ _ _ (c .before .before .before .before .before .before .before .before .before .before .before .before .before .before .before .before .before .before .before .read .ensures) _ _ (c .before .before .before .before .before .before .before .before .before .before .before .before .before .i .given .1) (c .before .before .before .before .before .before .expanded .ensures)
+    let at-expanded = c .before .before .before .before .before .before in
+    let at-i = at-expanded .before .before .before .before .before .before .before in
+    filed-read _ _ _ _ _ _ (at-i .before .before .before .before .before .before .read .ensures) _ _ (at-i .i .given .1) (at-expanded .expanded .ensures)
 
 returns-2 : tie.Need-returns-2
 returns-2 c =
-    filed-refused _ _ _ _ _ _ (c .before .before .before .before .before .before .before .before .before .before .before .read .ensures) _ (c .before .before .before .before .before .ground .given .1) (c .before .before .refused .ensures)
+    let at-refused = c .before .before in
+    let at-ground = at-refused .before .before .before in
+    filed-refused _ _ _ _ _ _ (at-ground .before .before .before .before .before .before .read .ensures) _ (at-ground .ground .given .1) (at-refused .refused .ensures)
 
 pub file-spec : {M : Type 1} → statement M
 file-spec =

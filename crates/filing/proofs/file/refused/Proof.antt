@@ -14,11 +14,15 @@ returns c =
 
 returns-2 : tie.Need-returns-2
 returns-2 c =
-    laid-never-full _ _ _ _ (c .before .before .before .before .before .before .before .before .refused-line .ensures) _ (put-done _ (c .before .before .before .before .before .if1 .left)) _ _ (c .before .before .before .refused-line2 .ensures) (put-full _ (c .if2 .taken))
+    let at-refused-line2 = c .before .before .before in
+    let at-if1 = at-refused-line2 .before .before in
+    laid-never-full _ _ _ _ (at-if1 .before .before .before .refused-line .ensures) _ (put-done _ (at-if1 .if1 .left)) _ _ (at-refused-line2 .refused-line2 .ensures) (put-full _ (c .if2 .taken))
 
 returns-3 : tie.Need-returns-3
 returns-3 c =
-    laid-wrote _ _ _ _ (c .before .before .before .before .before .before .before .before .refused-line .ensures) _ (put-done _ (c .before .before .before .before .before .if1 .left)) _ _ (c .before .before .before .refused-line2 .ensures) _ (put-done _ (c .if2 .left))
+    let at-refused-line2 = c .before .before .before in
+    let at-if1 = at-refused-line2 .before .before in
+    laid-wrote _ _ _ _ (at-if1 .before .before .before .refused-line .ensures) _ (put-done _ (at-if1 .if1 .left)) _ _ (at-refused-line2 .refused-line2 .ensures) _ (put-done _ (c .if2 .left))
 
 pub refused-spec : {M : Type 1} → statement M
 refused-spec =

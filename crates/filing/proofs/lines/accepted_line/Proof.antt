@@ -19,7 +19,9 @@ counts-requires c κs =
 
 returns-2 : tie.Need-returns-2
 returns-2 c =
-    left-is (header-laid _ _) (place-then (c .before .before .before .before .before .before .before .copy .ensures) (c .before .before .before .before .if1 .left) (c .before .before .counts .ensures))
+    let at-counts = c .before .before in
+    let at-if1 = at-counts .before .before in
+    left-is (header-laid _ _) (place-then (at-if1 .before .before .before .copy .ensures) (at-if1 .if1 .left) (at-counts .counts .ensures))
 
 pub accepted-line-spec : {M : Type 1} → statement M
 accepted-line-spec =

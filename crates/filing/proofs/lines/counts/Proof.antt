@@ -19,7 +19,9 @@ number-requires-2 c κs =
 
 returns-2 : tie.Need-returns-2
 returns-2 c =
-    left-is (counts-laid _ _) (place-then (c .before .before .before .before .before .before .before .before .number .ensures) (c .before .before .before .before .before .if1 .left) (place-full (c .before .before .before .number2 .ensures) _ (c .if2 .taken)))
+    let at-number2 = c .before .before .before in
+    let at-if1 = at-number2 .before .before in
+    left-is (counts-laid _ _) (place-then (at-if1 .before .before .before .number .ensures) (at-if1 .if1 .left) (place-full (at-number2 .number2 .ensures) _ (c .if2 .taken)))
 
 byte-requires : tie.Need-byte-requires
 byte-requires c κs =
@@ -27,7 +29,11 @@ byte-requires c κs =
 
 returns-3 : tie.Need-returns-3
 returns-3 c =
-    left-is (counts-laid _ _) (place-then (c .before .before .before .before .before .before .before .before .before .before .before .before .number .ensures) (c .before .before .before .before .before .before .before .before .before .if1 .left) (place-then (c .before .before .before .before .before .before .before .number2 .ensures) (c .before .before .before .before .if2 .left) (c .before .before .byte .ensures)))
+    let at-byte = c .before .before in
+    let at-if2 = at-byte .before .before in
+    let at-number2 = at-if2 .before .before .before in
+    let at-if1 = at-number2 .before .before in
+    left-is (counts-laid _ _) (place-then (at-if1 .before .before .before .number .ensures) (at-if1 .if1 .left) (place-then (at-number2 .number2 .ensures) (at-if2 .if2 .left) (at-byte .byte .ensures)))
 
 pub counts-spec : {M : Type 1} → statement M
 counts-spec =

@@ -20,7 +20,9 @@ number-requires c κs =
 
 returns-2 : tie.Need-returns-2
 returns-2 c =
-    left-is (refusal-laid _ _ _) (place-then (c .before .before .before .before .before .before .before .before .copy .ensures) (c .before .before .before .before .before .if1 .left) (place-full (c .before .before .before .number .ensures) _ (c .if2 .taken)))
+    let at-number = c .before .before .before in
+    let at-if1 = at-number .before .before in
+    left-is (refusal-laid _ _ _) (place-then (at-if1 .before .before .before .copy .ensures) (at-if1 .if1 .left) (place-full (at-number .number .ensures) _ (c .if2 .taken)))
 
 counts-requires : tie.Need-counts-requires
 counts-requires c κs =
@@ -28,7 +30,11 @@ counts-requires c κs =
 
 returns-3 : tie.Need-returns-3
 returns-3 c =
-    left-is (refusal-laid _ _ _) (place-then (c .before .before .before .before .before .before .before .before .before .before .before .before .copy .ensures) (c .before .before .before .before .before .before .before .before .before .if1 .left) (place-then (c .before .before .before .before .before .before .before .number .ensures) (c .before .before .before .before .if2 .left) (c .before .before .counts .ensures)))
+    let at-counts = c .before .before in
+    let at-if2 = at-counts .before .before in
+    let at-number = at-if2 .before .before .before in
+    let at-if1 = at-number .before .before in
+    left-is (refusal-laid _ _ _) (place-then (at-if1 .before .before .before .copy .ensures) (at-if1 .if1 .left) (place-then (at-number .number .ensures) (at-if2 .if2 .left) (at-counts .counts .ensures)))
 
 pub refused-line-spec : {M : Type 1} → statement M
 refused-line-spec =
