@@ -50,7 +50,7 @@ rowRecipe = recipeIn (read row itemWordsLeast nameBytesLeast)
   where
     recipeIn : Answer Recipe → Recipe
     recipeIn (got recipe) = recipe
-    recipeIn (refusedFor g) = record { elements = noneD; names = [] }
+    recipeIn (refusedFor stage g) = record { elements = noneD; names = [] }
 
 row-read : read row itemWordsLeast nameBytesLeast ≡ got rowRecipe
 unfolding rowRecipe

@@ -4,6 +4,7 @@ use mathlib.Core.Path.{_≡_, refl, sym, _∙_}
 use mathlib.Core.List.{List}
 use Prim.Native.Nat.{ℕ, _+_, _*_, _≤_, _<_}
 use native.Mathlib.Omega.{arith}
+use Rattle.words.specs.Tables.{begun}
 use Rattle.words.specs.Text.{bytes}
 use Rattle.reading.specs.Read.{recipeOf}
 use Rattle.recipe.specs.Table.{itemCount}
@@ -24,7 +25,7 @@ module _ (items : List ℕ) (fuel more work core work′ core′ : ℕ)
     (most : fuel ≤ 8192) (work-room : 24 * (itemCount items + fuel) ≤ work) (core-room : 3 * (itemCount items + fuel) ≤ core)
     (most′ : more ≤ 8192) (work-room′ : 24 * (itemCount items + more) ≤ work′) (core-room′ : 3 * (itemCount items + more) ≤ core′)
     -- any outcome other than ground 18
-    (enough : run items fuel work core .outcome ≡ refusedOn 18 → ⊥) where
+    (enough : run items fuel work core .outcome ≡ refusedOn begun 18 → ⊥) where
   pub more-fuel-said : fuel ≤ more → run items more work′ core′ ≡ run items fuel work core
   unfolding MoreFuel Enough tried
   more-fuel-said h = more-fuel items (try most work-room core-room) (try most′ work-room′ core-room′) h enough
@@ -33,7 +34,7 @@ module _ (items : List ℕ) (fuel more work core work′ core′ : ℕ)
   unfolding LeastFuel Enough tried
   from-sum-said h = least-fuel items (try most work-room core-room) (try most′ work-room′ core-room′) enough .from-sum h
 
-  pub below-sum-said : more < run items fuel work core .sum → run items more work′ core′ .outcome ≡ refusedOn 18
+  pub below-sum-said : more < run items fuel work core .sum → run items more work′ core′ .outcome ≡ refusedOn begun 18
   unfolding LeastFuel Enough tried
   below-sum-said h = least-fuel items (try most work-room core-room) (try most′ work-room′ core-room′) enough .below-sum h
 
@@ -55,8 +56,8 @@ sum-at-21 : at 21 .sum ≡ 21
 unfolding or2 computed
 sum-at-21 = refl
 
-enough-at-21 : at 21 .outcome ≡ refusedOn 18 → ⊥
-enough-at-21 e = accepted≢refusedOn 18 (sym accepted-at-21 ∙ e)
+enough-at-21 : at 21 .outcome ≡ refusedOn begun 18 → ⊥
+enough-at-21 e = accepted≢refusedOn begun 18 (sym accepted-at-21 ∙ e)
 
 abbrev tryAt : (fuel : ℕ) → fuel ≤ 8192 → Try or2
 tryAt fuel most = record {
@@ -73,6 +74,6 @@ pub from-21-to-8192 : MoreFuel → at 8192 ≡ at 21
 unfolding MoreFuel Enough tried
 from-21-to-8192 claim = claim or2 (tryAt 21 (omega arith)) (tryAt 8192 (omega arith)) (omega arith) enough-at-21
 
-pub below-21 : LeastFuel → at 20 .outcome ≡ refusedOn 18
+pub below-21 : LeastFuel → at 20 .outcome ≡ refusedOn begun 18
 unfolding LeastFuel Enough tried
 below-21 claim = claim or2 (tryAt 21 (omega arith)) (tryAt 20 (omega arith)) enough-at-21 .below-sum (omega (arith, sum-at-21))
