@@ -16,12 +16,13 @@ use Rattle.core_term.specs.NodeLaws.{both, node-round, node-some}
 use Rattle.core_term.specs.declared.nodes.Shape.{Shape}
 use Rattle.core_term.specs.Opened.{Shaped, ShapedAt}
 use Rattle.core_term.specs.Term.{variableC, operationC, datumC, ifC, lambdaC, applicationC, noneC, moreC, Plain, Plains, variables, variablesAll, formalsOf, formalsAll}
+use Rattle.core_term.specs.Term as T
 use Rattle.core_term.specs.Words.{encode, encodeAll}
 use Rattle.core_term.specs.Decode.{decode}
 use Rattle.core_term.specs.DecodeLaws.{encode-decode}
 use Rattle.core_term.specs.Every.{every, everyTerm, proper, wellFormed}
 use Rattle.core_term.specs.Parts.{node, partsOf, quoted, datumNode, datumParts}
-use Rattle.core_term.specs.PartsLaws.{encode-parts, encode-two, every-parts, variables-parts}
+use Rattle.core_term.specs.PartsLaws.{encode-parts, encode-two, every-parts, count-parts, variables-parts}
 use Rattle.core_term.specs.WindowLaws.{case}
 use Rattle.core_term.specs.Walk.{rest}
 
@@ -68,6 +69,11 @@ join-formals : (ts us : Plains) → formalsAll (join ts us) ≡ formalsAll ts ++
 unfolding join formalsOf
 join-formals noneC us = refl
 join-formals (moreC t ts) us = ap (λ (z : List ℕ). formalsOf t ++ z) (join-formals ts us) ∙ sym (append-assoc (formalsOf t) (formalsAll ts) (formalsAll us))
+
+join-count : (ts us : Plains) → T.count (join ts us) ≡ T.count ts + T.count us
+unfolding join T.count
+join-count noneC us = omega arith
+join-count (moreC t ts) us = omega (arith, join-count ts us)
 
 join-fine : (ts us : Plains) (b : ℕ) → everyTerm proper tt b ts ≡ true → everyTerm proper tt (b + variablesAll ts) us ≡ true → everyTerm proper tt b (join ts us) ≡ true
 unfolding join every variables
@@ -252,6 +258,11 @@ module _ (ws : List ℕ) (at seen : ℕ) (s : Scan ws at seen) where
             known = scan-sizes .3;
             names = sym (drop-drop count seen (calledIn ws)) ∙ ap (drop count) next-names ∙ drop-at (nodeNames (node term)) (formalsAll then) count (sym count-is);
           }
+
+      -- how many terms are still to come; the term at a place ends where there is one less than at its beginning
+      pub scan-left : suc (T.count (scan-next .todo)) ≡ T.count (s .todo) + shape .parts
+      unfolding scan-next T.count
+      scan-left = omega (arith, ap T.count (next .is), join-count (partsOf term) (next .later), count-parts term, shaped .rest)
 
       -- its names stand at the end of its words, and next among all
       pub scan-names : take (at + size - (at + size - count)) (drop (at + size - count) ws) ≡ take count (drop seen (calledIn ws))
