@@ -14,7 +14,7 @@ use Rattle.reading.specs.Read.{Recipe, readElements, nameBytes}
 use Rattle.recipe.specs.Table.{isLayout, treeOf}
 use Rattle.core_term.specs.Term.{Plain}
 use Rattle.core_term.specs.Check.{allKnown, termOf}
-use Rattle.core_term.specs.CheckLaws.{accepted}
+use Rattle.core_term.specs.Code.CheckLaws.{accepted}
 use Rattle.expansion.specs.Run.{operationNumbers, areOperations}
 use Rattle.comparison.specs.Expression.{Expression}
 use Rattle.comparison.specs.Compare.{Verdict, yes, held, Reply, unread, replied, require, spelledOperations, ourTerm, withTerm, comparison, compare}

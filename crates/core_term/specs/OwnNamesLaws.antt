@@ -16,7 +16,7 @@ use Rattle.core_term.specs.TermLaws.{formals-count}
 use Rattle.core_term.specs.Decimal.{decimal}
 use Rattle.core_term.specs.Every.{every, everyTerm}
 use Rattle.core_term.specs.Check.{Scope, outside, inside, variableInside, firstNumber, asked, scoped, numbered, termOf}
-use Rattle.core_term.specs.CheckLaws.{accepted}
+use Rattle.core_term.specs.Code.CheckLaws.{accepted}
 use Rattle.core_term.specs.Text.{variableText, formalTexts, textIn, textsIn, text}
 use Rattle.core_term.specs.OwnNames.{Names, none, bound, variableAs, formalsAs, textAs, textsAs, ownText}
 

@@ -26,7 +26,7 @@ use Rattle.core_term.specs.Text.{spacedAfter, spaced, parenthesized, var
 use Rattle.core_term.specs.Every.{Asked, everyDatum, everyData, every, everyTerm, proper, wellFormed}
 use Rattle.core_term.specs.EveryLaws.{every-from}
 use Rattle.core_term.specs.Check.{Scope, outside, inside, variableInside, firstNumber, known, asked, scoped, numbered, allKnown}
-use Rattle.core_term.specs.CheckLaws.{Accepted}
+use Rattle.core_term.specs.Code.CheckLaws.{Accepted}
 
 -- bytes of text for each word
 abbrev pub textRate : ℕ

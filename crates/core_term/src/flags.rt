@@ -3,7 +3,7 @@ ghost use mathlib.Core.Path.{_≡_};
 ghost use mathlib.Core.Bool.{_&&_};
 ghost use Prim.Native.Nat.{_-_};
 ghost use lib.Dec.{ltb};
-ghost use Rattle.core_term.specs.Window.{put, marked, noted};
+ghost use Rattle.core_term.specs.Code.Window.{put, marked, noted};
 
 // Variable k's flag, where it is in the window.
 fn set(flags: &mut [u8], base: usize, k: usize, value: u8)

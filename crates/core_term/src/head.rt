@@ -1,8 +1,8 @@
 // Whether a node may stand where it stands, and how many variables are bound behind it.
 ghost use mathlib.Core.Path.{_≡_};
 ghost use Rattle.words.specs.Lists.{allOf};
-ghost use Rattle.core_term.specs.Opened.{nodeIn, OpenedAs};
-ghost use Rattle.core_term.specs.Window.{goodName, window, headOf, stands};
+ghost use Rattle.core_term.specs.Code.Opened.{nodeIn, OpenedAs};
+ghost use Rattle.core_term.specs.Code.Window.{goodName, window, headOf, stands};
 use crate::flags::in_scope;
 use crate::nodes::Node;
 use words::NAME_LENGTH;

@@ -1,7 +1,7 @@
 // The nodes of a core term, opened, and their shapes.
 ghost use mathlib.Core.Path.{_≡_};
 ghost use Rattle.core_term.specs.Node.{nodeAt};
-ghost use Rattle.core_term.specs.Opened.{nodeIn, shapeBy, shapeIn, ShapedAt};
+ghost use Rattle.core_term.specs.Code.Opened.{nodeIn, shapeBy, shapeIn, ShapedAt};
 use crate::head::wide;
 use crate::read::read;
 

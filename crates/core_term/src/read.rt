@@ -3,7 +3,7 @@ ghost use mathlib.Core.Path.{_≡_};
 ghost use Prim.Native.Nat.{_≤_};
 ghost use lib.ListN.{length, getD};
 ghost use Rattle.core_term.specs.Node.{booleanCode, lambdaCode, decimalCode};
-ghost use Rattle.core_term.specs.Opened.{OpenedAs};
+ghost use Rattle.core_term.specs.Code.Opened.{OpenedAs};
 use crate::codes;
 use crate::head::wide;
 use crate::nodes::Node;

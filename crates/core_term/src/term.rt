@@ -2,8 +2,8 @@
 ghost use mathlib.Core.Path.{_≡_};
 ghost use Prim.Native.Nat.{_+_, _≤_};
 ghost use lib.ListN.{length};
-ghost use Rattle.core_term.specs.Window.{goodName, marked, window};
-ghost use Rattle.core_term.specs.Shape.{Shaped, InRow, Kept, Clear};
+ghost use Rattle.core_term.specs.Code.Window.{goodName, marked, window};
+ghost use Rattle.core_term.specs.Code.Shape.{Shaped, InRow, Kept, Clear};
 use crate::flags::mark;
 use crate::head::Head;
 use crate::head::Walk;

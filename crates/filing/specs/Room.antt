@@ -12,7 +12,7 @@ use Rattle.reading.specs.Read.{Recipe, read, itemWords, nameBytes}
 use Rattle.reading_layout.specs.Answers.{read-ground}
 use Rattle.core_term.specs.Decimal.{decimal}
 use Rattle.core_term.specs.Text.{spacedAfter, spaced}
-use Rattle.core_term.specs.CheckLaws as C
+use Rattle.core_term.specs.Code.CheckLaws as C
 use Rattle.core_term.specs.TextRoom.{limit, number-room, text-room}
 use Rattle.expansion.specs.Run.{Outcome, accepted, refusedOn, unfinished, Run, coreOf, run}
 use Rattle.expansion.specs.CoreTerm.{CoreTerm, Named}

@@ -14,7 +14,7 @@ use Rattle.arena.specs.Cells.{Room}
 use Rattle.arena.specs.CellLaws.{tree-kept}
 use Rattle.arena.specs.ListLaws.{pair-falls}
 use Rattle.rule_cells.specs.Parse.{Asks, Grows}
-use Rattle.words.specs.Packed.{packed, builtOf, built-holds}
+use Rattle.words.specs.Code.Packed.{packed, builtOf, built-holds}
 use Rattle.words.specs.declared.packed.Built.{Built}
 use Rattle.words.specs.declared.packed.Built.the-variants.{At}
 

@@ -6,7 +6,7 @@
 ghost use mathlib.Core.Path.{_≡_};
 ghost use Prim.Native.Nat.{_+_, _≤_};
 ghost use Rattle.recipe.specs.Tree.{size, elements};
-ghost use Rattle.words.specs.Packed.{builtOf};
+ghost use Rattle.words.specs.Code.Packed.{builtOf};
 ghost use Rattle.words.specs.Options.{traverse};
 ghost use Rattle.expansion.specs.Rules.{ruleOf, rulesOf};
 ghost use Rattle.arena.specs.Arena.{treeAt};

@@ -6,7 +6,7 @@ ghost use mathlib.Core.Path.{_≡_};
 ghost use mathlib.Core.Bool.{false};
 ghost use Prim.Native.Nat.{_+_, _^_, _≤_, _<_};
 ghost use lib.ListN.{length};
-ghost use Rattle.words.specs.Packed.{builtOf};
+ghost use Rattle.words.specs.Code.Packed.{builtOf};
 ghost use Rattle.recipe.specs.Tree.{name};
 ghost use Rattle.expansion.specs.Rules.{depthFits, asElement};
 ghost use Rattle.arena.specs.Offsets.{KIND};

@@ -10,7 +10,7 @@ use Rattle.recipe.specs.Tree.{Tree, empty, constant, name, pair, size, onNames,
 use Rattle.recipe.specs.TreeLaws.{size-positive}
 use Rattle.arena.specs.Arena.{wordAt, referenceAt, stepLimit, marked, giveKey, isOwn, rebound, wrapAt, originName, nodeName, nameAt, constantAt, treeAt}
 use Rattle.words.specs.ListLaws.{either}
-use Rattle.words.specs.Packed.{packed, builtOf, built-holds}
+use Rattle.words.specs.Code.Packed.{packed, builtOf, built-holds}
 use Rattle.arena.specs.ArenaLaws.{take-less, referenceAt-most, wrapAt-none, wrapAt-keeps}
 use Rattle.arena.specs.NodeLaws.{treeAt-empty, treeAt-name, treeAt-pair, treeAt-constant}
 use Rattle.arena.specs.Cells.{Room, Wrapped, Grown}

@@ -18,7 +18,7 @@ use Rattle.arena.specs.NodeLaws.{treeAt-wrap}
 use Rattle.arena.specs.Cells.{Room, Grown}
 use Rattle.arena.specs.CellLaws.{tree-kept}
 use Rattle.words.specs.Lists.{within}
-use Rattle.words.specs.Packed.{packed, builtOf}
+use Rattle.words.specs.Code.Packed.{packed, builtOf}
 use Rattle.arena.specs.Lists.{Means}
 use Rattle.rule_cells.specs.CellLaws.{patternAt-variable, templateAt-variable}
 use Rattle.environments.specs.Environment.{takes, entering, enter, resultBy}

@@ -12,7 +12,7 @@ use Rattle.arena.specs.Arena.{wordAt, referenceAt, nameAt, treeAt}
 use Rattle.arena.specs.ArenaLaws.{take-less, wordAt-below, referenceAt-most, referenceAt-below}
 use Rattle.arena.specs.Cells.{Room, Grown}
 use Rattle.arena.specs.CellLaws.{tree-kept}
-use Rattle.words.specs.Packed.{packed, builtOf}
+use Rattle.words.specs.Code.Packed.{packed, builtOf}
 use Rattle.rule_cells.specs.Cells.{constantBefore, templateAt}
 use Rattle.rule_cells.specs.CellLaws.{patternAt-below, templateAt-below, templateAt-variable, templateAt-insert, templateAt-constant, templateAt-empty}
 use Rattle.environments.specs.declared.environment.Entry.{Entry}

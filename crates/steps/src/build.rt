@@ -7,7 +7,7 @@
 
 ghost use mathlib.Core.Path.{_≡_};
 ghost use Rattle.arena.specs.Arena.{wordAt};
-ghost use Rattle.words.specs.Packed.{builtOf};
+ghost use Rattle.words.specs.Code.Packed.{builtOf};
 ghost use Rattle.steps.specs.Build.{Buildable, Made, Backwards, Copied};
 use crate::copy;
 use arena::cells;

@@ -6,7 +6,7 @@ ghost use Prim.Native.Nat.{_*_, _≤_};
 ghost use Rattle.recipe.specs.Tree.{name};
 ghost use Rattle.arena.specs.Arena.{wordAt, nameAt, treeAt};
 ghost use Rattle.arena.specs.Cells.{Room};
-ghost use Rattle.words.specs.Packed.{builtOf};
+ghost use Rattle.words.specs.Code.Packed.{builtOf};
 ghost use Rattle.steps.specs.Build.{Fresh, Waiting, Pays, ElementsBackwards, Reversed};
 use arena::cells;
 use arena::lists;

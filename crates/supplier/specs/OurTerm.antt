@@ -14,7 +14,7 @@ use Rattle.core_term.specs.Words.{encode}
 use Rattle.core_term.specs.Every.{Asked, every, proper, wellFormed}
 use Rattle.core_term.specs.EveryLaws.{every-from}
 use Rattle.core_term.specs.Check.{Scope, outside, known, asked, allKnown, termOf}
-use Rattle.core_term.specs.CheckLaws.{accepted}
+use Rattle.core_term.specs.Code.CheckLaws.{accepted}
 use Rattle.supplier.specs.WalkSays.{goodIn}
 
 module _ (ours operations : List ℕ) where

@@ -28,7 +28,7 @@ use Rattle.core_term.specs.Term.{Plain}
 use Rattle.core_term.specs.Every.{every}
 use Rattle.core_term.specs.Words.{encode}
 use Rattle.core_term.specs.Check.{termOf, isSome, isTerm}
-use Rattle.core_term.specs.CheckLaws.{isTerm-some}
+use Rattle.core_term.specs.Code.CheckLaws.{isTerm-some}
 use Rattle.expansion.specs.Run.{operationNumbers, areOperations}
 use Rattle.comparison.specs.Grammar.{after, expressionOf}
 use Rattle.comparison.specs.Compare.{Verdict, yes, no, refusedOn, decided, held, Reply, unread, replied, require, spelledOperations, ourTerm, withTerm, comparison, compare, kept, leftBy, readWords, itemsLeft, namesLeft}

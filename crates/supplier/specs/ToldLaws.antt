@@ -15,7 +15,7 @@ use Rattle.datum.specs.NameTable.{nameAt, hasName}
 use Rattle.core_term.specs.Node as N
 use Rattle.core_term.specs.Node.{Got, got, missing, nodeAt, nodeWords}
 use Rattle.core_term.specs.NodeLaws.{node-read}
-use Rattle.core_term.specs.Opened.{nodeIn}
+use Rattle.core_term.specs.Code.Opened.{nodeIn}
 use Rattle.core_term.specs.declared.nodes.Node.{Node}
 use Rattle.core_term.specs.declared.nodes.Node.the-variants.{Variable, Operation, Integer, Boolean, Decimal, Name, List as Several, If, Lambda, Application, None}
 use Rattle.supplier.specs.declared.front.Walked.{Walked}

@@ -3,7 +3,7 @@ ghost use mathlib.Core.Path.{_≡_};
 ghost use Prim.Native.Nat.{_≤_};
 ghost use Rattle.datum.specs.Constant.{Constant};
 ghost use Rattle.core_term.specs.Node.{nodeAt};
-ghost use Rattle.core_term.specs.Opened.{nodeIn};
+ghost use Rattle.core_term.specs.Code.Opened.{nodeIn};
 ghost use Rattle.core_term.specs.declared.nodes.Node.the-variants.{Lambda};
 ghost use Rattle.supplier.specs.Walk.{oursOf, takes, constantHere};
 ghost use Rattle.supplier.specs.Told.{foundOf, Fronted, Told};

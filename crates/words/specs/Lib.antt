@@ -6,7 +6,7 @@ pub mod Parts
 pub mod Tables
 pub mod TableLaws
 pub mod Options
-pub mod Packed
+pub mod Code
 pub mod SignedLaws
 pub mod Text
 pub mod TestLaws

@@ -1,6 +1,6 @@
 // Two words in one, which a call hands back in a register, where an enum of two words would go through memory.
 ghost use mathlib.Core.Path.{_≡_};
-ghost use Rattle.words.specs.Packed.{packed, builtOf};
+ghost use Rattle.words.specs.Code.Packed.{packed, builtOf};
 
 // What a word holds: two words, or none.
 pub enum Built {

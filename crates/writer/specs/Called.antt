@@ -4,7 +4,7 @@ use mathlib.Core.Bool.{Bool, true, false}
 use mathlib.Core.List.{List}
 use Prim.Native.Nat.{ℕ}
 use Rattle.datum.specs.NameTable.{nameAt}
-use Rattle.core_term.specs.Scan.{calledIn, IsTerm}
+use Rattle.core_term.specs.Code.Scan.{calledIn, IsTerm}
 
 -- a table of them, or words that tell them
 unfoldable pub calledBy : Bool → List ℕ → List ℕ

@@ -6,7 +6,7 @@ use Prim.Native.Nat.{ℕ, _+_, _-_, _≤_, _<_}
 use native.Mathlib.Omega.{arith}
 use lib.ListN.{length, getD, take, drop}
 use lib.Seq.{take-length, take-add, getD-take, getD-drop, paste, take-paste}
-use Rattle.core_term.specs.Scan.{calledIn}
+use Rattle.core_term.specs.Code.Scan.{calledIn}
 use Rattle.writer.specs.Called.{calledBy}
 
 -- ---- the table

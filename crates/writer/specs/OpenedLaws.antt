@@ -17,7 +17,7 @@ use Rattle.datum.specs.Constant as K
 use Rattle.datum.specs.ConstantLaws.{constant-case}
 use Rattle.core_term.specs.Node.{variableCode, operationCode, integerCode, booleanCode, nameCode, listCode, ifCode, lambdaCode, applicationCode, decimalCode, Node, nodeWords, got, missing, nodeAt, sound, isNode, variableN, operationN, constantN, nameN, listN, ifN, lambdaN, applicationN}
 use Rattle.core_term.specs.NodeLaws.{both, node-read}
-use Rattle.core_term.specs.WindowLaws.{case}
+use Rattle.core_term.specs.Code.WindowLaws.{case}
 use Rattle.core_term.specs.CodeLaws.{at-none, at-past, short-missing, lambda-short, lambda-cut, decimal-short, variable-at, operation-at, integer-at, boolean-at, name-at, list-at, if-at, lambda-at, application-at, decimal-at, namesAt}
 use Rattle.words.specs.Text.{bytes}
 use Rattle.core_term.specs.Decimal.{decimal, integerText, decimalText}

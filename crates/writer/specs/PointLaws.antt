@@ -12,7 +12,7 @@ use lib.Pow.{pow-add}
 use lib.Seq.{take-at, drop-at}
 use Rattle.core_term.specs.Decimal.{decimal, padded, pointed}
 use Rattle.core_term.specs.DecimalLaws.{decimal-one, padded-length}
-use Rattle.core_term.specs.WindowLaws.{case}
+use Rattle.core_term.specs.Code.WindowLaws.{case}
 use Rattle.writer.specs.Laid.{laid}
 use Rattle.writer.specs.LaidLaws.{laid-first}
 use Rattle.writer.specs.DigitsLaws.{power-some, power-more, padded-decimal}

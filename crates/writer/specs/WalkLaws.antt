@@ -23,7 +23,7 @@ use Rattle.writer.specs.Put as P
 use Rattle.writer.specs.declared.term.Step.{Step}
 use Rattle.writer.specs.declared.term.Step.the-variants as S
 use Rattle.core_term.specs.declared.nodes.Shape.{Shape}
-use Rattle.core_term.specs.Opened.{shapeBy, Shaped}
+use Rattle.core_term.specs.Code.Opened.{shapeBy, Shaped}
 use Rattle.writer.specs.Laid.{Left}
 use Rattle.writer.specs.LaidLaws.{left-done, left-full, left-then, left-is, left-none}
 use Rattle.writer.specs.Pieces.{gapText, opening, closing, textIn, partsText}

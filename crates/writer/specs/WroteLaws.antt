@@ -21,9 +21,9 @@ use Rattle.core_term.specs.Every.{every}
 use Rattle.core_term.specs.EveryLaws.{every-from}
 use Rattle.core_term.specs.Check.{outside, allKnown, termOf, isTerm}
 use Rattle.core_term.specs.declared.Counted.the-variants.{Variables}
-use Rattle.core_term.specs.Counted.{countedOf, counted-some, counted-yes}
+use Rattle.core_term.specs.Code.Counted.{countedOf, counted-some, counted-yes}
 use Rattle.core_term.specs.TermLaws.{formals-count}
-use Rattle.core_term.specs.CheckLaws.{Accepted, accepted, isTerm-some}
+use Rattle.core_term.specs.Code.CheckLaws.{Accepted, accepted, isTerm-some}
 use Rattle.core_term.specs.Text as T
 use Rattle.core_term.specs.Text.{text}
 use Rattle.core_term.specs.TextRoom.{textRate, textWordsMost, narrowNode, narrow, formals-known, all-narrow, text-room}
@@ -35,7 +35,7 @@ use Rattle.writer.specs.declared.Writing.the-variants.{Written, NoTerm, 
 use Rattle.writer.specs.Laid.{Left}
 use Rattle.writer.specs.LaidLaws.{laid-dry, laid-first, done-is, full-is, left-done}
 use Rattle.writer.specs.Pieces.{textIn}
-use Rattle.core_term.specs.Scan.{namesFrom, calledIn, IsTerm}
+use Rattle.core_term.specs.Code.Scan.{namesFrom, calledIn, IsTerm}
 use Rattle.writer.specs.Called.{said}
 use Rattle.writer.specs.Opened.{spelled, named}
 use Rattle.writer.specs.Walk.{spelling, Fits, Begins, Walked}

@@ -3,7 +3,7 @@ ghost use mathlib.Core.Path.{_≡_};
 ghost use Prim.Native.Nat.{_+_, _≤_, _<_};
 ghost use lib.ListN.{length, getD, take};
 ghost use lib.Seq.{paste};
-ghost use Rattle.core_term.specs.Scan.{calledIn, IsTerm};
+ghost use Rattle.core_term.specs.Code.Scan.{calledIn, IsTerm};
 ghost use Rattle.writer.specs.Called.{calledBy, Tells};
 use crate::numbers::wide;
 use core_term::nodes::shape_at;

@@ -15,7 +15,7 @@ ghost use Rattle.datum.specs.NameTable.{nameAt, hasName};
 ghost use Rattle.core_term.specs.Term.{Plain};
 ghost use Rattle.core_term.specs.Check.{termOf, isTerm};
 ghost use Rattle.core_term.specs.Text.{text};
-ghost use Rattle.core_term.specs.Scan.{calledIn};
+ghost use Rattle.core_term.specs.Code.Scan.{calledIn};
 ghost use Rattle.writer.specs.Called.{calledBy, Tells, saidBy};
 ghost use Rattle.writer.specs.Walk.{Begins};
 ghost use Rattle.writer.specs.Writing.{textOf};

@@ -2,7 +2,7 @@
 use borrow.Author.Needs.{needs}
 use Rattle.core_term.proofs.count_variables.Statement.{statement}
 use Rattle.core_term.proofs.count_variables.Tie as tie
-use Rattle.core_term.specs.Window.{goodName}
+use Rattle.core_term.specs.Code.Window.{goodName}
 
 returns : tie.Need-returns
 unfolding goodName

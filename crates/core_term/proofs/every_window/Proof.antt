@@ -9,11 +9,11 @@ use native.Mathlib.Omega.{arith}
 use mathlib.Core.Path.{sym, _∙_}
 use Prim.Native.Nat.{_-_}
 use lib.ListN.{length}
-use Rattle.core_term.specs.Window.{goodName}
-use Rattle.core_term.specs.Counted.{none-counted}
-use Rattle.core_term.specs.Walk.{shaped-term, shaped-none, kept-term}
-use Rattle.core_term.specs.Windows.{noFlags-clear}
-use Rattle.core_term.specs.CheckLaws.{many-no, none-no, clean-whole, left-no, Walked, walked-first, walked-more, walked-none, walked-length, walked-clear, walked-all}
+use Rattle.core_term.specs.Code.Window.{goodName}
+use Rattle.core_term.specs.Code.Counted.{none-counted}
+use Rattle.core_term.specs.Code.Walk.{shaped-term, shaped-none, kept-term}
+use Rattle.core_term.specs.Code.Windows.{noFlags-clear}
+use Rattle.core_term.specs.Code.CheckLaws.{many-no, none-no, clean-whole, left-no, Walked, walked-first, walked-more, walked-none, walked-length, walked-clear, walked-all}
 
 abbrev Inv-loop : tie.InvT-loop
 Inv-loop words operations names tabled flags₀ used variables window base₀ flags base =

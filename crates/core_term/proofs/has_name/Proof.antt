@@ -2,7 +2,7 @@
 use borrow.Author.Needs.{needs}
 use Rattle.core_term.proofs.has_name.Statement.{statement}
 use Rattle.core_term.proofs.has_name.Tie as tie
-use Rattle.core_term.specs.Window.{goodName}
+use Rattle.core_term.specs.Code.Window.{goodName}
 
 name-good-requires : tie.Need-name-good-requires
 name-good-requires c κs =

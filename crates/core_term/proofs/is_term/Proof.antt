@@ -5,7 +5,7 @@ use Rattle.core_term.proofs.is_term.Tie as tie
 use Rattle.core_term.proofs.count_variables.Reads as count-variables-reads
 use mathlib.Core.Path.{sym, _∙_}
 use Rattle.core_term.specs.Check.{isTerm}
-use Rattle.core_term.specs.Counted.{counted-no, counted-yes}
+use Rattle.core_term.specs.Code.Counted.{counted-no, counted-yes}
 
 returns : tie.Need-returns
 unfolding isTerm

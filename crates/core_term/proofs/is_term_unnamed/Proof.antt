@@ -5,8 +5,8 @@ use Rattle.core_term.proofs.is_term_unnamed.Tie as tie
 use Rattle.core_term.proofs.count.Reads as count-reads
 use mathlib.Core.Path.{sym, _∙_}
 use Rattle.core_term.specs.Check.{isTerm}
-use Rattle.core_term.specs.Window.{goodName}
-use Rattle.core_term.specs.Counted.{counted-no, counted-yes}
+use Rattle.core_term.specs.Code.Window.{goodName}
+use Rattle.core_term.specs.Code.Counted.{counted-no, counted-yes}
 
 returns : tie.Need-returns
 unfolding isTerm goodName

@@ -21,7 +21,7 @@ use Rattle.core_term.specs.Every.{Asked, everyDatum, everyData, every, proper, 
 use Rattle.core_term.specs.Check.{Scope, inside, variableInside, firstNumber, known, outside, asked, scoped, numbered, allKnown, passes, termOf}
 use Rattle.core_term.specs.Words.{encode}
 use Rattle.core_term.specs.EveryLaws.{every-from}
-use Rattle.core_term.specs.CheckLaws.{termOf-encode}
+use Rattle.core_term.specs.Code.CheckLaws.{termOf-encode}
 use Rattle.expansion.specs.CoreTerm.Worlds.{World, FineTree}
 
 -- ---- what is asked of every node: that it is one, and all of ground 19

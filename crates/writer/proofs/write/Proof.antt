@@ -9,7 +9,7 @@ use Rattle.writer.proofs.write_called.Reads as write-called-reads
 use Rattle.writer.proofs.write_noting.Reads as write-noting-reads
 use mathlib.Core.Path.{refl, sym, _∙_}
 use mathlib.Core.Bool.{false}
-use Rattle.core_term.specs.Counted.{counted-none}
+use Rattle.core_term.specs.Code.Counted.{counted-none}
 use Rattle.writer.specs.CalledLaws.{called-words}
 use Rattle.writer.specs.WroteLaws.{no-term, counted-term, counted-names, is-told}
 

@@ -5,7 +5,7 @@ use Rattle.core_term.proofs.flags.in_scope.Tie as tie
 use Rattle.core_term.proofs.flags.in_scope.Reads as reads
 use Rattle.core_term.proofs.flags.in_scope.Lts as lts
 use borrow.Author.Tests.{lt-ltb, le-ltb}
-use Rattle.core_term.specs.WindowLaws.{noted-below, noted-flag, noted-past}
+use Rattle.core_term.specs.Code.WindowLaws.{noted-below, noted-flag, noted-past}
 
 returns : tie.Need-returns
 returns c =

@@ -10,8 +10,8 @@ use native.Mathlib.Omega.{arith}
 use mathlib.Core.Path.{_≡_, refl, ap, _∙_}
 use mathlib.Core.List.{List}
 use lib.ListN.{length}
-use Rattle.core_term.specs.Window.{put, marked}
-use Rattle.core_term.specs.WindowLaws.{marked-more}
+use Rattle.core_term.specs.Code.Window.{put, marked}
+use Rattle.core_term.specs.Code.WindowLaws.{marked-more}
 
 abbrev Inv-loop : tie.InvT-loop
 Inv-loop flags₀ base from to value k₀ flags k =

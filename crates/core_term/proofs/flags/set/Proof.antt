@@ -5,7 +5,7 @@ use Rattle.core_term.proofs.flags.set.Tie as tie
 use Rattle.core_term.proofs.flags.set.Reads as reads
 use Rattle.core_term.proofs.flags.set.Lts as lts
 use mathlib.Core.Path.{sym}
-use Rattle.core_term.specs.WindowLaws.{put-below, put-in, put-past}
+use Rattle.core_term.specs.Code.WindowLaws.{put-below, put-in, put-past}
 
 returns : tie.Need-returns
 returns c =

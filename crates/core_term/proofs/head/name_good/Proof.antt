@@ -7,7 +7,7 @@ use Rattle.core_term.proofs.head.name_good.Lts as lts
 use Rattle.core_term.proofs.head.size.Reads as size-reads
 use mathlib.Core.Path.{sym}
 use borrow.Author.Tests.{not-true, not-false}
-use Rattle.core_term.specs.WindowLaws.{good-past, good-free, good-short, good-some, good-empty}
+use Rattle.core_term.specs.Code.WindowLaws.{good-past, good-free, good-short, good-some, good-empty}
 
 returns : tie.Need-returns
 returns c =

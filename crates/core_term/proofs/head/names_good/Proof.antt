@@ -12,8 +12,8 @@ use mathlib.Core.Path.{_≡_, refl, sym, ap, _∙_}
 use lib.ListN.{length, getD, drop}
 use borrow.Author.Tests.{not-true, not-false}
 use Rattle.words.specs.Lists.{allOf}
-use Rattle.core_term.specs.Window.{goodName}
-use Rattle.core_term.specs.WindowLaws.{names-next, names-bad, names-end}
+use Rattle.core_term.specs.Code.Window.{goodName}
+use Rattle.core_term.specs.Code.WindowLaws.{names-next, names-bad, names-end}
 
 abbrev Inv-loop : tie.InvT-loop
 Inv-loop formals names tabled i₀ i =

@@ -2,7 +2,7 @@ use Rattle.core_term.proofs.head.stand.Statement.{statement}
 use Rattle.core_term.proofs.head.stand.Tie as tie
 use Rattle.core_term.proofs.head.stand.Reads as reads
 use Rattle.core_term.proofs.head.stand.Lts as lts
-use Rattle.core_term.specs.Window.{stands}
+use Rattle.core_term.specs.Code.Window.{stands}
 
 returns : tie.Need-returns
 unfolding stands

@@ -14,8 +14,8 @@ use mathlib.Core.Bool.{true}
 use mathlib.Core.List.{[]}
 use mathlib.Core.Path.{refl, sym, ap, _∙_}
 use Rattle.core_term.specs.Node.{isDatumNode}
-use Rattle.core_term.specs.Opened.{nodeIn}
-use Rattle.core_term.specs.HeadLaws.{head-quoted, head-none, head-constant, head-list, head-name, head-variable, head-operation, head-if, head-application, lambda-room, lambda-other, head-lambda}
+use Rattle.core_term.specs.Code.Opened.{nodeIn}
+use Rattle.core_term.specs.Code.HeadLaws.{head-quoted, head-none, head-constant, head-list, head-name, head-variable, head-operation, head-if, head-application, lambda-room, lambda-other, head-lambda}
 
 enum-known-node : tie.Need-enum-known-node
 enum-known-node c =

@@ -1,7 +1,7 @@
 use borrow.Author.Needs.{needs}
 use Rattle.core_term.proofs.nodes.shape_at.Statement.{statement}
 use Rattle.core_term.proofs.nodes.shape_at.Tie as tie
-use Rattle.core_term.specs.OpenedLaws.{shaped-opened}
+use Rattle.core_term.specs.Code.OpenedLaws.{shaped-opened}
 
 returns : tie.Need-returns
 returns c =

@@ -8,7 +8,7 @@ use Rattle.core_term.proofs.nodes.shaped.Reads as shaped-reads
 use Prim.Native.Nat.{ℕ, _+_}
 use mathlib.Core.Path.{sym, ap, ap₂, _∙_}
 use mathlib.Core.Bool.{true, false}
-use Rattle.core_term.specs.Opened.{shapeBy, shapeIn}
+use Rattle.core_term.specs.Code.Opened.{shapeBy, shapeIn}
 
 enum-told : tie.Need-enum-told
 enum-told c =

@@ -3,7 +3,7 @@ use Rattle.core_term.proofs.nodes.shaped.Tie as tie
 use Rattle.core_term.proofs.nodes.shaped.Reads as reads
 use Rattle.core_term.proofs.nodes.shaped.Lts as lts
 use mathlib.Core.Path.{refl}
-use Rattle.core_term.specs.Opened.{shapeBy}
+use Rattle.core_term.specs.Code.Opened.{shapeBy}
 
 returns : tie.Need-returns
 unfolding shapeBy

@@ -4,7 +4,7 @@ use Rattle.core_term.proofs.read.boolean.Tie as tie
 use Rattle.core_term.proofs.read.boolean.Reads as reads
 use Rattle.core_term.proofs.read.boolean.Lts as lts
 use native.Mathlib.Omega.{arith}
-use Rattle.core_term.specs.OpenedLaws.{opened-boolean, opened-no-boolean}
+use Rattle.core_term.specs.Code.OpenedLaws.{opened-boolean, opened-no-boolean}
 
 shared-slice-read-a : tie.Need-shared-slice-read-a
 shared-slice-read-a c =

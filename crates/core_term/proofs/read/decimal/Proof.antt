@@ -6,7 +6,7 @@ use Rattle.core_term.proofs.read.decimal.Lts as lts
 use native.Mathlib.Omega.{arith}
 use Rattle.words.specs.TestLaws.{outside-below, outside-above}
 use Rattle.core_term.specs.CodeLaws.{decimal-short}
-use Rattle.core_term.specs.OpenedLaws.{opened-none, opened-decimal, opened-no-decimal}
+use Rattle.core_term.specs.Code.OpenedLaws.{opened-none, opened-decimal, opened-no-decimal}
 
 returns : tie.Need-returns
 returns c =

@@ -6,7 +6,7 @@ use Rattle.core_term.proofs.read.lambda.Lts as lts
 use Rattle.core_term.proofs.head.wide.Reads as wide-reads
 use native.Mathlib.Omega.{arith}
 use Rattle.core_term.specs.CodeLaws.{lambda-short, lambda-cut}
-use Rattle.core_term.specs.OpenedLaws.{opened-none, opened-lambda, opened-no-lambda}
+use Rattle.core_term.specs.Code.OpenedLaws.{opened-none, opened-lambda, opened-no-lambda}
 
 returns : tie.Need-returns
 returns c =

@@ -8,7 +8,7 @@ use Rattle.core_term.proofs.read.decimal.Reads as decimal-reads
 use Rattle.core_term.proofs.read.lambda.Reads as lambda-reads
 use native.Mathlib.Omega.{arith}
 use Rattle.core_term.specs.CodeLaws.{at-none, short-missing}
-use Rattle.core_term.specs.OpenedLaws.{opened-none, opened-if, opened-variable, opened-operation, opened-integer, opened-name, opened-list, opened-application, past-codes, opened-past}
+use Rattle.core_term.specs.Code.OpenedLaws.{opened-none, opened-if, opened-variable, opened-operation, opened-integer, opened-name, opened-list, opened-application, past-codes, opened-past}
 
 returns : tie.Need-returns
 returns c =

@@ -20,8 +20,8 @@ use native.Mathlib.Omega.{arith}
 use mathlib.Core.Path.{refl, sym, ap, _∙_}
 use lib.ListN.{length}
 use Rattle.core_term.specs.declared.term.Checked.the-variants as C
-use Rattle.core_term.specs.Window.{goodName}
-use Rattle.core_term.specs.Walk.{shaped-term, shaped-none, kept-term, walk-none, walk-within, walk-own, walk-parts, walk-leaf, Walking, walk-start, walk-end, walk-stop, walk-next, walk-on, set-row, set-clear, set-undone}
+use Rattle.core_term.specs.Code.Window.{goodName}
+use Rattle.core_term.specs.Code.Walk.{shaped-term, shaped-none, kept-term, walk-none, walk-within, walk-own, walk-parts, walk-leaf, Walking, walk-start, walk-end, walk-stop, walk-next, walk-on, set-row, set-clear, set-undone}
 
 abbrev μ-parts : Measures 3 parts-kinds.ps ℕ
 μ-parts κs a =

@@ -13,7 +13,7 @@ use Rattle.words.proofs.packed.parts.Reads as parts-reads
 use Rattle.rule_cells.proofs.rules.+rule_list.{statement}
 use Rattle.rule_cells.proofs.rules.+rule_list.Tie.{close}
 use borrow.Author.Needs.{needs}
-use Rattle.words.specs.Packed.{builtOf}
+use Rattle.words.specs.Code.Packed.{builtOf}
 use Rattle.rule_cells.specs.ParseLaws.{packs-at, packs, asks-tail, rest-below}
 use Rattle.rule_cells.specs.RuleParse.{RulesLeft}
 use Rattle.rule_cells.specs.PatternLaws.{PairHere, pair-here}

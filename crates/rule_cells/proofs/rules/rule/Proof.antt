@@ -8,7 +8,7 @@ use Rattle.arena.proofs.lists.first.Reads as first-reads
 use Rattle.arena.proofs.lists.rest.Reads as rest-reads
 use Rattle.rule_cells.proofs.rules.rule_parts.Reads as rule-parts-reads
 use Rattle.rule_cells.proofs.rules.rule_shape.Reads as rule-shape-reads
-use Rattle.words.specs.Packed.{builtOf}
+use Rattle.words.specs.Code.Packed.{builtOf}
 use Rattle.rule_cells.specs.RuleListLaws.{left-shape, parts-ask, left-parts}
 use mathlib.Core.Path.{sym, _∙_}
 

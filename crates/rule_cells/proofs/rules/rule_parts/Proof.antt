@@ -10,7 +10,7 @@ use Rattle.rule_cells.proofs.templates.template.Reads as template-reads
 use Rattle.rule_cells.proofs.variables.gather.Reads as gather-reads
 use Rattle.words.proofs.packed.pair.Reads as pair-reads
 use Rattle.words.proofs.packed.parts.Reads as parts-reads
-use Rattle.words.specs.Packed.{builtOf}
+use Rattle.words.specs.Code.Packed.{builtOf}
 use Rattle.rule_cells.specs.Variables.{keptOf}
 use Rattle.rule_cells.specs.GatherLaws.{kept-bad, kept-count, gathered-stored}
 use Rattle.rule_cells.specs.ParseLaws.{packs-at}

@@ -10,7 +10,7 @@ use Rattle.rule_cells.proofs.rules.rule_list.Reads as rule-list-reads
 use Rattle.rule_cells.proofs.rules_form.after_chosen.Reads as after-chosen-reads
 use Rattle.rule_cells.proofs.rules_form.ellipsis.Reads as ellipsis-reads
 use Rattle.rule_cells.proofs.rules_form.is_rules_form.Reads as is-rules-form-reads
-use Rattle.words.specs.Packed.{builtOf}
+use Rattle.words.specs.Code.Packed.{builtOf}
 use Rattle.rule_cells.specs.RuleListLaws.{dots-under, left-no-form, asks-list, literals-under, left-form}
 use mathlib.Core.Path.{sym, _∙_}
 

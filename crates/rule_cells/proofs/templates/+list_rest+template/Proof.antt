@@ -24,7 +24,7 @@ use Rattle.rule_cells.proofs.templates.+list_rest+template.Tie.{close}
 use borrow.Author.Needs.{needs}
 use Rattle.rule_cells.specs.GatherLaws.{deeper-most}
 use Rattle.rule_cells.specs.VariableLaws.{deeper-by}
-use Rattle.words.specs.Packed.{builtOf}
+use Rattle.words.specs.Code.Packed.{builtOf}
 use Rattle.rule_cells.specs.ParseLaws.{packs-at, packs, asks-head, asks-tail, asks-rest, room-pair, head-below, rest-below}
 use Rattle.rule_cells.specs.Parse.{TemplateLeft, restPlace}
 use mathlib.Core.Path.{sym, _∙_, refl}

@@ -8,7 +8,7 @@ use Rattle.arena.proofs.cells.word.Reads as word-reads
 use Rattle.rule_cells.proofs.constructors.put_constant.Reads as put-constant-reads
 use Rattle.rule_cells.proofs.templates.template_name.Reads as template-name-reads
 use Rattle.words.proofs.packed.pair.Reads as pair-reads
-use Rattle.words.specs.Packed.{builtOf}
+use Rattle.words.specs.Code.Packed.{builtOf}
 use Rattle.rule_cells.specs.ParseLaws.{packs-at, packs, leaf-packs, room-leaf}
 use Rattle.rule_cells.specs.Parse.{TemplateLeft}
 use Rattle.rule_cells.specs.TemplateLaws.{left-name, left-empty, left-constant}

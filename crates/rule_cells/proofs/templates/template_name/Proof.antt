@@ -10,7 +10,7 @@ use Rattle.rule_cells.proofs.dots.is_ellipsis.Reads as is-ellipsis-read
 use Rattle.rule_cells.proofs.templates.depth_fits.Reads as depth-fits-reads
 use Rattle.rule_cells.proofs.variables.find.Reads as find-reads
 use Rattle.words.proofs.packed.pair.Reads as pair-reads
-use Rattle.words.specs.Packed.{builtOf}
+use Rattle.words.specs.Code.Packed.{builtOf}
 use Rattle.rule_cells.specs.VariableLaws.{found-at, found-not}
 use Rattle.rule_cells.specs.ParseLaws.{packs-at}
 use Rattle.rule_cells.specs.Parse.{TemplateLeft}

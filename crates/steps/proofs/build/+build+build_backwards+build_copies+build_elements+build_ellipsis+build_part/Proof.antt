@@ -39,7 +39,7 @@ use Rattle.steps.proofs.build.+build+build_backwards+build_copies+build
 use Rattle.environments.specs.PartLaws.{tag-falls}
 use Rattle.environments.specs.LengthLaws.{counted-of, counted-differ}
 use Rattle.environments.specs.EntryLaws.{moving-along}
-use Rattle.words.specs.Packed.{builtOf}
+use Rattle.words.specs.Code.Packed.{builtOf}
 use Rattle.steps.specs.Build.{Backwards}
 use Rattle.steps.specs.ResultLaws.{gives-at, stops-at, made-packed, made-none, pair-tail, pair-tail-costly, pair-head, pair-head-costly, pair-room, made-pair}
 use Rattle.steps.specs.CopyLaws.{Turning, turning-begins, copies-none, copy-buildable, copy-costly, copy-room, turning-more, turning-ends, backwards-packed, reversed-asks, copied-packed, listed-waits, listed-backwards}

@@ -3,7 +3,7 @@ use borrow.Author.Needs.{needs}
 use Rattle.steps.proofs.build.build_leaf.Statement.{statement}
 use Rattle.steps.proofs.build.build_leaf.Tie as tie
 use Rattle.arena.specs.ArenaLaws.{referenceAt-most}
-use Rattle.words.specs.Packed.{builtOf}
+use Rattle.words.specs.Code.Packed.{builtOf}
 use Rattle.steps.specs.BuildLaws.{room-less, room-node}
 use Rattle.steps.specs.ResultLaws.{made-packed, variable-waits, made-variable, made-none, made-insert, kind-plain, made-constant, made-empty}
 use native.Mathlib.Omega.{arith}

@@ -19,7 +19,7 @@ use Rattle.steps.proofs.copy.+copy_part+copy_tree.Tie.{close}
 use borrow.Author.Needs.{needs}
 use Rattle.arena.specs.ListLaws.{pair-falls}
 use Rattle.arena.specs.Arena.{treeAt}
-use Rattle.words.specs.Packed.{builtOf}
+use Rattle.words.specs.Code.Packed.{builtOf}
 use Rattle.steps.specs.BuildLaws.{paid-at, pays-packed, unpaid-at, unpaid-none, waiting-tail, waiting-head, copied-tail-costly, copied-head-costly, copied-room, copied-pair}
 use native.Mathlib.Omega.{arith}
 use mathlib.Core.Path.{refl, sym, _∙_}

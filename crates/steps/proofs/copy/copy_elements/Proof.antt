@@ -3,7 +3,7 @@ use Rattle.steps.proofs.copy.copy_elements.Statement.{statement}
 use Rattle.steps.proofs.copy.copy_elements.Tie as tie
 use Prim.Native.Nat.{_-_}
 use Rattle.arena.specs.Arena.{treeAt}
-use Rattle.words.specs.Packed.{builtOf}
+use Rattle.words.specs.Code.Packed.{builtOf}
 use Rattle.steps.specs.BuildLaws.{paid-at, unpaid-at}
 use Rattle.steps.specs.CopyLaws.{Going, going-begins, going-ends, elements-none, element-waits, element-costly, element-room, going-more, elements-packed}
 use native.Mathlib.Omega.{arith}

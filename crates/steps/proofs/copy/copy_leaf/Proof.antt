@@ -3,7 +3,7 @@ use borrow.Author.Needs.{needs}
 use Rattle.steps.proofs.copy.copy_leaf.Statement.{statement}
 use Rattle.steps.proofs.copy.copy_leaf.Tie as tie
 use Rattle.arena.specs.Arena.{treeAt}
-use Rattle.words.specs.Packed.{builtOf}
+use Rattle.words.specs.Code.Packed.{builtOf}
 use Rattle.steps.specs.BuildLaws.{room-less, room-node, pays-packed, unpaid-none, copied-empty, copied-name, copied-constant}
 use mathlib.Core.Path.{refl, sym, _∙_}
 

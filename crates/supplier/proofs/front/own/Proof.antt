@@ -3,7 +3,7 @@ use Rattle.supplier.proofs.front.own.Tie as tie
 use borrow.Author.Needs.{needs}
 use mathlib.Core.Path.{_≡_, sym, subst}
 use Rattle.core_term.specs.Node.{nodeAt}
-use Rattle.core_term.specs.Opened.{nodeIn}
+use Rattle.core_term.specs.Code.Opened.{nodeIn}
 use Rattle.supplier.specs.Told.{Fronted}
 use Rattle.supplier.specs.ToldLaws.{front-variable, front-operation, front-integer, front-boolean, front-decimal, front-name, front-list, front-if, front-application, front-none}
 

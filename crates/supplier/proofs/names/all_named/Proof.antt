@@ -9,7 +9,7 @@ use borrow.Author.Needs.{needs}
 use borrow.Author.Tests.{not-true, not-false}
 use Rattle.words.specs.Lists.{allOf}
 use Rattle.datum.specs.NameTable.{hasName}
-use Rattle.core_term.specs.WindowLaws.{names-next, names-bad, names-end}
+use Rattle.core_term.specs.Code.WindowLaws.{names-next, names-bad, names-end}
 
 abbrev Inv-loop : tie.InvT-loop
 Inv-loop names numbers k₀ k =

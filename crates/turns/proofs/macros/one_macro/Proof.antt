@@ -2,7 +2,7 @@
 use borrow.Author.Needs.{needs}
 use Rattle.turns.proofs.macros.one_macro.Statement.{statement}
 use Rattle.turns.proofs.macros.one_macro.Tie as tie
-use Rattle.words.specs.Packed.{builtOf}
+use Rattle.words.specs.Code.Packed.{builtOf}
 use Rattle.turns.specs.MacroRuleLaws.{one-bad, one-good}
 use mathlib.Core.Path.{sym, _∙_}
 

@@ -2,7 +2,7 @@
 use borrow.Author.Needs.{needs}
 use Rattle.words.proofs.packed.parts.Statement.{statement}
 use Rattle.words.proofs.packed.parts.Tie as tie
-use Rattle.words.specs.Packed.{built-none, built-some}
+use Rattle.words.specs.Code.Packed.{built-none, built-some}
 use mathlib.Core.Path.{sym}
 
 returns : tie.Need-returns

@@ -10,7 +10,7 @@ use native.Mathlib.Omega.{arith}
 use mathlib.Core.Path.{_≡_, ap, _∙_}
 use Prim.Native.Nat.{_≤_, _-_}
 use lib.ListN.{length}
-use Rattle.core_term.specs.Scan.{Scan, scan-start, scan-end, scan-sizes, scan-next, scan-names}
+use Rattle.core_term.specs.Code.Scan.{Scan, scan-start, scan-end, scan-sizes, scan-next, scan-names}
 use Rattle.writer.specs.CalledLaws.{name-here}
 
 abbrev Inv-loop : tie.InvT-loop

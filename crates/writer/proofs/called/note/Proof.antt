@@ -10,7 +10,7 @@ use native.Mathlib.Omega.{arith}
 use mathlib.Core.Path.{_≡_, refl, sym, ap, _∙_}
 use Prim.Native.Nat.{_+_, _-_, _≤_}
 use lib.ListN.{length, take, drop}
-use Rattle.core_term.specs.Scan.{Scan, scan-start, scan-more, scan-sizes, scan-next, scan-names, scan-count}
+use Rattle.core_term.specs.Code.Scan.{Scan, scan-start, scan-more, scan-sizes, scan-next, scan-names, scan-count}
 use Rattle.writer.specs.CalledLaws.{Notes, notes-more, notes-all}
 
 abbrev Inv-loop : tie.InvT-loop

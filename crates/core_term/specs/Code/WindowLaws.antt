@@ -14,8 +14,8 @@ use Rattle.datum.specs.NameTable.{lengthAt, hasName}
 use Rattle.core_term.specs.Node.{Node, isNode, variableN, operationN, constantN, nameN, listN, ifN, lambdaN, applicationN}
 use Rattle.core_term.specs.NodeLaws.{both}
 use Rattle.core_term.specs.Check.{small}
-use Rattle.core_term.specs.Shape.{Clear}
-use Rattle.core_term.specs.Window.{put, marked, noted, goodName, allowed, window}
+use Rattle.core_term.specs.Code.Shape.{Clear}
+use Rattle.core_term.specs.Code.Window.{put, marked, noted, goodName, allowed, window}
 
 -- ---- put
 

@@ -14,7 +14,7 @@ use Rattle.datum.specs.Datum.{constantD, nameD, listD, Data, noneD, moreD}
 use Rattle.core_term.specs.Node.{Node, got, nodeAt, nodeWords, isNode, binds, variableN, operationN, constantN, nameN, listN, ifN, lambdaN, applicationN}
 use Rattle.core_term.specs.NodeLaws.{both, node-round, node-some}
 use Rattle.core_term.specs.declared.nodes.Shape.{Shape}
-use Rattle.core_term.specs.Opened.{Shaped, ShapedAt}
+use Rattle.core_term.specs.Code.Opened.{Shaped, ShapedAt}
 use Rattle.core_term.specs.Term.{variableC, operationC, datumC, ifC, lambdaC, applicationC, noneC, moreC, Plain, Plains, variables, variablesAll, formalsOf, formalsAll}
 use Rattle.core_term.specs.Term as T
 use Rattle.core_term.specs.Words.{encode, encodeAll}
@@ -23,8 +23,8 @@ use Rattle.core_term.specs.DecodeLaws.{encode-decode}
 use Rattle.core_term.specs.Every.{every, everyTerm, proper, wellFormed}
 use Rattle.core_term.specs.Parts.{node, partsOf, quoted, datumNode, datumParts}
 use Rattle.core_term.specs.PartsLaws.{encode-parts, encode-two, every-parts, count-parts, variables-parts}
-use Rattle.core_term.specs.WindowLaws.{case}
-use Rattle.core_term.specs.Walk.{rest}
+use Rattle.core_term.specs.Code.WindowLaws.{case}
+use Rattle.core_term.specs.Code.Walk.{rest}
 
 -- those that words tell
 unfoldable pub namesFrom : Option Plain → List ℕ

@@ -13,14 +13,14 @@ use Rattle.core_term.specs.declared.term.Checked.{Checked}
 use Rattle.core_term.specs.declared.term.Checked.the-variants as C
 use Rattle.core_term.specs.Node.{nodeAt, nodeWords, binds}
 use Rattle.core_term.specs.NodeLaws.{node-some}
-use Rattle.core_term.specs.Opened.{nodeIn, shapeIn, Shaped, OpenedAs}
-use Rattle.core_term.specs.OpenedLaws.{shaped-opened}
+use Rattle.core_term.specs.Code.Opened.{nodeIn, shapeIn, Shaped, OpenedAs}
+use Rattle.core_term.specs.Code.OpenedLaws.{shaped-opened}
 use Rattle.core_term.specs.Every.{Asked}
-use Rattle.core_term.specs.Window.{marked, window, headOf}
-use Rattle.core_term.specs.WindowLaws.{marked-undo, marked-clear, marked-length, allowed-node}
-use Rattle.core_term.specs.Shape.{Whole, None, Row, NoRow, InRow, Kept, Clear}
-use Rattle.core_term.specs.Shape as S
-use Rattle.core_term.specs.ShapeLaws.{Found, found, not-found, row-whole, row-none, row-end, row-stops, next-inside, row-more, row-less}
+use Rattle.core_term.specs.Code.Window.{marked, window, headOf}
+use Rattle.core_term.specs.Code.WindowLaws.{marked-undo, marked-clear, marked-length, allowed-node}
+use Rattle.core_term.specs.Code.Shape.{Whole, None, Row, NoRow, InRow, Kept, Clear}
+use Rattle.core_term.specs.Code.Shape as S
+use Rattle.core_term.specs.Code.ShapeLaws.{Found, found, not-found, row-whole, row-none, row-end, row-stops, next-inside, row-more, row-less}
 
 -- words from a place on, as code hands them down
 abbrev pub rest : ℕ → List ℕ → List ℕ

@@ -17,12 +17,12 @@ use Rattle.core_term.specs.DecodeLaws.{decode-encode, encode-decode, enc
 use Rattle.core_term.specs.Every.{every, wellFormed}
 use Rattle.core_term.specs.Check.{scoped, numbered, allKnown, passes, passing, termOf, isSome, isTerm}
 use Rattle.core_term.specs.declared.Counted.the-variants.{Variables}
-use Rattle.core_term.specs.Counted.{countedOf}
-use Rattle.core_term.specs.Window.{window}
-use Rattle.core_term.specs.WindowLaws.{case, allowed-node}
-use Rattle.core_term.specs.Shape.{Whole, None, Clear}
-use Rattle.core_term.specs.ShapeLaws.{every-proper, only}
-use Rattle.core_term.specs.Windows.{noFlags, noFlags-clear, window-passes, Passed, Covered, windows-numbered, windows-known, windows-scoped}
+use Rattle.core_term.specs.Code.Counted.{countedOf}
+use Rattle.core_term.specs.Code.Window.{window}
+use Rattle.core_term.specs.Code.WindowLaws.{case, allowed-node}
+use Rattle.core_term.specs.Code.Shape.{Whole, None, Clear}
+use Rattle.core_term.specs.Code.ShapeLaws.{every-proper, only}
+use Rattle.core_term.specs.Code.Windows.{noFlags, noFlags-clear, window-passes, Passed, Covered, windows-numbered, windows-known, windows-scoped}
 
 module _ (operations : ℕ) (nameGood : ℕ → Bool) where
   -- the words are exactly this term, and ground 19 lets it pass

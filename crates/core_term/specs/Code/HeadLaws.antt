@@ -19,9 +19,9 @@ use Rattle.core_term.specs.declared.nodes.Node.{Node}
 use Rattle.core_term.specs.declared.nodes.Node.the-variants.{Variable, Operation, Integer, Boolean, Decimal, Name, List as Several, If, Lambda, Application, None}
 use Rattle.core_term.specs.declared.head.Head.{Head}
 use Rattle.core_term.specs.declared.head.Head.the-variants as H
-use Rattle.core_term.specs.Opened.{nodeIn, shapeIn, OpenedAs}
+use Rattle.core_term.specs.Code.Opened.{nodeIn, shapeIn, OpenedAs}
 use Rattle.core_term.specs.Every.{Asked}
-use Rattle.core_term.specs.Window.{noted, allowed, window, stands, headOf}
+use Rattle.core_term.specs.Code.Window.{noted, allowed, window, stands, headOf}
 
 module _ (operations base : ℕ) (nameGood : ℕ → Bool) (flags : List ℕ) (b : ℕ) (q : Bool) (ws : List ℕ) where
   abbrev pub Answer : Node → Head

@@ -13,10 +13,10 @@ use Rattle.core_term.specs.NodeLaws.{both}
 use Rattle.core_term.specs.Term.{Plain, variables}
 use Rattle.core_term.specs.Every.{Asked, every, proper, wellFormed}
 use Rattle.core_term.specs.EveryLaws.{every-from}
-use Rattle.core_term.specs.Shape.{Clear}
+use Rattle.core_term.specs.Code.Shape.{Clear}
 use Rattle.core_term.specs.Check.{Scope, outside, inside, variableInside, firstNumber, known, asked, scoped, numbered, allKnown}
-use Rattle.core_term.specs.Window.{marked, noted, allowed, window}
-use Rattle.core_term.specs.WindowLaws.{case, marked-length, marked-in, marked-out, noted-below, noted-in, noted-past}
+use Rattle.core_term.specs.Code.Window.{marked, noted, allowed, window}
+use Rattle.core_term.specs.Code.WindowLaws.{case, marked-length, marked-in, marked-out, noted-below, noted-in, noted-past}
 
 -- the flags of a window of so many variables, where none is set
 abbrev pub noFlags : ℕ → List ℕ

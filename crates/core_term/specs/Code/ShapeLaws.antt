@@ -18,9 +18,9 @@ use Rattle.core_term.specs.EveryLaws.{every-from}
 use Rattle.core_term.specs.Parts.{node, partsOf, isDatum, areData}
 use Rattle.core_term.specs.PartsLaws.{encode-parts, every-parts, variables-parts, count-parts, list-data, Built, built}
 use Rattle.core_term.specs.declared.nodes.Shape.{Shape}
-use Rattle.core_term.specs.Opened.{Shaped}
-use Rattle.core_term.specs.Window.{stands, headOf}
-use Rattle.core_term.specs.Shape.{Whole, None, Row, NoRow}
+use Rattle.core_term.specs.Code.Opened.{Shaped}
+use Rattle.core_term.specs.Code.Window.{stands, headOf}
+use Rattle.core_term.specs.Code.Shape.{Whole, None, Row, NoRow}
 
 -- what a wanted datum asks of a node
 wanted-yes : (q d : Bool) → (q ≡ true → d ≡ true) → (d || not q) ≡ true

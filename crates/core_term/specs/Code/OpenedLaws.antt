@@ -19,7 +19,7 @@ use Rattle.core_term.specs.CodeLaws.{at-past, variable-at, operation-at,
 use Rattle.core_term.specs.declared.nodes.Node.{Node}
 use Rattle.core_term.specs.declared.nodes.Shape.{Shape}
 use Rattle.core_term.specs.declared.nodes.Node.the-variants.{Variable, Operation, Integer, Boolean, Decimal, Name, List as Several, If, Lambda, Application, None}
-use Rattle.core_term.specs.Opened.{nodeIn, shapeBy, shapeIn, Shaped, ShapedAt, OpenedAs}
+use Rattle.core_term.specs.Code.Opened.{nodeIn, shapeBy, shapeIn, Shaped, ShapedAt, OpenedAs}
 
 -- ---- laws in the code's shape
 
