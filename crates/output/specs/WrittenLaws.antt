@@ -2,8 +2,8 @@
 use mathlib.Core.Path.{_≡_, refl}
 use mathlib.Core.Bool.{true}
 use mathlib.Core.List.{List, []}
-use Prim.Native.Nat.{ℕ, _≤_}
-use Rattle.words.specs.Limits.{itemWordsLeast, nameBytesLeast, operationsMost, filingFuel, filingWork, filingCore}
+use Prim.Native.Nat.{ℕ}
+use Rattle.words.specs.Limits.{itemWordsLeast, nameBytesLeast, filingFuel, filingWork, filingCore}
 use Rattle.words.specs.Lists.{allOf}
 use Rattle.words.specs.Text.{bytes}
 use Rattle.datum.specs.Datum.{noneD}
