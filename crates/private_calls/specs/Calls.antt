@@ -8,6 +8,7 @@ use Prim.Native.Nat.{ℕ, _-_}
 use lib.ListN.{length, replicate}
 use Rattle.words.specs.Lists.{allOf, anyOf}
 use Rattle.words.specs.Tables.{Stage, filled, leftAt}
+use Rattle.words.specs.TableLaws.{filled-same}
 use Rattle.words.specs.TestLaws.{and-parts}
 use Rattle.recipe.specs.Name.{Name}
 use Rattle.recipe.specs.Table.{treeOf}
@@ -19,11 +20,6 @@ use Rattle.private_names.specs.Statement.{Choice, isOldItem, renamed, isReached
 use Rattle.private_names_proof.specs.Claim.{private-names}
 use Rattle.expander.specs.declared.Expansion.{Expansion}
 use Rattle.expander.specs.Service.{Numbers, numbersOf, groundOf, runNumbers, coreAfter, workAfter, Served}
-
--- what a call leaves goes by the lengths of its tables alone, once it has begun
-filled-by-length : (words t u : List ℕ) → length t ≡ length u → filled words t ≡ filled words u
-unfolding filled
-filled-by-length words t u e = ap (λ n. words ++ replicate (n - length words) 0) e
 
 -- ---- two calls
 
@@ -65,6 +61,6 @@ private-calls ws fuel c work work′ work₁ work₂ core core′ core₁ core�
     ap (λ (n : ℕ). record { ground = groundOf (r .outcome); steps = r .steps; sum = r .sum; length = n }) (with-length C (c .new) (c .old) (r .term)) in (
       q .numbers ∙ ap numbersFor e ∙ same ∙ sym (ap numbersFor (named .0)) ∙ sym (p .numbers),
       p .core-after ∙ ap (λ (a : Answer). leftAt (stageOf (a .outcome)) (a .core) core) (named .0) ∙ left _ core,
-      q .core-after ∙ ap (λ (a : Answer). leftAt (stageOf (a .outcome)) (a .core) core′) e ∙ left _ core′ ∙ filled-by-length (coreWith C (c .new) (r .term)) core′ core y,
-      q .work-after ∙ ap (λ (a : Answer). leftAt (stageOf (a .outcome)) [] work′) e ∙ left [] work′ ∙ filled-by-length [] work′ work x ∙ sym (p .work-after ∙ left [] work),
+      q .core-after ∙ ap (λ (a : Answer). leftAt (stageOf (a .outcome)) (a .core) core′) e ∙ left _ core′ ∙ filled-same (coreWith C (c .new) (r .term)) core′ core y,
+      q .work-after ∙ ap (λ (a : Answer). leftAt (stageOf (a .outcome)) [] work′) e ∙ left [] work′ ∙ filled-same [] work′ work x ∙ sym (p .work-after ∙ left [] work),
     )

@@ -6,20 +6,21 @@ use mathlib.Core.List.{List}
 use Prim.Native.Nat.{ℕ}
 use lib.ListN.{length}
 use Rattle.words.specs.Lists.{allOf}
+use Rattle.words.specs.Tables.{filled}
 use Rattle.recipe.specs.Tree.{Tree}
 use Rattle.expansion.specs.Run.{run}
 use Rattle.private_names.specs.Statement.{isItemOf, renumber, renamed, hypotheses, coreWith}
 use Rattle.private_names.specs.Demand3.{Whenever, second}
 use Rattle.private_names_proof.specs.Said.{Tested, tested, whenever}
 use Rattle.expander.specs.declared.Expansion.{Expansion}
-use Rattle.expander.specs.Service.{numbersOf, leftBy, Served}
+use Rattle.expander.specs.Service.{numbersOf, Served}
 use Rattle.private_calls.specs.Calls.{private-calls}
 
 -- what a call leaves in its core table: the first run's term, with number n where a copy stands
 abbrev pub coreWithNumber : (ws : List ℕ) (fuel : ℕ) (copies : ℕ → Bool) (work core : List ℕ) → ℕ → List ℕ
 coreWithNumber ws fuel copies work core n =
     let r = run ws fuel (length work) (length core) in
-    leftBy (r .outcome) (coreWith copies n (r .term)) core
+    filled (coreWith copies n (r .term)) core
 
 -- equal answers and work tables; core tables that differ in the name words where a copy stands
 pub record AlikeCalls (ws : List ℕ) (fuel : ℕ) (copies : ℕ → Bool) (old new : ℕ) (work work₁ work₂ core core₁ core₂ : List ℕ) (first again : Expansion) : Type 0 where
