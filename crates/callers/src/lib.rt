@@ -6,7 +6,7 @@ ghost use lib.ListN.{length};
 ghost use Rattle.lexer.specs.Answered.{Answered};
 ghost use Rattle.reading.specs.Read.{read, readElements, readNumbers, itemsAfter, namesAfter};
 ghost use Rattle.reader.specs.Served as R;
-ghost use Rattle.writer.specs.Writing.{textOf, ground, size, after};
+ghost use Rattle.writer.specs.Writing.{textOf, outcome, ground, size, after};
 ghost use Rattle.writer.specs.Wrote.{Wrote};
 ghost use Rattle.expansion.specs.Run.{run};
 ghost use Rattle.expander.specs.Service as E;
@@ -97,9 +97,9 @@ pub fn called_write(
     out: &mut [u8],
     counts: &mut [u64],
 ) -> u32
-    ensures { λ r. ⌜ (r ≡ ground (now (out .entry)) (textOf (now (words .entry)) operations (now (names .entry))))
-        × (now (out .exit) ≡ after (now (out .entry)) (textOf (now (words .entry)) operations (now (names .entry))))
-        × (now (counts .exit) ≡ told (size (now (out .entry)) (textOf (now (words .entry)) operations (now (names .entry)))) 0 0 (now (counts .entry))) ⌝ }
+    ensures { λ r. ⌜ (r ≡ ground (outcome (now (out .entry)) (textOf (now (words .entry)) operations (now (names .entry)))))
+        × (now (out .exit) ≡ after (outcome (now (out .entry)) (textOf (now (words .entry)) operations (now (names .entry)))) (now (out .entry)))
+        × (now (counts .exit) ≡ told (size (outcome (now (out .entry)) (textOf (now (words .entry)) operations (now (names .entry))))) 0 0 (now (counts .entry))) ⌝ }
 {
     grebetallboy::grebetallboy_write(words, operations, names, out, counts)
 }
@@ -113,10 +113,10 @@ pub fn called_compare(
     text_names: &mut [u8],
     counts: &mut [u64],
 ) -> u32
-    ensures { λ r. ⌜ (r ≡ verdictGround (compare (now (items .entry)) (now (names .entry)) (now (words .entry)) (now (text .entry)) (length (now («text_items» .entry))) (length (now («text_names» .entry)))))
+    ensures { λ r. ⌜ (r ≡ verdictGround (compare (now (items .entry)) (now (names .entry)) (now (words .entry)) (now (text .entry)) (length (now («text_items» .entry))) (length (now («text_names» .entry))) .verdict))
         × (now («text_items» .exit) ≡ itemsLeft (compare (now (items .entry)) (now (names .entry)) (now (words .entry)) (now (text .entry)) (length (now («text_items» .entry))) (length (now («text_names» .entry)))) (readElements 1 (now (text .entry)) (length (now («text_items» .entry))) (length (now («text_names» .entry)))) (now («text_items» .entry)))
         × (now («text_names» .exit) ≡ namesLeft (compare (now (items .entry)) (now (names .entry)) (now (words .entry)) (now (text .entry)) (length (now («text_items» .entry))) (length (now («text_names» .entry)))) (readElements 1 (now (text .entry)) (length (now («text_items» .entry))) (length (now («text_names» .entry)))) (now («text_names» .entry)))
-        × (now (counts .exit) ≡ tellsVerdict (compare (now (items .entry)) (now (names .entry)) (now (words .entry)) (now (text .entry)) (length (now («text_items» .entry))) (length (now («text_names» .entry)))) (now (counts .entry))) ⌝ }
+        × (now (counts .exit) ≡ tellsVerdict (compare (now (items .entry)) (now (names .entry)) (now (words .entry)) (now (text .entry)) (length (now («text_items» .entry))) (length (now («text_names» .entry))) .verdict) (now (counts .entry))) ⌝ }
 {
     grebetallboy::grebetallboy_compare(items, names, words, text, text_items, text_names, counts)
 }
