@@ -9,9 +9,10 @@ pub fn with<T: Send>(bytes: usize, call: impl FnOnce() -> T + Send) -> Option<T>
     if left().is_some_and(|left| bytes <= left) {
         return Some(call());
     }
-    match in_thread(bytes, bytes, call)? {
+    let stack = bytes.saturating_add(SPARE);
+    match in_thread(stack, bytes, call)? {
         Ok(answer) => Some(answer),
-        Err((missing, call)) => in_thread(bytes.saturating_add(missing), bytes, call)?.ok(),
+        Err((missing, call)) => in_thread(stack.saturating_add(missing).saturating_add(SPARE), bytes, call)?.ok(),
     }
 }
 
