@@ -10,10 +10,6 @@ use Rattle.layout.specs.Places.{places-none}
 use Rattle.supplier.specs.NamesLaws.{have-slots}
 use Rattle.supplier.specs.ServiceLaws.{compared-7, compared-10, compared-term, compared-slots, compared-text}
 
-is-layout-requires : tie.Need-is-layout-requires
-is-layout-requires c κs =
-    search needs
-
 returns : tie.Need-returns
 returns c =
     compared-7 _ _ _ _ _ _ (sym (c .before .is-layout .ensures) ∙ not-true _ (c .if1 .taken))
@@ -82,7 +78,7 @@ pub compare-spec : {M : Type 1} → statement M
 compare-spec =
     tie.close
     (tie.spec
-    is-layout-requires
+    (λ c κs. search needs)  -- is-layout-requires
     returns
     (λ c. search needs)  -- slice-aggregate-operations
     operations-requires

@@ -4,10 +4,6 @@ use borrow.Author.Needs.{needs}
 use native.Mathlib.Omega.{arith}
 use Rattle.supplier.specs.ElementLaws.{element-yes, element-no, element-open, element-outside}
 
-slice-aggregate-expression : tie.Need-slice-aggregate-expression
-slice-aggregate-expression c =
-    search needs
-
 expression-requires : tie.Need-expression-requires
 expression-requires c κs =
     let pre′ = c .before .before .before .before .before .before .pre in
@@ -35,7 +31,7 @@ pub decided-spec : {M : Type 1} → statement M
 decided-spec =
     tie.close
     (tie.spec
-    slice-aggregate-expression
+    (λ c. search needs)  -- slice-aggregate-expression
     expression-requires
     returns
     returns-2

@@ -9,10 +9,6 @@ use lib.Seq.{length-take-le}
 use native.Mathlib.Omega.{arith}
 use Rattle.supplier.specs.ServiceLaws.{items-within, text-held, text-few, names-slots, text-kept, text-zeroed, text-unread}
 
-read-elements-requires : tie.Need-read-elements-requires
-read-elements-requires c κs =
-    search needs
-
 mul-end : tie.Need-mul-end
 mul-end c =
     let h : 3 * c .before .i .given .0 .0 ≤ length (c .before .before .before .before .before .before .before .read-elements .last .1 .0) = items-within _ _ _ _ _ _ (c .before .before .before .before .before .before .before .read-elements .ensures) _ _ (c .before .i .given .1) in record { fits = omega arith }
@@ -60,7 +56,7 @@ pub held-spec : {M : Type 1} → statement M
 held-spec =
     tie.close
     (tie.spec
-    read-elements-requires
+    (λ c κs. search needs)  -- read-elements-requires
     (λ c. search needs)  -- enum-known-i
     mul-end
     slice-reshare-prefix-decided

@@ -17,10 +17,6 @@ use Rattle.core_term.specs.Node.{isDatumNode}
 use Rattle.core_term.specs.Code.Opened.{nodeIn}
 use Rattle.core_term.specs.Code.HeadLaws.{head-quoted, head-none, head-constant, head-list, head-name, head-variable, head-operation, head-if, head-application, lambda-room, lambda-other, head-lambda}
 
-enum-known-node : tie.Need-enum-known-node
-enum-known-node c =
-    search needs
-
 returns : tie.Need-returns
 unfolding nodeIn isDatumNode
 returns c =
@@ -116,7 +112,7 @@ pub standing-spec : {M : Type 1} → statement M
 standing-spec =
     tie.close
     (tie.spec
-    enum-known-node
+    (λ c. search needs)  -- enum-known-node
     returns
     (λ c κs. search needs)  -- wide-requires
     (λ c κs. search needs)  -- in-scope-requires

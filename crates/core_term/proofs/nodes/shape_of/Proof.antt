@@ -10,10 +10,6 @@ use mathlib.Core.Path.{sym, ap, ap₂, _∙_}
 use mathlib.Core.Bool.{true, false}
 use Rattle.core_term.specs.Code.Opened.{shapeBy, shapeIn}
 
-enum-told : tie.Need-enum-told
-enum-told c =
-    search needs
-
 returns : tie.Need-returns
 unfolding shapeIn
 returns c =
@@ -73,7 +69,7 @@ pub shape-of-spec : {M : Type 1} → statement M
 shape-of-spec =
     tie.close
     (tie.spec
-    enum-told
+    (λ c. search needs)  -- enum-told
     (λ c κs. search needs)  -- shaped-requires
     (λ c. search needs)  -- enum-told-2
     (λ c κs. search needs)  -- shaped-requires-2

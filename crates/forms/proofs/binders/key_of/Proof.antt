@@ -8,23 +8,19 @@ use Rattle.resolution.proofs.names.macro_key.Reads as macro-key-reads
 use Rattle.resolution.proofs.names.variable_key.Reads as variable-key-reads
 use Rattle.forms.specs.Binders.{bindsTo}
 
--- src/binders.rt:93:9
 macro-key-requires : tie.Need-macro-key-requires
 macro-key-requires c κs =
     search needs
 
--- src/binders.rt:93:9
 returns : tie.Need-returns
 unfolding bindsTo
 returns c =
     rw (c .before .if1 .taken) (c .macro-key .ensures)
 
--- src/binders.rt:95:5
 variable-key-requires : tie.Need-variable-key-requires
 variable-key-requires c κs =
     search needs
 
--- src/binders.rt:88:1
 returns-2 : tie.Need-returns-2
 unfolding bindsTo
 returns-2 c =

@@ -28,22 +28,6 @@ loop-holds c =
     let at-args = c .before .before in
     (at-args .pre .0, putting-begins (at-args .args .work .now) (at-args .args .list) (at-args .pre .0) (at-args .args .at) (at-args .args .core .now) (at-args .pre .1) (at-args .pre .2))
 
-word-requires : tie.Need-word-requires Inv-loop μ-loop
-word-requires c κs =
-    search needs
-
-reference-requires : tie.Need-reference-requires Inv-loop μ-loop
-reference-requires c κs =
-    search needs
-
-own-name-requires : tie.Need-own-name-requires Inv-loop μ-loop
-own-name-requires c κs =
-    search needs
-
-number-of-requires : tie.Need-number-of-requires Inv-loop μ-loop
-number-of-requires c κs =
-    search needs
-
 mul-core : tie.Need-mul-core Inv-loop μ-loop
 mul-core c =
     let at-own-name = c .before in
@@ -65,10 +49,6 @@ slice-write-core c =
     let at-loop = at-word .before in
     let args′ = at-loop .before .before .before .args in
     putting-room (args′ .work .now) (args′ .list) (at-loop .loop .inv .0) (args′ .at) (args′ .core .now) (at-loop .loop .node) (at-loop .loop .n) (at-loop .loop .core) (at-loop .loop .inv .1) _ (at-word .word .ensures) (at-if1 .if1 .taken) _ _ (referenceAt (args′ .work .now) (at-loop .loop .node) 1) _ (at-reference .reference .ensures) (at-own-name .own-name .ensures) refl (c .number-of .ensures)
-
-reference-requires-2 : tie.Need-reference-requires-2 Inv-loop μ-loop
-reference-requires-2 c κs =
-    search needs
 
 add-n : tie.Need-add-n Inv-loop μ-loop
 add-n c =
@@ -121,13 +101,13 @@ put-numbers-spec =
     Inv-loop
     μ-loop
     loop-holds
-    word-requires
-    reference-requires
-    own-name-requires
-    number-of-requires
+    (λ c κs. search needs)  -- word-requires
+    (λ c κs. search needs)  -- reference-requires
+    (λ c κs. search needs)  -- own-name-requires
+    (λ c κs. search needs)  -- number-of-requires
     mul-core
     slice-write-core
-    reference-requires-2
+    (λ c κs. search needs)  -- reference-requires-2
     add-n
     loop-less
     loop-again

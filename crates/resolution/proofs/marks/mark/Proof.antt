@@ -8,36 +8,29 @@ use lib.ListN.{length}
 use Rattle.arena.specs.Arena.{stepLimit}
 use Rattle.resolution.specs.HandLaws.{fits-within, fits-not, count-most, after-marked, after-unmarked}
 
--- src/marks.rt:51:9
 returns : tie.Need-returns
 returns c =
     let at-args = c .before .before in
     fits-within (at-args .args .marks .now) (at-args .args .start + stepLimit) (at-args .args .count) (omega (arith, (at-args .pre) .room)) (after-unmarked (at-args .args .marks .now) (at-args .args .start) (at-args .args .count) (at-args .args .m) (at-args .pre) (c .if1 .taken))
 
--- src/marks.rt:53:23
 add-if2 : tie.Need-add-if2
 add-if2 c = search needs
 
--- src/marks.rt:54:16
 add-result : tie.Need-add-result
 add-result c = search needs
 
--- src/marks.rt:54:9
 returns-2 : tie.Need-returns-2
 returns-2 c =
     let at-args = c .before .before .before in
     fits-not (at-args .args .marks .now) (at-args .args .start + stepLimit) (length (at-args .args .marks .now) + 1) (omega arith) (omega (arith, count-most (at-args .args .marks .now) (at-args .args .start) (at-args .args .count) (at-args .pre .descends)))
 
--- src/marks.rt:56:5
 toggle-requires : tie.Need-toggle-requires
 toggle-requires c κs = search needs
 
--- src/marks.rt:46:1
 same-length : tie.Need-same-length
 same-length c =
     c .before .before .toggle .kept .0
 
--- src/marks.rt:46:1
 returns-3 : tie.Need-returns-3
 returns-3 c =
     let at-toggle = c .before .before in

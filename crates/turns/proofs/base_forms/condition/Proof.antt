@@ -5,32 +5,26 @@ use Rattle.turns.proofs.base_forms.condition.Tie as tie
 use mathlib.Core.Path.{refl, sym, _∙_}
 use borrow.Author.Tests.{not-true, not-false}
 
--- src/base_forms.rt:52:9
 is-list-of-requires : tie.Need-is-list-of-requires
 is-list-of-requires c κs =
     search needs
 
--- src/base_forms.rt:53:27
 refuse-requires : tie.Need-refuse-requires
 refuse-requires c κs =
     search needs
 
--- src/base_forms.rt:53:9
 returns : tie.Need-returns
 returns c =
     ((λ u. sym (c .before .before .is-list-of .ensures u) ∙ not-true _ (c .before .if1 .taken)), c .refuse .ensures)
 
--- src/base_forms.rt:58:18
 put-if-requires : tie.Need-put-if-requires
 put-if-requires c κs =
     search needs
 
--- src/base_forms.rt:41:1
 same-length : tie.Need-same-length
 same-length c =
     search needs
 
--- src/base_forms.rt:41:1
 returns-2 : tie.Need-returns-2
 returns-2 c =
     (refl, refl, (λ u. sym (c .before .before .before .before .before .is-list-of .ensures u) ∙ not-false _ (c .before .before .before .before .if1 .left)), c .before .before .put-if .ensures)

@@ -14,26 +14,10 @@ use native.Mathlib.Omega.{arith}
 use mathlib.Core.Path.{_∙_}
 use Rattle.turns.specs.LambdaLaws.{lambda-proper, lambda-space, lambda-core, lambda-few, numbers-room, numbers-small, bound-by}
 
-element-requires : tie.Need-element-requires
-element-requires c κs =
-    search needs
-
-count-requires : tie.Need-count-requires
-count-requires c κs =
-    search needs
-
-element-requires-2 : tie.Need-element-requires-2
-element-requires-2 c κs =
-    search needs
-
 put-three-requires : tie.Need-put-three-requires
 put-three-requires c κs =
     let at-args = c .before .before .before .before .before .before .before .before .before in
     lambda-core (at-args .args .work .now) (at-args .args .core .now) (at-args .args .node) (at-args .args .wrap) (at-args .args .reached) (at-args .pre .0) (at-args .pre .1)
-
-cast-put-numbers : tie.Need-cast-put-numbers
-cast-put-numbers c =
-    search needs
 
 put-numbers-requires : tie.Need-put-numbers-requires
 put-numbers-requires c κs =
@@ -88,11 +72,11 @@ pub lambda-body-spec : {M : Type 1} → statement M
 lambda-body-spec =
     tie.close
     (tie.spec
-    element-requires
-    count-requires
-    element-requires-2
+    (λ c κs. search needs)  -- element-requires
+    (λ c κs. search needs)  -- count-requires
+    (λ c κs. search needs)  -- element-requires-2
     put-three-requires
-    cast-put-numbers
+    (λ c. search needs)  -- cast-put-numbers
     put-numbers-requires
     bind-formals-requires
     cast-widened

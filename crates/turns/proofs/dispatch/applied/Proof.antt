@@ -5,22 +5,18 @@ use Rattle.turns.proofs.dispatch.applied.Tie as tie
 use Rattle.words.specs.Limits.{macrosMost}
 use Rattle.turns.specs.DispatchLaws.{applied-turned}
 
--- src/dispatch.rt:104:9
 count-requires : tie.Need-count-requires
 count-requires c κs =
     search needs
 
--- src/dispatch.rt:108:18
 put-node-requires : tie.Need-put-node-requires
 put-node-requires c κs =
     search needs
 
--- src/dispatch.rt:93:1
 same-length : tie.Need-same-length
 same-length c =
     search needs
 
--- src/dispatch.rt:93:1
 returns : tie.Need-returns
 returns c =
     let at-put-node = c .before .before in

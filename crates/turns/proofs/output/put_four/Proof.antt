@@ -5,22 +5,18 @@ use Rattle.turns.proofs.output.put_four.Tie as tie
 use native.Mathlib.Omega.{arith}
 use Rattle.turns.specs.MemoryLaws.{put-after}
 
--- src/output.rt:34:9
 put-two-requires : tie.Need-put-two-requires
 put-two-requires c κs =
     search needs
 
--- src/output.rt:35:5
 put-two-requires-2 : tie.Need-put-two-requires-2
 put-two-requires-2 c κs =
     search needs
 
--- src/output.rt:30:1
 same-length : tie.Need-same-length
 same-length c =
     search needs
 
--- src/output.rt:30:1
 returns : tie.Need-returns
 returns c =
     let at-put-two2 = c .before .before in

@@ -5,22 +5,18 @@ use Rattle.turns.proofs.output.put_three.Tie as tie
 use native.Mathlib.Omega.{arith}
 use Rattle.turns.specs.MemoryLaws.{put-after}
 
--- src/output.rt:26:9
 put-word-requires : tie.Need-put-word-requires
 put-word-requires c κs =
     search needs
 
--- src/output.rt:27:5
 put-two-requires : tie.Need-put-two-requires
 put-two-requires c κs =
     search needs
 
--- src/output.rt:22:1
 same-length : tie.Need-same-length
 same-length c =
     search needs
 
--- src/output.rt:22:1
 returns : tie.Need-returns
 returns c =
     let at-put-two = c .before .before in

@@ -5,22 +5,18 @@ use Rattle.turns.proofs.output.put_two.Tie as tie
 use native.Mathlib.Omega.{arith}
 use Rattle.turns.specs.MemoryLaws.{put-after}
 
--- src/output.rt:18:9
 put-word-requires : tie.Need-put-word-requires
 put-word-requires c κs =
     search needs
 
--- src/output.rt:19:5
 put-word-requires-2 : tie.Need-put-word-requires-2
 put-word-requires-2 c κs =
     search needs
 
--- src/output.rt:14:1
 same-length : tie.Need-same-length
 same-length c =
     search needs
 
--- src/output.rt:14:1
 returns : tie.Need-returns
 returns c =
     let at-put-word2 = c .before .before in

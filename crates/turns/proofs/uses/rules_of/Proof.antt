@@ -4,22 +4,18 @@ use Rattle.turns.proofs.uses.rules_of.Statement.{statement}
 use Rattle.turns.proofs.uses.rules_of.Tie as tie
 use Rattle.turns.specs.UseLaws.{rules-known, rules-unknown}
 
--- src/uses.rt:23:16
 mul-result : tie.Need-mul-result
 mul-result c =
     search needs
 
--- src/uses.rt:23:16
 shared-slice-read-result : tie.Need-shared-slice-read-result
 shared-slice-read-result c =
     search needs
 
--- src/uses.rt:23:9
 returns : tie.Need-returns
 returns c =
     rules-known (c .before .before .args .macros .now) (c .before .before .args .count) (c .before .before .args .n) (c .before .if1 .taken)
 
--- src/uses.rt:18:1
 returns-2 : tie.Need-returns-2
 returns-2 c =
     rules-unknown (c .before .args .macros .now) (c .before .args .count) (c .before .args .n) (c .if1 .left)
