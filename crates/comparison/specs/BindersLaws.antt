@@ -91,11 +91,11 @@ none-place n ((x, w) ∷ s) e =
 -- ---- all references
 
 module _ (theirs ours : ℕ → List ℕ) (operations : List (List ℕ)) where
-  abbrev Numbers : K.Scope → ℕ → Plain → Type 0
+  abbrev pub Numbers : K.Scope → ℕ → Plain → Type 0
   Numbers e b t = every (asked firstNumber) e b t ≡ true
 
   -- a lambda's body, whose first number is the count of variables before it
-  lambda-part : (e : K.Scope) (b v : ℕ) (fs : List ℕ) (a : Plain) → Numbers e b (lambdaC v fs a)
+  pub lambda-part : (e : K.Scope) (b v : ℕ) (fs : List ℕ) (a : Plain) → Numbers e b (lambdaC v fs a)
       → (v ≡ b) × Numbers (K.inside e b (lambdaN v fs)) (b + length fs) a
   unfolding every asked firstNumber
   lambda-part e b v fs a h = (eqb-true v b (and-left (eqb v b) _ h), and-right (eqb v b) _ h)

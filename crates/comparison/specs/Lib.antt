@@ -20,3 +20,8 @@ pub mod Said
 pub mod ClosedLaws
 pub mod Yes
 pub mod Call
+pub mod Exactly
+pub mod ExactlyLaws
+pub mod OwnLaws
+pub mod CallExactly
+pub mod ExactlyRows

@@ -37,7 +37,7 @@ numbers-length v (suc k) = ap suc (numbers-length (suc v) k)
 
 module _ (c : Choice) where
   -- the scope of variables, by the names that they have
-  abbrev scope : List ℕ → Scope
+  abbrev pub scope : List ℕ → Scope
   scope round = map (λ v. (c .called v, v)) round
 
   seen-meant : {v : ℕ} {round : List ℕ} → Seen c v round → meant (c .called v) (scope round) ≡ some v
@@ -50,7 +50,7 @@ module _ (c : Choice) where
   free-meant n noneOf = refl
   free-meant n (also {x = w} f p) = rw (ne-eqb n (c .called w) f) (free-meant n p)
 
-  bind-scope : (v k : ℕ) (round : List ℕ) → bind (map (c .called) (numbers v k)) v (scope round) ≡ scope (inside (numbers v k) round)
+  pub bind-scope : (v k : ℕ) (round : List ℕ) → bind (map (c .called) (numbers v k)) v (scope round) ≡ scope (inside (numbers v k) round)
   unfolding bind inside numbers
   bind-scope v zero round = refl
   bind-scope v (suc k) round = bind-scope (suc v) k (v ∷ round)
