@@ -18,6 +18,8 @@ ghost use Rattle.writer.specs.OpenedLaws.{Naming};
 use crate::bytes::FULL;
 use crate::bytes::byte;
 use crate::bytes::copy;
+use crate::names::Bound;
+use crate::names::Pen;
 use crate::names::formals;
 use crate::names::name;
 use crate::names::variable;
@@ -48,27 +50,25 @@ fn name_opening(n: usize, names: &[u8], out: &mut [u8], at: usize, inner: bool, 
 
 // (lambda (v0.t v1.u) and a space
 fn lambda_opening(
-    first: usize,
-    count: usize,
+    bound: Bound,
     names: &[u8],
     out: &mut [u8],
     at: usize,
-    ink: bool,
     called: &[u32],
-    direct: bool,
+    pen: Pen,
 ) -> usize
-    requires { ⌜ (at ≤ length (now out)) × (first + count < 18446744073709551616) × (Naming (saidBy (now names) direct (now called)) (first + count)) × (Tells direct (now called)) ⌝ }
-    ensures { λ r. ⌜ Left ink (bytes "(lambda (" ++ (formalsText (saidBy (now (names .entry)) direct (now (called .entry))) false first count ++ bytes ") ")) at (now (out .entry)) (now (out .exit)) (putOf r) ⌝ }
+    requires { ⌜ (at ≤ length (now out)) × (bound .first + bound .count < 18446744073709551616) × (Naming (saidBy (now names) (pen .direct) (now called)) (bound .first + bound .count)) × (Tells (pen .direct) (now called)) ⌝ }
+    ensures { λ r. ⌜ Left (pen .ink) (bytes "(lambda (" ++ (formalsText (saidBy (now (names .entry)) (pen .direct) (now (called .entry))) false (bound .first) (bound .count) ++ bytes ") ")) at (now (out .entry)) (now (out .exit)) (putOf r) ⌝ }
 {
-    let a = copy(b"(lambda (", out, at, ink);
+    let a = copy(b"(lambda (", out, at, pen.ink);
     if a == FULL {
         return FULL;
     }
-    let b = formals(false, first, count, names, out, a, ink, called, direct);
+    let b = formals(false, bound, names, out, a, called, pen);
     if b == FULL {
         return FULL;
     }
-    copy(b") ", out, b, ink)
+    copy(b") ", out, b, pen.ink)
 }
 
 fn boolean(w: u32, out: &mut [u8], at: usize, ink: bool) -> usize
@@ -109,35 +109,29 @@ pub fn begin(
     out: &mut [u8],
     at: usize,
     inner: bool,
-    ink: bool,
     called: &[u32],
-    direct: bool,
+    pen: Pen,
 ) -> usize
-    requires { ⌜ (at ≤ length (now out)) × Opened (saidBy (now names) direct (now called)) node × (Tells direct (now called)) ⌝ }
-    ensures { λ r. ⌜ ((x : N.Node) → Stands node x → Left ink (opening (saidBy (now (names .entry)) direct (now (called .entry))) inner x) at (now (out .entry)) (now (out .exit)) (putOf r)) ⌝ }
+    requires { ⌜ (at ≤ length (now out)) × Opened (saidBy (now names) (pen .direct) (now called)) node × (Tells (pen .direct) (now called)) ⌝ }
+    ensures { λ r. ⌜ ((x : N.Node) → Stands node x → Left (pen .ink) (opening (saidBy (now (names .entry)) (pen .direct) (now (called .entry))) inner x) at (now (out .entry)) (now (out .exit)) (putOf r)) ⌝ }
 {
     match node {
-        Node::Variable(n) => variable(wide(n), names, out, at, ink, called, direct),
-        Node::Operation(n) => numbered(b'o', wide(n), out, at, ink),
-        Node::Integer(w) => integer(w, out, at, ink),
-        Node::Boolean(w) => boolean(w, out, at, ink),
-        Node::Decimal(w, places) => decimal(w, places, out, at, ink),
-        Node::Name(n) => name_opening(wide(n), names, out, at, inner, ink),
-        Node::List(_) => list_opening(out, at, inner, ink),
-        Node::If => copy(b"(if ", out, at, ink),
+        Node::Variable(n) => variable(wide(n), names, out, at, pen.ink, called, pen.direct),
+        Node::Operation(n) => numbered(b'o', wide(n), out, at, pen.ink),
+        Node::Integer(w) => integer(w, out, at, pen.ink),
+        Node::Boolean(w) => boolean(w, out, at, pen.ink),
+        Node::Decimal(w, places) => decimal(w, places, out, at, pen.ink),
+        Node::Name(n) => name_opening(wide(n), names, out, at, inner, pen.ink),
+        Node::List(_) => list_opening(out, at, inner, pen.ink),
+        Node::If => copy(b"(if ", out, at, pen.ink),
         Node::Lambda(first, count) => {
-            lambda_opening(
-                wide(first),
-                wide(count),
-                names,
-                out,
-                at,
-                ink,
-                called,
-                direct,
-            )
+            let bound = Bound {
+                first: wide(first),
+                count: wide(count),
+            };
+            lambda_opening(bound, names, out, at, called, pen)
         }
-        Node::Application(_) => byte(b'(', out, at, ink),
+        Node::Application(_) => byte(b'(', out, at, pen.ink),
         Node::None => at,
     }
 }

@@ -13,6 +13,7 @@ ghost use Rattle.writer.specs.Pieces.{closing, textIn, rowText};
 ghost use Rattle.writer.specs.Opened.{Stands};
 ghost use Rattle.writer.specs.Walk.{Fits, Begins, Walked};
 use crate::bytes::FULL;
+use crate::names::Pen;
 use crate::numbers::gap;
 use crate::pieces::begin;
 use crate::pieces::finish;
@@ -46,26 +47,25 @@ pub fn term(
     out: &mut [u8],
     at: usize,
     inner: bool,
-    ink: bool,
     called: &[u32],
-    direct: bool,
+    pen: Pen,
 ) -> Step
-    requires { ⌜ (at ≤ length (now out)) × Begins (saidBy (now names) direct (now called)) inner (now words) × (Tells direct (now called)) ⌝ }
-    ensures { λ r. ⌜ ((t : Plain) (left : List ℕ) → Fits (saidBy (now (names .entry)) direct (now (called .entry))) inner t → now (words .entry) ≡ encode t ++ left → Walked ink (textIn (saidBy (now (names .entry)) direct (now (called .entry))) inner t) (length (encode t)) at (now (out .entry)) (now (out .exit)) r) ⌝ }
+    requires { ⌜ (at ≤ length (now out)) × Begins (saidBy (now names) (pen .direct) (now called)) inner (now words) × (Tells (pen .direct) (now called)) ⌝ }
+    ensures { λ r. ⌜ ((t : Plain) (left : List ℕ) → Fits (saidBy (now (names .entry)) (pen .direct) (now (called .entry))) inner t → now (words .entry) ≡ encode t ++ left → Walked (pen .ink) (textIn (saidBy (now (names .entry)) (pen .direct) (now (called .entry))) inner t) (length (encode t)) at (now (out .entry)) (now (out .exit)) r) ⌝ }
 {
     let node = opened(words);
-    let begun = begin(node, names, out, at, inner, ink, called, direct);
+    let begun = begin(node, names, out, at, inner, called, pen);
     if begun == FULL {
         return Step::Full;
     }
     let shape = shape_of(node);
     if shape.parts == 0 {
-        return close(node, shape.own, out, begun, inner, ink);
+        return close(node, shape.own, out, begun, inner, pen.ink);
     }
-    let Step::Done(used, to) = parts(words, shape, names, out, begun, ink, called, direct) else {
+    let Step::Done(used, to) = parts(words, shape, names, out, begun, called, pen) else {
         return Step::Full;
     };
-    close(node, used, out, to, inner, ink)
+    close(node, used, out, to, inner, pen.ink)
 }
 
 // The parts of a node of that shape, with spaces between.
@@ -75,12 +75,11 @@ fn parts(
     names: &[u8],
     out: &mut [u8],
     at: usize,
-    ink: bool,
     called: &[u32],
-    direct: bool,
+    pen: Pen,
 ) -> Step
-    requires { ⌜ (at ≤ length (now out)) × Begins (saidBy (now names) direct (now called)) false (now words) × (ShapedAt (now words) shape) × (Tells direct (now called)) ⌝ }
-    ensures { λ r. ⌜ ((t : Plain) (left : List ℕ) → Fits (saidBy (now (names .entry)) direct (now (called .entry))) false t → now (words .entry) ≡ encode t ++ left → Walked ink (rowText (saidBy (now (names .entry)) direct (now (called .entry))) t) (length (encode t)) at (now (out .entry)) (now (out .exit)) r) ⌝ }
+    requires { ⌜ (at ≤ length (now out)) × Begins (saidBy (now names) (pen .direct) (now called)) false (now words) × (ShapedAt (now words) shape) × (Tells (pen .direct) (now called)) ⌝ }
+    ensures { λ r. ⌜ ((t : Plain) (left : List ℕ) → Fits (saidBy (now (names .entry)) (pen .direct) (now (called .entry))) false t → now (words .entry) ≡ encode t ++ left → Walked (pen .ink) (rowText (saidBy (now (names .entry)) (pen .direct) (now (called .entry))) t) (length (encode t)) at (now (out .entry)) (now (out .exit)) r) ⌝ }
 {
     let quoted = shape.quoted;
     let mut from = shape.own;
@@ -88,20 +87,12 @@ fn parts(
     let mut wanted = false;
     let mut to = at;
     while left > 0 {
-        let start = gap(wanted, out, to, ink);
+        let start = gap(wanted, out, to, pen.ink);
         if start == FULL {
             return Step::Full;
         }
-        let Step::Done(used, behind) = term(
-            &words[from..],
-            names,
-            out,
-            start,
-            quoted,
-            ink,
-            called,
-            direct,
-        ) else {
+        let Step::Done(used, behind) = term(&words[from..], names, out, start, quoted, called, pen)
+        else {
             return Step::Full;
         };
         from = from + used;

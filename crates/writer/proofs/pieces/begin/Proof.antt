@@ -33,7 +33,7 @@ variable-requires c κs =
     let at-wide = c .before in
     let at-node = at-wide .before .before in
     let at-args = at-node .before .before .before .before .before in
-    (at-args .pre .0, subst (λ (n : ℕ). Naming (saidBy (at-args .args .names .now) (at-args .args .direct) (at-args .args .called .now)) (suc n)) (sym (at-wide .wide .ensures)) (variable-named _ _ (at-args .pre .1 .stands) _ (at-args .pre .1 .fits) _ (at-node .node .given .1)), at-args .pre .2)
+    (at-args .pre .0, subst (λ (n : ℕ). Naming (saidBy (at-args .args .names .now) (at-args .args .pen .direct) (at-args .args .called .now)) (suc n)) (sym (at-wide .wide .ensures)) (variable-named _ _ (at-args .pre .1 .stands) _ (at-args .pre .1 .fits) _ (at-node .node .given .1)), at-args .pre .2)
 
 decimal-requires : tie.Need-decimal-requires
 decimal-requires c κs =
@@ -46,7 +46,7 @@ name-opening-requires c κs =
     let at-wide3 = c .before in
     let at-node6 = at-wide3 .before .before in
     let at-args = at-node6 .before .before .before .before .before in
-    (at-args .pre .0, ap (hasName (at-args .args .names .now)) (at-wide3 .wide3 .ensures) ∙ name-spelled _ _ (at-args .pre .1 .stands) (saidBy (at-args .args .names .now) (at-args .args .direct) (at-args .args .called .now)) (at-args .pre .1 .fits) _ (at-node6 .node6 .given .1))
+    (at-args .pre .0, ap (hasName (at-args .args .names .now)) (at-wide3 .wide3 .ensures) ∙ name-spelled _ _ (at-args .pre .1 .stands) (saidBy (at-args .args .names .now) (at-args .args .pen .direct) (at-args .args .called .now)) (at-args .pre .1 .fits) _ (at-node6 .node6 .given .1))
 
 lambda-opening-requires : tie.Need-lambda-opening-requires
 lambda-opening-requires c κs =
@@ -55,7 +55,7 @@ lambda-opening-requires c κs =
     let at-known-told7 = at-wide4 .before in
     let at-node7 = at-known-told7 .before in
     let at-args = at-node7 .before .before .before .before .before in
-    let k = lambda-named _ _ (at-args .pre .1 .stands) (saidBy (at-args .args .names .now) (at-args .args .direct) (at-args .args .called .now)) (at-args .pre .1 .fits) _ _ (at-node7 .node7 .given .1) in (at-args .pre .0, omega (arith, at-wide4 .wide4 .ensures, at-wide5 .wide5 .ensures, at-known-told7 .known-told7 .given), record { many = omega (arith, k .many, at-wide4 .wide4 .ensures, at-wide5 .wide5 .ensures); slots = k .slots }, at-args .pre .2)
+    let k = lambda-named _ _ (at-args .pre .1 .stands) (saidBy (at-args .args .names .now) (at-args .args .pen .direct) (at-args .args .called .now)) (at-args .pre .1 .fits) _ _ (at-node7 .node7 .given .1) in (at-args .pre .0, omega (arith, at-wide4 .wide4 .ensures, at-wide5 .wide5 .ensures, at-known-told7 .known-told7 .given), record { many = omega (arith, k .many, at-wide4 .wide4 .ensures, at-wide5 .wide5 .ensures); slots = k .slots }, at-args .pre .2)
 
 returns : tie.Need-returns
 returns c =
@@ -63,7 +63,7 @@ returns c =
     let at-wide = at-variable .before .before in
     let at-node = at-wide .before .before in
     let args′ = at-node .before .before .before .before .before .args in
-    λ x s. left-is (ap (variableText (nameAt (args′ .names .now)) (calledBy (args′ .direct) (args′ .called .now))) (at-wide .wide .ensures) ∙ opens-variable _ x s (saidBy (args′ .names .now) (args′ .direct) (args′ .called .now)) _ _ (at-node .node .given .1)) (at-variable .variable .ensures)
+    λ x s. left-is (ap (variableText (nameAt (args′ .names .now)) (calledBy (args′ .pen .direct) (args′ .called .now))) (at-wide .wide .ensures) ∙ opens-variable _ x s (saidBy (args′ .names .now) (args′ .pen .direct) (args′ .called .now)) _ _ (at-node .node .given .1)) (at-variable .variable .ensures)
 
 returns-2 : tie.Need-returns-2
 returns-2 c =
@@ -89,7 +89,7 @@ returns-6 c =
     let at-wide3 = at-name-opening .before .before in
     let at-node6 = at-wide3 .before .before in
     let args′ = at-node6 .before .before .before .before .before .args in
-    λ x s. left-is (ap (λ (n : ℕ). opening (saidBy (args′ .names .now) (args′ .direct) (args′ .called .now)) (args′ .inner) (nameN n)) (at-wide3 .wide3 .ensures) ∙ opens-name _ x s (saidBy (args′ .names .now) (args′ .direct) (args′ .called .now)) _ _ (at-node6 .node6 .given .1)) (at-name-opening .name-opening .ensures (calledBy (args′ .direct) (args′ .called .now)))
+    λ x s. left-is (ap (λ (n : ℕ). opening (saidBy (args′ .names .now) (args′ .pen .direct) (args′ .called .now)) (args′ .inner) (nameN n)) (at-wide3 .wide3 .ensures) ∙ opens-name _ x s (saidBy (args′ .names .now) (args′ .pen .direct) (args′ .called .now)) _ _ (at-node6 .node6 .given .1)) (at-name-opening .name-opening .ensures (calledBy (args′ .pen .direct) (args′ .called .now)))
 
 returns-7 : tie.Need-returns-7
 returns-7 c =

@@ -53,11 +53,11 @@ abbrev T : ℕ → term-lts.Claims
 T t = (opened-reads.Asked, opened-reads.Learnt, begin-reads.Asked, begin-reads.Learnt, shape-of-reads.Asked, shape-of-reads.Learnt, close-reads.Asked, close-reads.Learnt, parts-below t, parts.Post)
 
 abbrev parts-Inv-loop : parts-lts.InvT-loop
-parts-Inv-loop words names out₀ at ink called direct quoted from₀ left₀ wanted₀ to₀ out from left wanted to =
-    Going (saidBy names direct called) ink quoted words at out₀ from left to wanted out
+parts-Inv-loop words names out₀ at called pen quoted from₀ left₀ wanted₀ to₀ out from left wanted to =
+    Going (saidBy names (pen .direct) called) (pen .ink) quoted words at out₀ from left to wanted out
 
 abbrev parts-μ-loop : parts-lts.MeasureT-loop
-parts-μ-loop words names out₀ at ink called direct quoted from₀ left₀ wanted₀ to₀ out from left wanted to =
+parts-μ-loop words names out₀ at called pen quoted from₀ left₀ wanted₀ to₀ out from left wanted to =
     left
 
 parts-loop-holds : (t : ℕ) → parts-lts.Need-loop-holds (P t) (parts-at t) parts.Post parts-Inv-loop parts-μ-loop
@@ -78,7 +78,7 @@ parts-returns t c =
     let at-gap = c .before .before .before in
     let at-loop = at-gap .before .before .before in
     let args′ = at-loop .before .before .before .before .before .args in
-    (for-any _ (rowText (saidBy (args′ .names .now) (args′ .direct) (args′ .called .now))) _ _ (args′ .words .now) (at-loop .loop .inv .whole) _ _ _ _ (row-stops _ _ _ (args′ .words .now) _ _ _ _ _ _ _ (at-loop .loop .inv) _ (gap-full _ _ _ (args′ .words .now) _ _ _ _ _ _ _ (at-loop .loop .inv) (omega arith) _ _ (at-gap .gap .ensures) (put-full _ (c .if1 .taken)))))
+    (for-any _ (rowText (saidBy (args′ .names .now) (args′ .pen .direct) (args′ .called .now))) _ _ (args′ .words .now) (at-loop .loop .inv .whole) _ _ _ _ (row-stops _ _ _ (args′ .words .now) _ _ _ _ _ _ _ (at-loop .loop .inv) _ (gap-full _ _ _ (args′ .words .now) _ _ _ _ _ _ _ (at-loop .loop .inv) (omega arith) _ _ (at-gap .gap .ensures) (put-full _ (c .if1 .taken)))))
 
 parts-mul-term : (t : ℕ) → parts-lts.Need-mul-term (P t) (parts-at t) parts.Post parts-Inv-loop parts-μ-loop
 parts-mul-term t c =
@@ -117,7 +117,7 @@ parts-returns-2 t c =
     let at-gap = at-if1 .before .before .before in
     let at-loop = at-gap .before .before .before in
     let args′ = at-loop .before .before .before .before .before .args in
-    (for-any _ (rowText (saidBy (args′ .names .now) (args′ .direct) (args′ .called .now))) _ _ (args′ .words .now) (at-loop .loop .inv .whole) _ _ _ _ (row-stops _ _ _ (args′ .words .now) _ _ _ _ _ _ _ (at-loop .loop .inv) _ (part-full _ _ _ (args′ .words .now) _ _ _ _ _ _ _ (at-loop .loop .inv) (omega arith) _ _ (at-gap .gap .ensures) _ (put-done _ (at-if1 .if1 .left)) _ _ (at-term .term .ensures) (c .enum-told .given .1))))
+    (for-any _ (rowText (saidBy (args′ .names .now) (args′ .pen .direct) (args′ .called .now))) _ _ (args′ .words .now) (at-loop .loop .inv .whole) _ _ _ _ (row-stops _ _ _ (args′ .words .now) _ _ _ _ _ _ _ (at-loop .loop .inv) _ (part-full _ _ _ (args′ .words .now) _ _ _ _ _ _ _ (at-loop .loop .inv) (omega arith) _ _ (at-gap .gap .ensures) _ (put-done _ (at-if1 .if1 .left)) _ _ (at-term .term .ensures) (c .enum-told .given .1))))
 
 parts-add-from : (t : ℕ) → parts-lts.Need-add-from (P t) (parts-at t) parts.Post parts-Inv-loop parts-μ-loop
 parts-add-from t c =
@@ -146,7 +146,7 @@ parts-returns-3 : (t : ℕ) → parts-lts.Need-returns-3 (P t) (parts-at t) part
 parts-returns-3 t c =
     let at-loop = c .before in
     let args′ = at-loop .before .before .before .before .before .args in
-    (for-any _ (rowText (saidBy (args′ .names .now) (args′ .direct) (args′ .called .now))) _ _ (args′ .words .now) (at-loop .loop .inv .whole) _ _ _ _ (row-walked _ _ _ (args′ .words .now) _ _ _ _ _ _ _ (at-loop .loop .inv) (omega arith)))
+    (for-any _ (rowText (saidBy (args′ .names .now) (args′ .pen .direct) (args′ .called .now))) _ _ (args′ .words .now) (at-loop .loop .inv .whole) _ _ _ _ (row-walked _ _ _ (args′ .words .now) _ _ _ _ _ _ _ (at-loop .loop .inv) (omega arith)))
 
 term-begin-requires : (t : ℕ) → term-lts.Need-begin-requires (T t) (term-at t) term.Post
 term-begin-requires t c κs =
@@ -163,7 +163,7 @@ term-returns t c =
     let at-begin = c .before .before .before in
     let at-opened = at-begin .before .before in
     let at-args = at-opened .before .before .before .before .before in
-    let b = at-args .pre .1 .1 in let o = at-opened .opened .ensures in let x = begins-stands _ _ (at-args .args .words .now) b _ o in let l = at-begin .begin .ensures _ x in for-any _ (textIn (saidBy (at-args .args .names .now) (at-args .args .direct) (at-args .args .called .now)) (at-args .args .inner)) _ _ (at-args .args .words .now) b _ _ _ _ (open-stops _ _ _ (at-args .args .words .now) b _ _ _ _ l (put-full _ (c .if1 .taken)))
+    let b = at-args .pre .1 .1 in let o = at-opened .opened .ensures in let x = begins-stands _ _ (at-args .args .words .now) b _ o in let l = at-begin .begin .ensures _ x in for-any _ (textIn (saidBy (at-args .args .names .now) (at-args .args .pen .direct) (at-args .args .called .now)) (at-args .args .inner)) _ _ (at-args .args .words .now) b _ _ _ _ (open-stops _ _ _ (at-args .args .words .now) b _ _ _ _ l (put-full _ (c .if1 .taken)))
 
 term-close-requires : (t : ℕ) → term-lts.Need-close-requires (T t) (term-at t) term.Post
 term-close-requires t c κs =
@@ -187,7 +187,7 @@ term-returns-2 t c =
     let at-begin = at-if1 .before .before .before in
     let at-opened = at-begin .before .before in
     let at-args = at-opened .before .before .before .before .before in
-    let b = at-args .pre .1 .1 in let o = at-opened .opened .ensures in let x = begins-stands _ _ (at-args .args .words .now) b _ o in let l = at-begin .begin .ensures _ x in for-any _ (textIn (saidBy (at-args .args .names .now) (at-args .args .direct) (at-args .args .called .now)) (at-args .args .inner)) _ _ (at-args .args .words .now) b _ _ _ _ (alone-walked _ _ _ (at-args .args .words .now) b _ _ _ _ l _ (put-done _ (at-if1 .if1 .left)) (at-shape-of .shape-of .result) (begins-shaped _ _ (at-args .args .words .now) b _ o _ (at-shape-of .shape-of .ensures)) (at-if2 .if2 .taken) (place-room l (at-if1 .if1 .left)) _ _ (at-close .close .ensures _ x))
+    let b = at-args .pre .1 .1 in let o = at-opened .opened .ensures in let x = begins-stands _ _ (at-args .args .words .now) b _ o in let l = at-begin .begin .ensures _ x in for-any _ (textIn (saidBy (at-args .args .names .now) (at-args .args .pen .direct) (at-args .args .called .now)) (at-args .args .inner)) _ _ (at-args .args .words .now) b _ _ _ _ (alone-walked _ _ _ (at-args .args .words .now) b _ _ _ _ l _ (put-done _ (at-if1 .if1 .left)) (at-shape-of .shape-of .result) (begins-shaped _ _ (at-args .args .words .now) b _ o _ (at-shape-of .shape-of .ensures)) (at-if2 .if2 .taken) (place-room l (at-if1 .if1 .left)) _ _ (at-close .close .ensures _ x))
 
 term-parts-requires : (t : ℕ) → term-lts.Need-parts-requires (T t) (term-at t) term.Post
 term-parts-requires t c κs =
@@ -210,7 +210,7 @@ term-returns-3 t c =
     let at-begin = at-if1 .before .before .before in
     let at-opened = at-begin .before .before in
     let at-args = at-opened .before .before .before .before .before in
-    let b = at-args .pre .1 .1 in let o = at-opened .opened .ensures in let x = begins-stands _ _ (at-args .args .words .now) b _ o in let l = at-begin .begin .ensures _ x in for-any _ (textIn (saidBy (at-args .args .names .now) (at-args .args .direct) (at-args .args .called .now)) (at-args .args .inner)) _ _ (at-args .args .words .now) b _ _ _ _ (parts-stop _ _ _ (at-args .args .words .now) b _ _ _ _ l _ (put-done _ (at-if1 .if1 .left)) _ _ (at-parts .parts .ensures) (c .enum-told .given .1))
+    let b = at-args .pre .1 .1 in let o = at-opened .opened .ensures in let x = begins-stands _ _ (at-args .args .words .now) b _ o in let l = at-begin .begin .ensures _ x in for-any _ (textIn (saidBy (at-args .args .names .now) (at-args .args .pen .direct) (at-args .args .called .now)) (at-args .args .inner)) _ _ (at-args .args .words .now) b _ _ _ _ (parts-stop _ _ _ (at-args .args .words .now) b _ _ _ _ l _ (put-done _ (at-if1 .if1 .left)) _ _ (at-parts .parts .ensures) (c .enum-told .given .1))
 
 term-close-requires-2 : (t : ℕ) → term-lts.Need-close-requires-2 (T t) (term-at t) term.Post
 term-close-requires-2 t c κs =
@@ -237,7 +237,7 @@ term-returns-4 t c =
     let at-begin = at-if1 .before .before .before in
     let at-opened = at-begin .before .before in
     let at-args = at-opened .before .before .before .before .before in
-    let b = at-args .pre .1 .1 in let o = at-opened .opened .ensures in let x = begins-stands _ _ (at-args .args .words .now) b _ o in let l = at-begin .begin .ensures _ x in for-any _ (textIn (saidBy (at-args .args .names .now) (at-args .args .direct) (at-args .args .called .now)) (at-args .args .inner)) _ _ (at-args .args .words .now) b _ _ _ _ (all-walked _ _ _ (at-args .args .words .now) b _ _ _ _ l _ (put-done _ (at-if1 .if1 .left)) _ _ (at-parts .parts .ensures) _ _ (at-used .used .given .1) _ _ (at-close2 .close2 .ensures _ x))
+    let b = at-args .pre .1 .1 in let o = at-opened .opened .ensures in let x = begins-stands _ _ (at-args .args .words .now) b _ o in let l = at-begin .begin .ensures _ x in for-any _ (textIn (saidBy (at-args .args .names .now) (at-args .args .pen .direct) (at-args .args .called .now)) (at-args .args .inner)) _ _ (at-args .args .words .now) b _ _ _ _ (all-walked _ _ _ (at-args .args .words .now) b _ _ _ _ l _ (put-done _ (at-if1 .if1 .left)) _ _ (at-parts .parts .ensures) _ _ (at-used .used .given .1) _ _ (at-close2 .close2 .ensures _ x))
 
 pub +parts+term-spec : {M : Type 1} → statement M
 +parts+term-spec = close μ-parts μ-term (λ t. parts-lts.spec (P t)
