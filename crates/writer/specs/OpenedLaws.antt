@@ -1,32 +1,31 @@
--- A node by its code, with the words that stand with it.
-use mathlib.Core.Path.{_≡_, refl, sym, ap, subst, _∙_}
-use mathlib.Core.Bool.{Bool, true, false, cond, false≢true}
+-- A node that was opened: what it is, what opens it and what closes it.
+use mathlib.Core.Path.{_≡_, sym, ap, subst, _∙_}
+use mathlib.Core.Bool.{Bool, true, false}
 use mathlib.Core.List.{List, [], _∷_, _++_}
-use Prim.Native.Nat.{ℕ, zero, suc, _+_, _-_, _*_, _≤_, _<_}
+use Prim.Native.Nat.{ℕ, suc, _+_, _-_, _*_, _≤_, _<_}
 use native.Mathlib.Omega.{arith}
 use native.Mathlib.Numerals.{add-one}
 use lib.Dec.{leb, ltb}
-use lib.ListN.{length, getD, take, drop, length-drop}
+use lib.ListN.{length, getD, take, drop, length-drop, length-append}
 use lib.Seq.{length-take-le}
-use borrow.Author.Tests.{leb-true, ltb-true, ne-eqb}
+use borrow.Author.Tests.{leb-true, ltb-true}
 use Rattle.words.specs.Lists.{within}
 use Rattle.words.specs.TestLaws.{within-parts}
 use Rattle.datum.specs.NameTable.{lengthAt, nameAt, hasName}
 use Rattle.datum.specs.Constant.{isConstant, constantWords, integer, boolean}
 use Rattle.datum.specs.Constant as K
-use Rattle.datum.specs.ConstantLaws.{constant-case}
-use Rattle.core_term.specs.Node.{variableCode, operationCode, integerCode, booleanCode, nameCode, listCode, ifCode, lambdaCode, applicationCode, decimalCode, Node, nodeWords, got, missing, nodeAt, sound, isNode, variableN, operationN, constantN, nameN, listN, ifN, lambdaN, applicationN}
+use Rattle.core_term.specs.Node.{Node, nodeWords, got, missing, nodeAt, parts, isNode, variableN, operationN, constantN, nameN, listN, ifN, lambdaN, applicationN}
 use Rattle.core_term.specs.NodeLaws.{both, node-read}
-use Rattle.core_term.specs.Code.WindowLaws.{case}
-use Rattle.core_term.specs.CodeLaws.{at-none, at-past, short-missing, lambda-short, lambda-cut, decimal-short, variable-at, operation-at, integer-at, boolean-at, name-at, list-at, if-at, lambda-at, application-at, decimal-at, namesAt}
+use Rattle.core_term.specs.declared.nodes.Node as C
+use Rattle.core_term.specs.declared.nodes.Node.the-variants.{Variable, Operation, Integer, Boolean, Decimal, Name, List as Several, If, Lambda, Application, None}
+use Rattle.core_term.specs.Code.Opened.{nodeIn, shapeIn, shapeBy, OpenedAs}
 use Rattle.words.specs.Text.{bytes}
 use Rattle.core_term.specs.Decimal.{decimal, integerText, decimalText}
 use Rattle.core_term.specs.Text.{variableText, operationText, constantText}
 use Rattle.core_term.specs.TextRoom.{all-at}
 use Rattle.writer.specs.Pieces.{formalsText, opening, closing}
-use Rattle.writer.specs.PiecesLaws.{list-inner, list-quoted}
 use Rattle.writer.specs.Called.{Said, spellOf}
-use Rattle.writer.specs.Opened.{spelled, named, Opened}
+use Rattle.writer.specs.Opened.{spelled, named, Stands}
 
 -- ---- names
 
@@ -49,200 +48,201 @@ pub name-cut : (names : List ℕ) (n l : ℕ) → l ≡ getD names (64 * n) 0 �
 unfolding nameAt lengthAt
 name-cut names n l e = let h : 64 * n + 1 + l - (64 * n + 1) ≡ getD names (64 * n) 0 = omega arith in rw (h, add-one (64 * n))
 
+-- so many variables have names
+pub record Naming (said : Said) (count : ℕ) : Type 0 where
+  pub many : count ≤ length (said .called)
+  pub slots : spelled said ≡ true
+
 -- ---- nodes
 
 no-got : {X : Type 0} (x : Node) (r : List ℕ) → missing ≡ got x r → X
 no-got x r h = let z : _≡_ {A = ℕ} 0 1 = cc in absurd (omega arith)
 
-sound-is : (y : Node) (s : List ℕ) (x : Node) (r : List ℕ) → sound (got y s) ≡ got x r → (x ≡ y) × (isNode y ≡ true)
-unfolding sound
-sound-is y s x r h = go (isNode y) refl h
-  where
-    go : (b : Bool) → isNode y ≡ b → cond b (got y s) missing ≡ got x r → (x ≡ y) × (isNode y ≡ true)
-    go true e k = (cc, e)
-    go false e k = no-got x r k
+module _ (n : C.Node) (x : Node) (s : Stands n x) where
+  reads : nodeIn (s .words) n ≡ got x (s .left)
+  reads = s .opened .is ∙ s .is
 
-module _ (ws : List ℕ) (x : Node) (r : List ℕ) (is : nodeAt ws ≡ got x r) where
-  pub some-words : 1 ≤ length ws
-  some-words = go (length ws) refl
-    where
-      go : (n : ℕ) → length ws ≡ n → 1 ≤ length ws
-      go zero h = no-got x r (sym (at-none ws h) ∙ is)
-      go (suc n) h = omega arith
+  pub proper : isNode x ≡ true
+  proper = node-read (s .words) x (s .left) (s .is) .proper
 
-  pub two-words : (getD ws 0 0 ≡ ifCode → ⊥) → 2 ≤ length ws
-  two-words k = case (length ws) 2 (λ l. no-got x r (sym (short-missing ws k l) ∙ is)) (λ l. l)
+  pub is-variable : (k : ℕ) → n ≡ Variable k → x ≡ variableN k
+  unfolding nodeIn
+  is-variable k e = let h : nodeIn (s .words) (Variable k) ≡ got x (s .left) = sym (ap (nodeIn (s .words)) e) ∙ reads in cc
 
-  pub three-words : getD ws 0 0 ≡ lambdaCode → 3 ≤ length ws
-  three-words e = case (length ws) 3 (λ l. no-got x r (sym (lambda-short ws e l) ∙ is)) (λ l. l)
+  pub is-operation : (k : ℕ) → n ≡ Operation k → x ≡ operationN k
+  unfolding nodeIn
+  is-operation k e = let h : nodeIn (s .words) (Operation k) ≡ got x (s .left) = sym (ap (nodeIn (s .words)) e) ∙ reads in cc
 
-  pub lambda-words : getD ws 0 0 ≡ lambdaCode → 3 + getD ws 2 0 ≤ length ws
-  lambda-words e = case (length ws) (3 + getD ws 2 0) (λ l. no-got x r (sym (lambda-cut ws e (three-words e) l) ∙ is)) (λ l. l)
+  pub is-integer : (w : ℕ) → n ≡ Integer w → x ≡ constantN (integer w)
+  unfolding nodeIn
+  is-integer w e = let h : nodeIn (s .words) (Integer w) ≡ got x (s .left) = sym (ap (nodeIn (s .words)) e) ∙ reads in cc
 
-  pub decimal-words : getD ws 0 0 ≡ decimalCode → 3 ≤ length ws
-  decimal-words e = case (length ws) 3 (λ l. no-got x r (sym (decimal-short ws e l) ∙ is)) (λ l. l)
+  pub is-boolean : (w : ℕ) → n ≡ Boolean w → x ≡ constantN (boolean w)
+  unfolding nodeIn
+  is-boolean w e = let h : nodeIn (s .words) (Boolean w) ≡ got x (s .left) = sym (ap (nodeIn (s .words)) e) ∙ reads in cc
 
-  pub code-most : getD ws 0 0 ≤ decimalCode
-  code-most = case (getD ws 0 0) 10 (λ l. omega arith) (λ l. no-got x r (sym (at-past ws l) ∙ is))
+  pub is-decimal : (w p : ℕ) → n ≡ Decimal w p → x ≡ constantN (K.decimal w p)
+  unfolding nodeIn
+  is-decimal w p e = let h : nodeIn (s .words) (Decimal w p) ≡ got x (s .left) = sym (ap (nodeIn (s .words)) e) ∙ reads in cc
 
-  pub is-variable : getD ws 0 0 ≡ variableCode → x ≡ variableN (getD ws 1 0)
-  is-variable e = let k = sym is ∙ variable-at ws (two-words (λ h. omega arith)) e in cc
+  pub is-name : (k : ℕ) → n ≡ Name k → x ≡ nameN k
+  unfolding nodeIn
+  is-name k e = let h : nodeIn (s .words) (Name k) ≡ got x (s .left) = sym (ap (nodeIn (s .words)) e) ∙ reads in cc
 
-  pub is-operation : getD ws 0 0 ≡ operationCode → x ≡ operationN (getD ws 1 0)
-  is-operation e = let k = sym is ∙ operation-at ws (two-words (λ h. omega arith)) e in cc
+  pub is-list : (k : ℕ) → n ≡ Several k → x ≡ listN k
+  unfolding nodeIn
+  is-list k e = let h : nodeIn (s .words) (Several k) ≡ got x (s .left) = sym (ap (nodeIn (s .words)) e) ∙ reads in cc
 
-  pub is-integer : getD ws 0 0 ≡ integerCode → x ≡ constantN (integer (getD ws 1 0))
-  is-integer e = let k = sym is ∙ integer-at ws (two-words (λ h. omega arith)) e in cc
+  pub is-if : n ≡ If → x ≡ ifN
+  unfolding nodeIn
+  is-if e = let h : nodeIn (s .words) If ≡ got x (s .left) = sym (ap (nodeIn (s .words)) e) ∙ reads in cc
 
-  pub is-boolean : getD ws 0 0 ≡ booleanCode → x ≡ constantN (boolean (getD ws 1 0))
-  is-boolean e = sound-is _ _ x r (sym (boolean-at ws (two-words (λ h. omega arith)) e) ∙ is) .0
+  pub is-application : (k : ℕ) → n ≡ Application k → x ≡ applicationN k
+  unfolding nodeIn
+  is-application k e = let h : nodeIn (s .words) (Application k) ≡ got x (s .left) = sym (ap (nodeIn (s .words)) e) ∙ reads in cc
 
-  pub is-name : getD ws 0 0 ≡ nameCode → x ≡ nameN (getD ws 1 0)
-  is-name e = let k = sym is ∙ name-at ws (two-words (λ h. omega arith)) e in cc
+  pub no-none : {X : Type 0} → n ≡ None → X
+  unfolding nodeIn
+  no-none e = no-got x (s .left) (sym (ap (nodeIn (s .words)) e) ∙ reads)
 
-  pub is-list : getD ws 0 0 ≡ listCode → x ≡ listN (getD ws 1 0)
-  is-list e = let k = sym is ∙ list-at ws (two-words (λ h. omega arith)) e in cc
+  module _ (first count : ℕ) (e : n ≡ Lambda first count) where
+    abbrev bound : List ℕ
+    bound = take count (drop 3 (s .words))
 
-  pub is-if : getD ws 0 0 ≡ ifCode → x ≡ ifN
-  is-if e = let k = sym is ∙ if-at ws some-words e in cc
+    pub is-lambda : x ≡ lambdaN first bound
+    unfolding nodeIn
+    is-lambda = let h : nodeIn (s .words) (Lambda first count) ≡ got x (s .left) = sym (ap (nodeIn (s .words)) e) ∙ reads in cc
 
-  pub is-lambda : getD ws 0 0 ≡ lambdaCode → x ≡ lambdaN (getD ws 1 0) (namesAt ws)
-  is-lambda e = sound-is _ _ x r (sym (lambda-at ws (lambda-words e) e) ∙ is) .0
+    pub bound-count : length bound ≡ count
+    unfolding shapeIn shapeBy
+    bound-count =
+        let l : 3 + count ≤ length (s .words) = subst (λ (m : C.Node). shapeIn m .own ≤ length (s .words)) e (s .opened .room) in
+        length-take-le count (drop 3 (s .words)) (omega (arith, length-drop 3 (s .words)))
 
-  pub names-count : getD ws 0 0 ≡ lambdaCode → length (namesAt ws) ≡ getD ws 2 0
-  names-count e = length-take-le (getD ws 2 0) (drop 3 ws) (omega (arith, length-drop 3 ws, lambda-words e))
-
-  pub is-application : getD ws 0 0 ≡ applicationCode → x ≡ applicationN (getD ws 1 0)
-  is-application e = let k = sym is ∙ application-at ws (two-words (λ h. omega arith)) e in cc
-
-  pub is-decimal : getD ws 0 0 ≡ decimalCode → x ≡ constantN (K.decimal (getD ws 1 0) (getD ws 2 0))
-  is-decimal e = sound-is _ _ x r (sym (decimal-at ws (decimal-words e) e) ∙ is) .0
-
-  pub decimal-places : getD ws 0 0 ≡ decimalCode → (1 ≤ getD ws 2 0) × (getD ws 2 0 ≤ 4)
+  pub decimal-places : (w p : ℕ) → n ≡ Decimal w p → (1 ≤ p) × (p ≤ 4)
   unfolding isNode isConstant K.decimal
-  decimal-places e = within-parts 1 4 (getD ws 2 0) (sound-is _ _ x r (sym (decimal-at ws (decimal-words e) e) ∙ is) .1)
+  decimal-places w p e = within-parts 1 4 p (sym (ap isNode (is-decimal w p e)) ∙ proper)
 
   -- ---- what opens and closes it
 
   module _ (said : Said) (inner : Bool) where
-    pub opens-variable : getD ws 0 0 ≡ variableCode → variableText (spellOf said) (said .called) (getD ws 1 0) ≡ opening said inner x
+    pub opens-variable : (k : ℕ) → n ≡ Variable k → variableText (spellOf said) (said .called) k ≡ opening said inner x
     unfolding opening
-    opens-variable e = rw (is-variable e)
+    opens-variable k e = rw (is-variable k e)
 
-    pub opens-operation : getD ws 0 0 ≡ operationCode → 111 ∷ decimal (getD ws 1 0) ≡ opening said inner x
+    pub opens-operation : (k : ℕ) → n ≡ Operation k → 111 ∷ decimal k ≡ opening said inner x
     unfolding opening operationText
-    opens-operation e = rw (is-operation e)
+    opens-operation k e = rw (is-operation k e)
 
-    pub opens-integer : getD ws 0 0 ≡ integerCode → integerText (getD ws 1 0) ≡ opening said inner x
+    pub opens-integer : (w : ℕ) → n ≡ Integer w → integerText w ≡ opening said inner x
     unfolding opening constantText integer
-    opens-integer e = rw (is-integer e)
+    opens-integer w e = rw (is-integer w e)
 
-    pub opens-false : getD ws 0 0 ≡ booleanCode → getD ws 1 0 ≡ 0 → 35 ∷ 102 ∷ [] ≡ opening said inner x
-    unfolding opening constantText boolean bytes
-    opens-false e h = rw (is-boolean e, h)
+    pub opens-boolean : (w : ℕ) → n ≡ Boolean w → constantText (boolean w) ≡ opening said inner x
+    unfolding opening
+    opens-boolean w e = rw (is-boolean w e)
 
-    pub opens-true : getD ws 0 0 ≡ booleanCode → (getD ws 1 0 ≡ 0 → ⊥) → 35 ∷ 116 ∷ [] ≡ opening said inner x
-    unfolding opening constantText boolean bytes
-    opens-true e h = rw (is-boolean e, ne-eqb _ _ h)
+    pub opens-decimal : (w p : ℕ) → n ≡ Decimal w p → decimalText w p ≡ opening said inner x
+    unfolding opening constantText K.decimal
+    opens-decimal w p e = rw (is-decimal w p e)
 
-    pub opens-name : getD ws 0 0 ≡ nameCode → opening said inner (nameN (getD ws 1 0)) ≡ opening said inner x
-    opens-name e = ap (opening said inner) (sym (is-name e))
+    pub opens-name : (k : ℕ) → n ≡ Name k → opening said inner (nameN k) ≡ opening said inner x
+    opens-name k e = ap (opening said inner) (sym (is-name k e))
 
-    pub opens-inner : getD ws 0 0 ≡ listCode → inner ≡ true → 40 ∷ [] ≡ opening said inner x
-    opens-inner e h = sym (list-inner said inner (getD ws 1 0) h) ∙ ap (opening said inner) (sym (is-list e))
+    pub opens-list : (k : ℕ) → n ≡ Several k → opening said inner (listN k) ≡ opening said inner x
+    opens-list k e = ap (opening said inner) (sym (is-list k e))
 
-    pub opens-quoted : getD ws 0 0 ≡ listCode → inner ≡ false → 40 ∷ 113 ∷ 117 ∷ 111 ∷ 116 ∷ 101 ∷ 32 ∷ 40 ∷ [] ≡ opening said inner x
-    opens-quoted e h = sym (list-quoted said inner (getD ws 1 0) h) ∙ ap (opening said inner) (sym (is-list e))
-
-    pub opens-if : getD ws 0 0 ≡ ifCode → 40 ∷ 105 ∷ 102 ∷ 32 ∷ [] ≡ opening said inner x
+    pub opens-if : n ≡ If → 40 ∷ 105 ∷ 102 ∷ 32 ∷ [] ≡ opening said inner x
     unfolding opening bytes
     opens-if e = rw (is-if e)
 
-    pub opens-lambda : getD ws 0 0 ≡ lambdaCode → bytes "(lambda (" ++ (formalsText said false (getD ws 1 0) (getD ws 2 0) ++ bytes ") ") ≡ opening said inner x
+    pub opens-lambda : (first count : ℕ) → n ≡ Lambda first count → bytes "(lambda (" ++ (formalsText said false first count ++ bytes ") ") ≡ opening said inner x
     unfolding opening
-    opens-lambda e = rw (is-lambda e, names-count e)
+    opens-lambda first count e = rw (is-lambda first count e, bound-count first count e)
 
-    pub opens-application : getD ws 0 0 ≡ applicationCode → 40 ∷ [] ≡ opening said inner x
+    pub opens-application : (k : ℕ) → n ≡ Application k → 40 ∷ [] ≡ opening said inner x
     unfolding opening bytes
-    opens-application e = rw (is-application e)
+    opens-application k e = rw (is-application k e)
 
-    pub opens-decimal : getD ws 0 0 ≡ decimalCode → decimalText (getD ws 1 0) (getD ws 2 0) ≡ opening said inner x
-    unfolding opening constantText K.decimal
-    opens-decimal e = rw (is-decimal e)
+  -- a variable that stands there has a name, and so have those that a lambda binds
+  module _ (said : Said) (f : named said x ≡ true) where
+    pub name-spelled : (k : ℕ) → n ≡ Name k → hasName (said .table) k ≡ true
+    unfolding named
+    name-spelled k e = subst (λ (y : Node). named said y ≡ true) (is-name k e) f
 
-  pub closes-decimal : (inner : Bool) → getD ws 0 0 ≡ decimalCode → [] ≡ closing inner x
-  unfolding closing
-  closes-decimal inner e = rw (is-decimal e)
+    pub variable-named : (k : ℕ) → n ≡ Variable k → Naming said (suc k)
+    unfolding named
+    variable-named k e =
+        let h = both (ltb k (length (said .called))) (spelled said) (subst (λ (y : Node). named said y ≡ true) (is-variable k e) f) in
+        record { many = ltb-true k (length (said .called)) (h .0); slots = h .1 }
 
-  pub closes-list : (inner : Bool) → getD ws 0 0 ≡ listCode → inner ≡ false → 41 ∷ 41 ∷ [] ≡ closing inner x
-  unfolding closing bytes
-  closes-list inner e h = rw (is-list e, h)
+    pub lambda-named : (first count : ℕ) → n ≡ Lambda first count → Naming said (first + count)
+    unfolding named
+    lambda-named first count e =
+        let m = bound-count first count e in
+        let h = both (leb (first + length (bound first count e)) (length (said .called))) (spelled said) (subst (λ (y : Node). named said y ≡ true) (is-lambda first count e) f) in
+        record { many = omega (arith, m, leb-true (first + length (bound first count e)) (length (said .called)) (h .0)); slots = h .1 }
 
-  -- the code, as the node has it
-  pub code-is : getD ws 0 0 ≡ getD (nodeWords x ++ r) 0 0
-  code-is = ap (λ (l : List ℕ). getD l 0 0) (node-read ws x r is .words)
+  module _ (inner : Bool) where
+    -- nothing closes a leaf
+    pub closes-variable : (k : ℕ) → n ≡ Variable k → [] ≡ closing inner x
+    unfolding closing
+    closes-variable k e = rw (is-variable k e)
 
--- a leaf, and what has parts
-leaf-closes : (inner : Bool) (x : Node) (r : List ℕ) → getD (nodeWords x ++ r) 0 0 < listCode → [] ≡ closing inner x
-unfolding closing nodeWords
-leaf-closes inner (variableN n) r h = refl
-leaf-closes inner (operationN n) r h = refl
-leaf-closes inner (constantN a) r h = refl
-leaf-closes inner (nameN n) r h = refl
-leaf-closes inner (listN n) r h = absurd (omega arith)
-leaf-closes inner ifN r h = absurd (omega arith)
-leaf-closes inner (lambdaN first names) r h = absurd (omega arith)
-leaf-closes inner (applicationN n) r h = absurd (omega arith)
+    pub closes-operation : (k : ℕ) → n ≡ Operation k → [] ≡ closing inner x
+    unfolding closing
+    closes-operation k e = rw (is-operation k e)
 
--- a constant has none of these codes
-constant-code : (a : K.Constant) (r : List ℕ) → isConstant a ≡ true → listCode ≤ getD (constantWords a ++ r) 0 0 → (getD (constantWords a ++ r) 0 0 ≡ decimalCode → ⊥) → ⊥
-unfolding constantWords integer boolean K.decimal
-constant-code a r =
-    constant-case (λ b. listCode ≤ getD (constantWords b ++ r) 0 0 → (getD (constantWords b ++ r) 0 0 ≡ decimalCode → ⊥) → ⊥)
-    (λ w h n. omega arith) (λ w l h n. omega arith) (λ w p l h n. n refl) a
+    pub closes-constant : (a : K.Constant) → x ≡ constantN a → [] ≡ closing inner x
+    unfolding closing
+    closes-constant a e = rw e
 
-rest-closes : (inner : Bool) (x : Node) (r : List ℕ) → isNode x ≡ true → listCode ≤ getD (nodeWords x ++ r) 0 0 → (getD (nodeWords x ++ r) 0 0 ≡ decimalCode → ⊥) → (getD (nodeWords x ++ r) 0 0 ≡ listCode → inner ≡ true) → 41 ∷ [] ≡ closing inner x
-unfolding closing nodeWords bytes isNode
-rest-closes inner (variableN n) r p h d k = absurd (omega arith)
-rest-closes inner (operationN n) r p h d k = absurd (omega arith)
-rest-closes inner (constantN a) r p h d k = absurd (constant-code a r p h d)
-rest-closes inner (nameN n) r p h d k = absurd (omega arith)
-rest-closes inner (listN n) r p h d k = rw (k refl)
-rest-closes inner ifN r p h d k = refl
-rest-closes inner (lambdaN first names) r p h d k = refl
-rest-closes inner (applicationN n) r p h d k = refl
+    pub closes-name : (k : ℕ) → n ≡ Name k → [] ≡ closing inner x
+    unfolding closing
+    closes-name k e = rw (is-name k e)
 
-module _ (ws : List ℕ) (x : Node) (r : List ℕ) (is : nodeAt ws ≡ got x r) (inner : Bool) where
-  pub closes-leaf : getD ws 0 0 < listCode → [] ≡ closing inner x
-  closes-leaf h = leaf-closes inner x r (omega (arith, code-is ws x r is))
+    pub closes-list : (k : ℕ) → n ≡ Several k → closing inner (listN k) ≡ closing inner x
+    closes-list k e = ap (closing inner) (sym (is-list k e))
 
-  pub closes-one : listCode ≤ getD ws 0 0 → (getD ws 0 0 ≡ decimalCode → ⊥) → (getD ws 0 0 ≡ listCode → inner ≡ true) → 41 ∷ [] ≡ closing inner x
-  closes-one h d k =
-      let e = code-is ws x r is in
-      rest-closes inner x r (node-read ws x r is .proper) (omega (arith, e)) (λ f. d (e ∙ f)) (λ f. k (e ∙ f))
+    pub closes-if : n ≡ If → 41 ∷ [] ≡ closing inner x
+    unfolding closing bytes
+    closes-if e = rw (is-if e)
 
--- a name that stands there has a slot
-pub name-spelled : (said : Said) (ws : List ℕ) (o : Opened said ws) → getD ws 0 0 ≡ nameCode → hasName (said .table) (getD ws 1 0) ≡ true
-unfolding named
-name-spelled said ws o e = subst (λ (y : Node). named said y ≡ true) (is-name ws (o .it) (o .left) (o .is) e) (o .fits)
+    pub closes-lambda : (first count : ℕ) → n ≡ Lambda first count → 41 ∷ [] ≡ closing inner x
+    unfolding closing bytes
+    closes-lambda first count e = rw (is-lambda first count e)
 
--- a variable that stands there has a name, and so have those that a lambda binds
-pub record Naming (said : Said) (count : ℕ) : Type 0 where
-  pub many : count ≤ length (said .called)
-  pub slots : spelled said ≡ true
+    pub closes-application : (k : ℕ) → n ≡ Application k → 41 ∷ [] ≡ closing inner x
+    unfolding closing bytes
+    closes-application k e = rw (is-application k e)
 
-pub variable-named : (said : Said) (ws : List ℕ) (o : Opened said ws) → getD ws 0 0 ≡ variableCode → Naming said (suc (getD ws 1 0))
-unfolding named
-variable-named said ws o e =
-    let h = both (ltb (getD ws 1 0) (length (said .called))) (spelled said) (subst (λ (y : Node). named said y ≡ true) (is-variable ws (o .it) (o .left) (o .is) e) (o .fits)) in
-    record { many = ltb-true (getD ws 1 0) (length (said .called)) (h .0); slots = h .1 }
+-- ---- a node of which words tell, where a word stands behind a lambda's names
 
-pub lambda-named : (said : Said) (ws : List ℕ) (o : Opened said ws) → getD ws 0 0 ≡ lambdaCode → Naming said (getD ws 1 0 + getD ws 2 0)
-unfolding named
-lambda-named said ws o e =
-    let n = names-count ws (o .it) (o .left) (o .is) e in
-    let h = both (leb (getD ws 1 0 + length (namesAt ws)) (length (said .called))) (spelled said) (subst (λ (y : Node). named said y ≡ true) (is-lambda ws (o .it) (o .left) (o .is) e) (o .fits)) in
-    record { many = omega (arith, n, leb-true (getD ws 1 0 + length (namesAt ws)) (length (said .called)) (h .0)); slots = h .1 }
+module _ (ws : List ℕ) (n : C.Node) (x : Node) (r : List ℕ) (h : nodeIn ws n ≡ nodeAt ws) (is : nodeAt ws ≡ got x r) (behind : 1 ≤ parts x → 1 ≤ length r) where
+  by-size : (y : Node) (s : List ℕ) → got y s ≡ got x r → length (nodeWords y) ≤ length ws
+  by-size y s e =
+      let i : y ≡ x = cc in
+      omega (arith, ap (λ (z : Node). length (nodeWords z)) i, ap length (node-read ws x r is .words), length-append (nodeWords x) r)
+
+  room-of : (m : C.Node) → nodeIn ws m ≡ got x r → shapeIn m .own ≤ length ws
+  unfolding nodeIn shapeIn shapeBy nodeWords constantWords integer boolean K.decimal parts
+  room-of (Variable k) e = by-size _ _ e
+  room-of (Operation k) e = by-size _ _ e
+  room-of (Integer w) e = by-size _ _ e
+  room-of (Boolean w) e = by-size _ _ e
+  room-of (Decimal w p) e = by-size _ _ e
+  room-of (Name k) e = by-size _ _ e
+  room-of (Several k) e = by-size _ _ e
+  room-of If e = by-size _ _ e
+  room-of (Lambda first count) e =
+      let i : lambdaN first (take count (drop 3 ws)) ≡ x = cc in
+      let j : drop (3 + count) ws ≡ r = cc in
+      omega (arith, behind (omega (arith, ap parts i)), ap length j, length-drop (3 + count) ws)
+  room-of (Application k) e = by-size _ _ e
+  room-of None e = no-got x r e
+
+  pub opened-here : OpenedAs ws n
+  opened-here = record { is = h; room = room-of n (h ∙ is) }
 
 -- the slot of a variable's name
 pub naming-slot : (said : Said) (count n : ℕ) → Naming said count → n < count → hasName (said .table) (getD (said .called) n 0) ≡ true

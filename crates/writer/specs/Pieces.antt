@@ -4,8 +4,9 @@ use mathlib.Core.List.{List, [], _∷_, _++_}
 use Prim.Native.Nat.{ℕ, zero, suc}
 use lib.ListN.{length}
 use Rattle.words.specs.Text.{bytes}
-use Rattle.core_term.specs.Node.{Node, variableN, operationN, constantN, nameN, listN, ifN, lambdaN, applicationN}
+use Rattle.core_term.specs.Node.{Node, isListNode, variableN, operationN, constantN, nameN, listN, ifN, lambdaN, applicationN}
 use Rattle.core_term.specs.Term.{variableC, operationC, datumC, ifC, lambdaC, applicationC, noneC, moreC, Plain, Plains}
+use Rattle.core_term.specs.Parts.{node, partsOf}
 use Rattle.core_term.specs.Text as Text
 use Rattle.core_term.specs.Text.{variableText, operationText, constantText, bare}
 use Rattle.writer.specs.Called.{Said, spellOf}
@@ -61,3 +62,7 @@ module _ (said : Said) where
   unfoldable pub partsText : Bool → Bool → Plains → List ℕ
   partsText inner wanted noneC = []
   partsText inner wanted (moreC t ts) = gapText wanted ++ (textIn inner t ++ partsText inner true ts)
+
+  -- the parts of a term
+  abbrev pub rowText : Plain → List ℕ
+  rowText t = partsText (isListNode (node t)) false (partsOf t)

@@ -7,11 +7,13 @@ use native.Mathlib.Omega.{arith}
 use native.Mathlib.Numerals.{add-one}
 use lib.ListN.{length, getD}
 use Rattle.words.specs.Text.{bytes}
+use borrow.Author.Tests.{ne-eqb}
+use Rattle.datum.specs.Constant.{boolean}
 use Rattle.datum.specs.Datum.{Datum, constantD, nameD, listD, Data, noneD, moreD}
 use Rattle.core_term.specs.Node.{isDatumNode, isListNode, nameN, listN}
 use Rattle.core_term.specs.Term.{variableC, operationC, datumC, ifC, lambdaC, applicationC, noneC, moreC, Plain, Plains}
 use Rattle.core_term.specs.Decimal.{decimal}
-use Rattle.core_term.specs.Text.{variableText, spacedAfter, spaced, parenthesized, formalTexts, bare, bares, outermost, textsIn}
+use Rattle.core_term.specs.Text.{variableText, constantText, spacedAfter, spaced, parenthesized, formalTexts, bare, bares, outermost, textsIn}
 use Rattle.core_term.specs.Text as Text
 use Rattle.writer.specs.Called.{Said, spellOf}
 use Rattle.core_term.specs.Parts.{datumNode, node, quoted, datumParts, partsOf, isDatum}
@@ -142,6 +144,24 @@ module _ (said : Said) (inner : Bool) where
   pub list-quoted : (n : ℕ) → inner ≡ false → opening said inner (listN n) ≡ 40 ∷ 113 ∷ 117 ∷ 111 ∷ 116 ∷ 101 ∷ 32 ∷ 40 ∷ []
   unfolding opening bytes
   list-quoted n h = rw h
+
+-- what closes a list
+pub inner-closes : (inner : Bool) (n : ℕ) → inner ≡ true → 41 ∷ [] ≡ closing inner (listN n)
+unfolding closing bytes
+inner-closes inner n h = rw h
+
+pub quoted-closes : (inner : Bool) (n : ℕ) → inner ≡ false → 41 ∷ 41 ∷ [] ≡ closing inner (listN n)
+unfolding closing bytes
+quoted-closes inner n h = rw h
+
+-- #f and #t
+pub boolean-false : (w : ℕ) → w ≡ 0 → 35 ∷ 102 ∷ [] ≡ constantText (boolean w)
+unfolding constantText boolean bytes
+boolean-false w h = rw h
+
+pub boolean-true : (w : ℕ) → (w ≡ 0 → ⊥) → 35 ∷ 116 ∷ [] ≡ constantText (boolean w)
+unfolding constantText boolean bytes
+boolean-true w h = rw (ne-eqb _ _ h)
 
 pub lambda-bytes : (said : Said) (first n : ℕ) → bytes "(lambda (" ++ (formalsText said false first n ++ bytes ") ") ≡ (40 ∷ 108 ∷ 97 ∷ 109 ∷ 98 ∷ 100 ∷ 97 ∷ 32 ∷ 40 ∷ []) ++ (formalsText said false first n ++ (41 ∷ 32 ∷ []))
 unfolding bytes

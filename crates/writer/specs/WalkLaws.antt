@@ -1,14 +1,12 @@
 -- Laws of the walk: a node, then its parts one after another.
 use mathlib.Core.Path.{_≡_, refl, sym, ap, subst, _∙_}
-use mathlib.Core.Bool.{Bool, true, false, _&&_}
+use mathlib.Core.Bool.{Bool, true, false, _&&_, false≢true}
 use mathlib.Core.List.{List, [], _++_, append-assoc, append-nil}
 use Prim.Native.Nat.{ℕ, suc, _+_, _-_, _≤_, _<_}
 use native.Mathlib.Omega.{arith}
-use lib.ListN.{length, getD, take, drop, length-append, length-drop}
+use lib.ListN.{length, take, drop, length-append, length-drop}
 use lib.Seq.{drop-append-seam, drop-at, drop-drop}
-use Rattle.datum.specs.Constant.{decimalKind}
-use Rattle.datum.specs.ConstantLaws.{words-decimal, words-other}
-use Rattle.core_term.specs.Node.{listCode, Node, got, nodeAt, nodeWords, parts, binds, isNode, isListNode, variableN, operationN, constantN, nameN, listN, ifN, lambdaN, applicationN}
+use Rattle.core_term.specs.Node.{Node, got, nodeAt, nodeWords, parts, binds, isNode, isListNode}
 use Rattle.core_term.specs.NodeLaws.{both, node-round, node-some, node-read}
 use Rattle.core_term.specs.Term.{noneC, moreC, Plain, Plains, count, variables}
 use Rattle.core_term.specs.Words.{encode, encodeAll}
@@ -16,37 +14,24 @@ use Rattle.core_term.specs.DecodeLaws.{encode-unique}
 use Rattle.core_term.specs.Every.{every, everyTerm, proper}
 use Rattle.core_term.specs.EveryLaws.{every-from}
 use Rattle.core_term.specs.Parts.{node, partsOf, isDatum, areData}
-use Rattle.core_term.specs.PartsLaws.{encode-parts, every-parts, count-parts, list-data}
+use Rattle.core_term.specs.PartsLaws.{encode-parts, encode-two, every-parts, count-parts, list-data}
 use Rattle.words.specs.ListLaws.{rest-is}
-use Rattle.writer.specs.Put.{Put}
+use Rattle.writer.specs.Put.{Put, noPlace, putOf}
 use Rattle.writer.specs.Put as P
 use Rattle.writer.specs.declared.term.Step.{Step}
 use Rattle.writer.specs.declared.term.Step.the-variants as S
 use Rattle.core_term.specs.declared.nodes.Shape.{Shape}
-use Rattle.core_term.specs.Code.Opened.{shapeBy, Shaped}
+use Rattle.core_term.specs.declared.nodes.Node as C
+use Rattle.core_term.specs.Code.Opened.{nodeIn, shapeIn, Shaped, ShapedAt, OpenedAs}
+use Rattle.core_term.specs.Code.OpenedLaws.{shaped-opened}
 use Rattle.writer.specs.Laid.{Left}
-use Rattle.writer.specs.LaidLaws.{left-done, left-full, left-then, left-is, left-none}
-use Rattle.writer.specs.Pieces.{gapText, opening, closing, textIn, partsText}
+use Rattle.writer.specs.LaidLaws.{left-done, put-done, put-full, left-full, left-room, left-then, left-is, left-none}
+use Rattle.writer.specs.Pieces.{gapText, opening, closing, textIn, partsText, rowText}
 use Rattle.writer.specs.PiecesLaws.{pieces}
 use Rattle.writer.specs.Called.{Said}
-use Rattle.writer.specs.Opened.{named, Opened}
-use Rattle.writer.specs.OpenedLaws.{code-is, closes-leaf}
+use Rattle.writer.specs.Opened.{named, Stands, Opened}
+use Rattle.writer.specs.OpenedLaws.{opened-here}
 use Rattle.writer.specs.Walk.{spelling, Fits, Begins, Walked, walked, stopped}
-
--- ---- the shape of a leaf
-
-leaf-shape : (x : Node) (r : List ℕ) → getD (nodeWords x ++ r) 0 0 < listCode → Shaped x (shapeBy 2 0 0 false)
-unfolding shapeBy nodeWords parts binds isListNode
-leaf-shape (variableN n) r h = record { own = refl; names = refl; rest = refl; inner = refl }
-leaf-shape (operationN n) r h = record { own = refl; names = refl; rest = refl; inner = refl }
-leaf-shape (constantN a) r h =
-    let n : a .kind ≡ decimalKind → ⊥ = λ e. omega (arith, ap (λ (l : List ℕ). getD (l ++ r) 0 0) (words-decimal a e)) in
-    record { own = ap length (sym (words-other a n)); names = refl; rest = refl; inner = refl }
-leaf-shape (nameN n) r h = record { own = refl; names = refl; rest = refl; inner = refl }
-leaf-shape (listN n) r h = absurd (omega arith)
-leaf-shape ifN r h = absurd (omega arith)
-leaf-shape (lambdaN first names) r h = absurd (omega arith)
-leaf-shape (applicationN n) r h = absurd (omega arith)
 
 -- ---- answers and rows of terms
 
@@ -62,6 +47,14 @@ module _ {ink : Bool} {x : List ℕ} {n at : ℕ} {d e : List ℕ} where
 
   pub stopped-by : {s : Step} → Walked ink x n at d e s → s ≡ S.Full → Left ink x at d e P.Full
   stopped-by w h = stopped-is (subst (λ (z : Step). Walked ink x n at d e z) h w)
+
+-- a text that is laid is walked through with its words
+module _ {ink : Bool} {x : List ℕ} {n at to : ℕ} {d e : List ℕ} (l : Left ink x at d e (putOf to)) where
+  pub close-stops : to ≡ noPlace → Walked ink x n at d e S.Full
+  close-stops h = stopped (subst (λ (z : Put). Left ink x at d e z) (put-full to h) l)
+
+  pub close-walked : (to ≡ noPlace → ⊥) → Walked ink x n at d e (S.Done n to)
+  close-walked h = walked refl (left-done l to (put-done to h))
 
 -- a row that has a first
 record Row (ts : Plains) : Type 0 where
@@ -79,6 +72,11 @@ unfolding count
 none-left noneC h = refl
 none-left (moreC t ts) h = absurd (omega arith)
 
+some-word : (ts : Plains) → 1 ≤ count ts → 1 ≤ length (encodeAll ts)
+unfolding count encode
+some-word noneC h = absurd (omega arith)
+some-word (moreC t ts) h = omega (arith, encode-two t, length-append (encode t) (encodeAll ts))
+
 -- ---- the term that words begin with
 
 module _ (names : Said) where
@@ -94,11 +92,11 @@ module _ (names : Said) where
     same-term = encode-unique t u r s (f .before) (g .before) (spelling-proper t (f .before) (f .fine)) (spelling-proper u (g .before) (g .fine)) (sym v ∙ w) .0
 
   -- what is said of one term is said of each
-  pub for-any : (inner ink : Bool) (ws : List ℕ) (b : Begins names inner ws) (at : ℕ) (d e : List ℕ) (s : Step)
-      → Walked ink (textIn names inner (b .term)) (length (encode (b .term))) at d e s
-      → (t : Plain) (r : List ℕ) → Fits names inner t → ws ≡ encode t ++ r → Walked ink (textIn names inner t) (length (encode t)) at d e s
-  for-any inner ink ws b at d e s k t r f w =
-      subst (λ (u : Plain). Walked ink (textIn names inner u) (length (encode u)) at d e s) (same-term inner ws (b .term) t (b .rest) r (b .fits) f (b .words) w) k
+  pub for-any : (text : Plain → List ℕ) (inner ink : Bool) (ws : List ℕ) (b : Begins names inner ws) (at : ℕ) (d e : List ℕ) (s : Step)
+      → Walked ink (text (b .term)) (length (encode (b .term))) at d e s
+      → (t : Plain) (r : List ℕ) → Fits names inner t → ws ≡ encode t ++ r → Walked ink (text t) (length (encode t)) at d e s
+  for-any text inner ink ws b at d e s k t r f w =
+      subst (λ (u : Plain). Walked ink (text u) (length (encode u)) at d e s) (same-term inner ws (b .term) t (b .rest) r (b .fits) f (b .words) w) k
 
   -- ---- its node
 
@@ -115,18 +113,35 @@ module _ (names : Said) where
         ap nodeAt (b .words ∙ ap (λ (z : List ℕ). z ++ b .rest) (encode-parts (b .term)) ∙ append-assoc (nodeWords x) (encodeAll (partsOf (b .term))) (b .rest))
         ∙ node-round x (encodeAll (partsOf (b .term)) ++ b .rest) p
 
-    pub begins-opened : Opened names ws
+    -- parts are words that stand behind it
+    behind-node : 1 ≤ parts (node (b .term)) → 1 ≤ length (encodeAll (partsOf (b .term)) ++ b .rest)
+    behind-node h = omega (arith, length-append (encodeAll (partsOf (b .term))) (b .rest), some-word (partsOf (b .term)) (omega (arith, count-parts (b .term))))
+
+    begins-as : (n : C.Node) → nodeIn ws n ≡ nodeAt ws → OpenedAs ws n
+    begins-as n h = opened-here ws n (node (b .term)) (encodeAll (partsOf (b .term)) ++ b .rest) h begins-node behind-node
+
+    pub begins-stands : (n : C.Node) → nodeIn ws n ≡ nodeAt ws → Stands n (node (b .term))
+    begins-stands n h = record { words = ws; left = encodeAll (partsOf (b .term)) ++ b .rest; opened = begins-as n h; is = begins-node }
+
+    pub begins-opened : (n : C.Node) → nodeIn ws n ≡ nodeAt ws → Opened names n
     unfolding spelling
-    begins-opened =
+    begins-opened n h =
         let x = node (b .term) in
-        record { it = x; left = encodeAll (partsOf (b .term)) ++ b .rest; is = begins-node; fits = both (isNode x) (named names x) (both (isNode x && named names x) _ node-fine .0) .1 }
+        record { it = x; stands = begins-stands n h; fits = both (isNode x) (named names x) (both (isNode x && named names x) _ node-fine .0) .1 }
+
+    pub begins-shaped : (n : C.Node) → nodeIn ws n ≡ nodeAt ws → (s : Shape) → s ≡ shapeIn n → ShapedAt ws s
+    begins-shaped n h s e = shaped-opened ws n (begins-as n h) s e
+
+    -- as a term outside quote
+    pub begins-loose : Begins names false ws
+    begins-loose = record { term = b .term; rest = b .rest; fits = record { before = b .fits .before; fine = b .fits .fine; datum = λ h. absurd (false≢true h) }; words = b .words }
 
   -- ---- its parts
 
-  module _ (inner ink quoted : Bool) (ws : List ℕ) (opened : ℕ) (d : List ℕ) where
+  module _ (ink quoted : Bool) (ws : List ℕ) (opened : ℕ) (d : List ℕ) where
     -- parts laid from `opened` into d, up to `to` in e; those left stand at `from`
     pub record Going (from left to : ℕ) (wanted : Bool) (e : List ℕ) : Type 0 where
-      pub whole : Begins names inner ws
+      pub whole : Begins names false ws
       pub inner′ : quoted ≡ isListNode (node (whole .term))
       pub todo : Plains
       pub many : count todo ≡ left
@@ -140,13 +155,14 @@ module _ (names : Said) where
       pub text : partsText names quoted false (partsOf (whole .term)) ≡ sofar ++ partsText names quoted wanted todo
       pub laid : Left ink sofar opened d e (P.Done to)
 
-    pub going-start : (b : Begins names inner ws) (s : Shape) → quoted ≡ s .quoted → Shaped (node (b .term)) s → opened ≤ length d → Going (s .own) (s .parts) opened false d
+    pub going-start : (b : Begins names false ws) (s : Shape) → quoted ≡ s .quoted → ShapedAt ws s → opened ≤ length d → Going (s .own) (s .parts) opened false d
     unfolding spelling
-    going-start b s q h l =
+    going-start b s q k l =
         let x = node (b .term) in
+        let h : Shaped x s = k x (encodeAll (partsOf (b .term)) ++ b .rest) (begins-node false ws b) in
         let n : length (nodeWords x) + length (encodeAll (partsOf (b .term))) ≡ length (encode (b .term)) = sym (ap length (encode-parts (b .term)) ∙ length-append (nodeWords x) (encodeAll (partsOf (b .term)))) in
         let w : drop (length (nodeWords x)) ws ≡ encodeAll (partsOf (b .term)) ++ b .rest =
-        ap (drop (length (nodeWords x))) (node-read ws x (encodeAll (partsOf (b .term)) ++ b .rest) (begins-node inner ws b) .words)
+        ap (drop (length (nodeWords x))) (node-read ws x (encodeAll (partsOf (b .term)) ++ b .rest) (begins-node false ws b) .words)
         ∙ drop-append-seam (nodeWords x) (encodeAll (partsOf (b .term)) ++ b .rest) in
         record {
           whole = b;
@@ -154,8 +170,8 @@ module _ (names : Said) where
           todo = partsOf (b .term);
           many = count-parts (b .term) ∙ sym (h .rest);
           before = b .fits .before + binds x;
-          fine = both (isNode x && named names x) _ (node-fine inner ws b) .1;
-          data′ = λ k. list-data (b .term) (sym (q ∙ h .inner) ∙ k);
+          fine = both (isNode x && named names x) _ (node-fine false ws b) .1;
+          data′ = λ z. list-data (b .term) (sym (q ∙ h .inner) ∙ z);
           place = ap (λ (i : ℕ). drop i ws) (h .own) ∙ w;
           size = omega (arith, h .own);
           begun = omega (arith, h .own, node-some x);
@@ -258,63 +274,64 @@ module _ (names : Said) where
                     laid = left-then (g .laid) to refl (left-then k m q (laid-child .1));
                   }
 
+      -- the whole row
+      abbrev Row′ : List ℕ
+      Row′ = rowText names (g .whole .term)
+
+      row-is : partsText names quoted false (partsOf (g .whole .term)) ≡ Row′
+      row-is = ap (λ (z : Bool). partsText names z false (partsOf (g .whole .term))) (g .inner′)
+
+      pub row-stops : (f : List ℕ) → Left ink (partsText names quoted false (partsOf (g .whole .term))) opened d f P.Full → Walked ink Row′ (length (encode (g .whole .term))) opened d f S.Full
+      row-stops f l = stopped (left-is row-is l)
+
+      pub row-walked : left ≡ 0 → Walked ink Row′ (length (encode (g .whole .term))) opened d e (S.Done from to)
+      row-walked h = walked (going-end h .0) (left-is row-is (going-end h .1))
+
   -- ---- the whole
 
-  module _ (inner ink : Bool) (ws : List ℕ) (b : Begins names inner ws) (at : ℕ) (d₀ d : List ℕ) (r : Put)
-      (o : (x : Node) (l : List ℕ) → nodeAt ws ≡ got x l → Left ink (opening names inner x) at d₀ d r) where
-    x′ : Node
-    x′ = node (b .term)
+  module _ (inner ink : Bool) (ws : List ℕ) (b : Begins names inner ws) (at : ℕ) (d₀ d : List ℕ) (r : Put) (o : Left ink (opening names inner (node (b .term))) at d₀ d r) where
+    abbrev Parts : List ℕ
+    Parts = rowText names (b .term)
 
-    opened-left : Left ink (opening names inner (node (b .term))) at d₀ d r
-    opened-left = o (node (b .term)) _ (begins-node inner ws b)
+    abbrev Text : List ℕ
+    Text = textIn names inner (b .term)
 
-    abbrev Parts : Bool → List ℕ
-    Parts q = partsText names q false (partsOf (b .term))
+    abbrev size : ℕ
+    size = length (encode (b .term))
 
-    all-text : (q : Bool) → q ≡ isListNode (node (b .term)) → opening names inner (node (b .term)) ++ (Parts q ++ closing inner (node (b .term))) ≡ textIn names inner (b .term)
-    all-text q h = ap (λ (z : Bool). opening names inner (node (b .term)) ++ (Parts z ++ closing inner (node (b .term)))) h ∙ sym (pieces names inner (b .term) (b .fits .datum))
+    all-text : opening names inner (node (b .term)) ++ (Parts ++ closing inner (node (b .term))) ≡ Text
+    all-text = sym (pieces names inner (b .term) (b .fits .datum))
 
-    pub open-stops : r ≡ P.Full → Walked ink (textIn names inner (b .term)) (length (encode (b .term))) at d₀ d S.Full
-    open-stops h = stopped (left-is (all-text _ refl) (left-full opened-left _ h))
+    pub open-stops : r ≡ P.Full → Walked ink Text size at d₀ d S.Full
+    open-stops h = stopped (left-is all-text (left-full o _ h))
 
-    -- a leaf has no parts, and nothing closes it
-    module _ (h : getD ws 0 0 < listCode) where
-      leaf-shaped : Shaped (node (b .term)) (shapeBy 2 0 0 false)
-      leaf-shaped =
-          let r = encodeAll (partsOf (b .term)) ++ b .rest in
-          leaf-shape (node (b .term)) r (omega (arith, code-is ws (node (b .term)) r (begins-node inner ws b)))
+    module _ (begun : ℕ) (h : r ≡ P.Done begun) where
+      after-parts : (to used : ℕ) (e f : List ℕ) (s : Step) → Left ink Parts begun d e (P.Done to) → used ≡ size → Walked ink (closing inner (node (b .term))) used to e f s → Walked ink Text size at d₀ f s
+      after-parts to used e f s l n (walked {to = end} m k) = walked (m ∙ n) (left-is all-text (left-then o begun h (left-then l to refl k)))
+      after-parts to used e f s l n (stopped k) = stopped (left-is all-text (left-then o begun h (left-then l to refl k)))
 
-      leaf-parts : partsOf (b .term) ≡ noneC
-      unfolding shapeBy
-      leaf-parts = none-left (partsOf (b .term)) (count-parts (b .term) ∙ sym (leaf-shaped .rest))
-
-      leaf-size : 2 ≡ length (encode (b .term))
-      unfolding shapeBy encode
-      leaf-size =
+      -- a node without parts
+      pub alone-walked : (shape : Shape) → ShapedAt ws shape → shape .parts ≡ 0 → begun ≤ length d → (f : List ℕ) (s : Step)
+          → Walked ink (closing inner (node (b .term))) (shape .own) begun d f s → Walked ink Text size at d₀ f s
+      unfolding partsText encode
+      alone-walked shape k z l f s w =
           let x = node (b .term) in
-          leaf-shaped .own ∙ sym (ap length (encode-parts (b .term) ∙ ap (λ (ts : Plains). nodeWords x ++ encodeAll ts) leaf-parts ∙ append-nil (nodeWords x)))
+          let i : Shaped x shape = k x (encodeAll (partsOf (b .term)) ++ b .rest) (begins-node inner ws b) in
+          let none : partsOf (b .term) ≡ noneC = none-left (partsOf (b .term)) (count-parts (b .term) ∙ sym (i .rest) ∙ z) in
+          let n : shape .own ≡ size = i .own ∙ sym (ap length (encode-parts (b .term) ∙ ap (λ (ts : Plains). nodeWords x ++ encodeAll ts) none ∙ append-nil (nodeWords x))) in
+          after-parts begun (shape .own) d f s (left-is (sym (ap (partsText names (isListNode x) false) none)) (left-none ink begun d l)) n w
 
-      leaf-text : opening names inner (node (b .term)) ≡ textIn names inner (b .term)
-      unfolding partsText
-      leaf-text =
-          let x = node (b .term) in
-          let p : Parts (isListNode x) ≡ [] = ap (partsText names (isListNode x) false) leaf-parts in
-          let c : [] ≡ Parts (isListNode x) ++ closing inner x = closes-leaf ws x _ (begins-node inner ws b) inner h ∙ ap (λ (z : List ℕ). z ++ closing inner x) (sym p) in
-          sym (append-nil (opening names inner x)) ∙ ap (λ (z : List ℕ). opening names inner x ++ z) c ∙ all-text _ refl
+      module _ (e : List ℕ) (s : Step) (c : (t : Plain) (z : List ℕ) → Fits names false t → ws ≡ encode t ++ z → Walked ink (rowText names t) (length (encode t)) begun d e s) where
+        row : Walked ink Parts size begun d e s
+        unfolding begins-loose
+        row = let l = begins-loose inner ws b in c (b .term) (b .rest) (l .fits) (b .words)
 
-      pub leaf-walked : (to : ℕ) → r ≡ P.Done to → Walked ink (textIn names inner (b .term)) (length (encode (b .term))) at d₀ d (S.Done 2 to)
-      leaf-walked to k = walked leaf-size (left-done (left-is leaf-text opened-left) to k)
+        pub parts-stop : s ≡ S.Full → Walked ink Text size at d₀ e S.Full
+        parts-stop k = stopped (left-is all-text (left-then o begun h (left-full (stopped-by row k) _ refl)))
 
-    module _ (opened : ℕ) (h : r ≡ P.Done opened) (q : Bool) (i : q ≡ isListNode (node (b .term))) (e : List ℕ) where
-      pub parts-stop : Left ink (Parts q) opened d e P.Full → Walked ink (textIn names inner (b .term)) (length (encode (b .term))) at d₀ e S.Full
-      parts-stop l = stopped (left-is (all-text q i) (left-then opened-left opened h (left-full l _ refl)))
+        module _ (used to : ℕ) (k : s ≡ S.Done used to) where
+          pub parts-room : to ≤ length e
+          parts-room = left-room (walked-by row used to k .1) to refl
 
-      module _ (to : ℕ) (l : Left ink (Parts q) opened d e (P.Done to)) (f : List ℕ) (s : Put) (c : (x : Node) (z : List ℕ) → nodeAt ws ≡ got x z → Left ink (closing inner x) to e f s) where
-        closed : Left ink (closing inner (node (b .term))) to e f s
-        closed = c (node (b .term)) _ (begins-node inner ws b)
-
-        pub close-stops : s ≡ P.Full → Walked ink (textIn names inner (b .term)) (length (encode (b .term))) at d₀ f S.Full
-        close-stops k = stopped (subst (λ (z : Put). Left ink (textIn names inner (b .term)) at d₀ f z) k (left-is (all-text q i) (left-then opened-left opened h (left-then l to refl closed))))
-
-        pub all-walked : (used end : ℕ) → used ≡ length (encode (b .term)) → s ≡ P.Done end → Walked ink (textIn names inner (b .term)) (length (encode (b .term))) at d₀ f (S.Done used end)
-        all-walked used end n k = walked n (subst (λ (z : Put). Left ink (textIn names inner (b .term)) at d₀ f z) k (left-is (all-text q i) (left-then opened-left opened h (left-then l to refl closed))))
+          pub all-walked : (f : List ℕ) (s′ : Step) → Walked ink (closing inner (node (b .term))) used to e f s′ → Walked ink Text size at d₀ f s′
+          all-walked f s′ w = after-parts to used e f s′ (walked-by row used to k .1) (walked-by row used to k .0) w

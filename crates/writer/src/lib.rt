@@ -23,6 +23,7 @@ ghost use Rattle.writer.specs.Wrote.{hasRoom, Measured, Wrote};
 use called::note;
 use core_term::Counted;
 use core_term::count_variables;
+use names::Pen;
 use term::Step;
 use term::term;
 
@@ -57,7 +58,11 @@ fn text_fits(words: &[u32], names: &[u8], out: &mut [u8], called: &[u32], direct
     if has_room(words, out) {
         return true;
     }
-    let Step::Done(used, length) = term(words, names, out, 0, false, false, called, direct) else {
+    let measuring = Pen {
+        ink: false,
+        direct: direct,
+    };
+    let Step::Done(used, length) = term(words, names, out, 0, false, called, measuring) else {
         return false;
     };
     true
@@ -78,7 +83,11 @@ fn write_called(
     if !text_fits(words, names, out, called, direct) {
         return Writing::NoRoom;
     }
-    let Step::Done(used, end) = term(words, names, out, 0, false, true, called, direct) else {
+    let laying = Pen {
+        ink: true,
+        direct: direct,
+    };
+    let Step::Done(used, end) = term(words, names, out, 0, false, called, laying) else {
         return Writing::NoRoom;
     };
     Writing::Written(end)

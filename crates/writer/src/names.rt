@@ -18,6 +18,18 @@ use crate::numbers::gap;
 use crate::numbers::numbered;
 use words::SLOT;
 
+// What stays the same on a walk: whether bytes are laid, and whether the names of variables stand in a table of their own.
+pub struct Pen {
+    pub ink: bool,
+    pub direct: bool,
+}
+
+// The variables of a lambda: the first, and their count.
+pub struct Bound {
+    pub first: usize,
+    pub count: usize,
+}
+
 fn size(n: u8) -> usize
     ensures { λ r. ⌜ r ≡ n ⌝ }
 {
@@ -59,41 +71,33 @@ pub fn variable(
     name(name_of(n, called, direct), names, out, b, ink)
 }
 
-// v0.t v1.u: count variables from first on, with a space before the first where one is wanted.
+// v0.t v1.u: the variables of a lambda, with a space before the first where one is wanted.
 pub fn formals(
     wanted: bool,
-    first: usize,
-    count: usize,
+    bound: Bound,
     names: &[u8],
     out: &mut [u8],
     at: usize,
-    ink: bool,
     called: &[u32],
-    direct: bool,
+    pen: Pen,
 ) -> usize
-    requires { ⌜ (at ≤ length (now out)) × (first + count < 18446744073709551616) × (Naming (saidBy (now names) direct (now called)) (first + count)) × (Tells direct (now called)) ⌝ }
-    ensures { λ r. ⌜ Left ink (formalsText (saidBy (now (names .entry)) direct (now (called .entry))) wanted first count) at (now (out .entry)) (now (out .exit)) (putOf r) ⌝ }
+    requires { ⌜ (at ≤ length (now out)) × (bound .first + bound .count < 18446744073709551616) × (Naming (saidBy (now names) (pen .direct) (now called)) (bound .first + bound .count)) × (Tells (pen .direct) (now called)) ⌝ }
+    ensures { λ r. ⌜ Left (pen .ink) (formalsText (saidBy (now (names .entry)) (pen .direct) (now (called .entry))) wanted (bound .first) (bound .count)) at (now (out .entry)) (now (out .exit)) (putOf r) ⌝ }
 {
-    if count == 0 {
+    if bound.count == 0 {
         return at;
     }
-    let a = gap(wanted, out, at, ink);
+    let a = gap(wanted, out, at, pen.ink);
     if a == FULL {
         return FULL;
     }
-    let b = variable(first, names, out, a, ink, called, direct);
+    let b = variable(bound.first, names, out, a, pen.ink, called, pen.direct);
     if b == FULL {
         return FULL;
     }
-    formals(
-        true,
-        first + 1,
-        count - 1,
-        names,
-        out,
-        b,
-        ink,
-        called,
-        direct,
-    )
+    let rest = Bound {
+        first: bound.first + 1,
+        count: bound.count - 1,
+    };
+    formals(true, rest, names, out, b, called, pen)
 }

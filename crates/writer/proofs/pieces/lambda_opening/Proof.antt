@@ -10,10 +10,6 @@ use mathlib.Core.Path.{sym, _∙_}
 use Rattle.writer.specs.LaidLaws.{place-room, place-full, place-then, left-is}
 use Rattle.writer.specs.PiecesLaws.{lambda-bytes}
 
-slice-aggregate-copy : tie.Need-slice-aggregate-copy
-slice-aggregate-copy c =
-    search needs
-
 copy-requires : tie.Need-copy-requires
 copy-requires c κs =
     c .before .before .before .before .before .pre .0
@@ -35,7 +31,7 @@ formals-requires c κs =
 
 same-length-2 : tie.Need-same-length-2
 same-length-2 c =
-    c .before .before .before .formals .kept .1 .1 .1 .1 .0 ∙ c .before .before .before .before .before .before .before .before .copy .kept .1 .0
+    c .before .before .before .formals .kept .1 .1 .1 .0 ∙ c .before .before .before .before .before .before .before .before .copy .kept .1 .0
 
 returns-2 : tie.Need-returns-2
 returns-2 c =
@@ -51,7 +47,7 @@ same-length-3 : tie.Need-same-length-3
 same-length-3 c =
     let at-copy2 = c .before .before in
     let at-formals = at-copy2 .before .before .before .before .before .before in
-    at-copy2 .copy2 .kept .1 .0 ∙ at-formals .formals .kept .1 .1 .1 .1 .0 ∙ at-formals .before .before .before .before .before .copy .kept .1 .0
+    at-copy2 .copy2 .kept .1 .0 ∙ at-formals .formals .kept .1 .1 .1 .0 ∙ at-formals .before .before .before .before .before .copy .kept .1 .0
 
 returns-3 : tie.Need-returns-3
 returns-3 c =
@@ -65,7 +61,7 @@ pub lambda-opening-spec : {M : Type 1} → statement M
 lambda-opening-spec =
     tie.close
     (tie.spec
-    slice-aggregate-copy
+    (λ c. search needs)  -- slice-aggregate-copy
     copy-requires
     same-length
     returns
