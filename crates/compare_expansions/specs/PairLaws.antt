@@ -3,7 +3,7 @@ use mathlib.Core.Path.{_≡_, refl, ap, subst, _∙_}
 use mathlib.Core.List.{List}
 use Prim.Native.Nat.{ℕ, _*_}
 use lib.ListN.{length, take}
-use Rattle.words.specs.Limits.{itemWordsLeast, nameBytesLeast, slotSize, filingFuel, filingWork, filingCore}
+use Rattle.words.specs.Limits.{itemWordsLeast, nameBytesLeast, slotSize, fuelMost}
 use Rattle.reading.specs.Elements.{Answer}
 use Rattle.reading.specs.Read.{Recipe, read, readElements}
 use Rattle.reader.specs.declared.Reading.{Reading}
@@ -13,7 +13,7 @@ use Rattle.expander.specs.declared.Expansion.{Expansion}
 use Rattle.expander.specs.declared.Expansion.the-variants as EV
 use Rattle.expander.specs.Service as E
 use Rattle.comparison.specs.Compare.{Verdict, refusedOn, compare}
-use Rattle.comparison_output.specs.Output.{verdictLine, printed, printedFor, outputOf, output}
+use Rattle.comparison_output.specs.Output.{verdictLine, printed, printedFor, outputOf, workMost, coreMost, output}
 use Rattle.program_laws.specs.ReadLaws.{refused-read, of-recipe}
 use Rattle.program_laws.specs.Printed.{Printed}
 use Rattle.program_laws.specs.RunLaws.{ran-accepted, ran-refused, term-front}
@@ -48,11 +48,11 @@ module _ (recipe items items′ names names′ : List ℕ) (r : Reading) (s : R.
   unfolding outputOf
   compared-refused g h = rw (refused-read recipe items items′ names names′ r s g h .1)
 
--- ---- the filing program's tables
+-- ---- the largest tables
 
 pub output-told : (recipe text : List ℕ) (items names work core words bytes : ℕ) (x out out′ : List ℕ) (n : ℕ)
-    → x ≡ outputOf filingFuel work core (read recipe items names) (readElements 1 text words bytes)
-    → items ≡ itemWordsLeast → names ≡ nameBytesLeast → work ≡ filingWork → core ≡ filingCore → words ≡ itemWordsLeast → bytes ≡ nameBytesLeast
+    → x ≡ outputOf fuelMost work core (read recipe items names) (readElements 1 text words bytes)
+    → items ≡ itemWordsLeast → names ≡ nameBytesLeast → work ≡ workMost → core ≡ coreMost → words ≡ itemWordsLeast → bytes ≡ nameBytesLeast
     → Printed x out out′ n → Printed (output recipe text) out out′ n
 unfolding output
 output-told recipe text items names work core words bytes x out out′ n e i a k c w b p =

@@ -1,7 +1,7 @@
 // A recipe's text and a supplier's, by way of six lent tables.
 ghost use mathlib.Core.Path.{_≡_};
 ghost use lib.ListN.{length};
-ghost use Rattle.words.specs.Limits.{filingFuel};
+ghost use Rattle.words.specs.Limits.{fuelMost};
 ghost use Rattle.reading.specs.Read.{read, readElements};
 ghost use Rattle.comparison_output.specs.Output.{verdictLine, printedFor, outputOf};
 ghost use Rattle.supplier.specs.Service.{verdictOf};
@@ -11,7 +11,7 @@ use reader::Reading;
 use reader::read;
 use supplier::Comparison;
 use supplier::compare;
-use words::FILING_FUEL;
+use words::FUEL;
 use words::ITEM;
 use words::SLOT;
 use writer::numbers::wide;
@@ -26,9 +26,9 @@ fn held(
     text_items: &mut [u32],
     text_names: &mut [u8],
 ) -> Comparison
-    ensures { λ r. ⌜ verdictLine (verdictOf r) ≡ printedFor (now (items .entry)) (now (names .entry)) filingFuel (length (now (work .entry))) (length (now (core .entry))) (readElements 1 (now (text .entry)) (length (now («text_items» .entry))) (length (now («text_names» .entry)))) ⌝ }
+    ensures { λ r. ⌜ verdictLine (verdictOf r) ≡ printedFor (now (items .entry)) (now (names .entry)) fuelMost (length (now (work .entry))) (length (now (core .entry))) (readElements 1 (now (text .entry)) (length (now («text_items» .entry))) (length (now («text_names» .entry)))) ⌝ }
 {
-    match expand(items, FILING_FUEL, work, core) {
+    match expand(items, FUEL, work, core) {
         Expansion::Accepted {
             steps: _,
             sum: _,
@@ -56,7 +56,7 @@ pub fn compared(
     text_items: &mut [u32],
     text_names: &mut [u8],
 ) -> Comparison
-    ensures { λ r. ⌜ verdictLine (verdictOf r) ≡ outputOf filingFuel (length (now (work .entry))) (length (now (core .entry))) (read (now (recipe .entry)) (length (now (items .entry))) (length (now (names .entry)))) (readElements 1 (now (text .entry)) (length (now («text_items» .entry))) (length (now («text_names» .entry)))) ⌝ }
+    ensures { λ r. ⌜ verdictLine (verdictOf r) ≡ outputOf fuelMost (length (now (work .entry))) (length (now (core .entry))) (read (now (recipe .entry)) (length (now (items .entry))) (length (now (names .entry)))) (readElements 1 (now (text .entry)) (length (now («text_items» .entry))) (length (now («text_names» .entry)))) ⌝ }
 {
     match read(recipe, items, names) {
         Reading::Read { items: i, names: n } => {

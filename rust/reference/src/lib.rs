@@ -20,7 +20,7 @@ pub const BASE_NAMES: [&str; 8] = [
     "quote", "if", "lambda", "let-syntax", "letrec-syntax", "syntax-rules", "...", "_",
 ];
 
-/// Words of the work and core tables that the programs lend.
+/// Words of the work and core tables that the filing program lends.
 const FILING_WORK: usize = 16_368;
 const FILING_CORE: usize = 2_046;
 
@@ -40,12 +40,17 @@ pub fn file(text: &[u8], fuel: u32) -> String {
     }
 }
 
-/// What the program that holds a supplier's text against a recipe prints, in the same tables.
-pub fn compare(recipe: &[u8], text: &[u8], fuel: u32) -> String {
+/// The most fuel, and the most items of a recipe.
+const FUEL: u32 = 8_192;
+const ITEMS: usize = 4_096;
+
+/// What the program that holds a supplier's text against a recipe prints, with the most fuel and the largest tables.
+pub fn compare(recipe: &[u8], text: &[u8]) -> String {
     let answer = || {
         let recipe = text::read(recipe)?;
         let items = recipe.words();
-        let run = expand::run(&items, fuel, FILING_WORK, FILING_CORE);
+        let (work, core) = expand::table_words(ITEMS, FUEL);
+        let run = expand::run(&items, FUEL, work, core);
         run.outcome?;
         let (mut items2, mut names2) = (vec![0; 12_288], vec![0; 65_536]);
         supplier::compare(&items, &recipe.name_table(), &run.core, text, &mut items2, &mut names2)
