@@ -1,5 +1,5 @@
 // The comparing program: the recipe in the file that its first argument names is expanded, with the most fuel and the largest tables, the
-// supplier's text in the file that its second names is held against the term, and yes, no, or refused and the ground is printed.
+// supplier's text in the file that its second names is held against the term, and yes, no, or refused, the ground and whose text it is about is printed.
 ghost use Prim.Native.Nat.{_≤_};
 ghost use lib.ListN.{length};
 ghost use Rattle.comparison_output.specs.Output.{output};
@@ -28,7 +28,7 @@ const WORK: usize = WORK_RATE * (MOST_ITEMS + FUEL as usize);
 const CORE: usize = CORE_RATE * (MOST_ITEMS + FUEL as usize);
 
 // Bytes of the longest output. specs/Line.antt has the same number.
-const LINE: usize = 19;
+const LINE: usize = 26;
 
 // Answered for a file that cannot be read: no buffer has so many bytes.
 const UNREAD: usize = 18446744073709551615;

@@ -11,16 +11,26 @@ use Rattle.comparison.specs.Compare as C
 use Rattle.comparison.specs.Compare.{Verdict, yes, no, comparison}
 use Rattle.output.specs.Output.{line}
 
--- yes, no, or refused and the ground
+-- refused, the ground, and whose text it is about
+unfoldable pub refusedLine : (ground : ℕ) (whose : List ℕ) → List ℕ
+refusedLine ground whose = line (bytes "refused" ∷ decimal ground ∷ whose ∷ [])
+
+unfoldable pub recipeRefused : (ground : ℕ) → List ℕ
+unfolding refusedLine
+recipeRefused ground = refusedLine ground (bytes "recipe")
+
+-- yes, no, or refused about the supplier's text
 unfoldable pub verdictLine : Verdict → List ℕ
+unfolding refusedLine
 verdictLine yes = line (bytes "yes" ∷ [])
 verdictLine no = line (bytes "no" ∷ [])
-verdictLine (C.refusedOn ground) = line (bytes "refused" ∷ decimal ground ∷ [])
+verdictLine (C.refusedOn ground) = refusedLine ground (bytes "text")
 
--- the recipe's run, with the answer of comparing its words; no run is unfinished (`run-finished`)
+-- the recipe's run, with the answer of comparing its words, which after an accepted run refuses the text alone (`text-alone`); no run is
+-- unfinished (`run-finished`)
 unfoldable pub printed : Outcome → Verdict → List ℕ
 printed accepted v = verdictLine v
-printed (refusedOn stage ground) v = verdictLine (C.refusedOn ground)
+printed (refusedOn stage ground) v = recipeRefused ground
 printed unfinished v = []
 
 -- items and names of a recipe, with fuel, the lengths of the work and core tables, and the answer of reading the text
@@ -31,7 +41,7 @@ printedFor items names fuel work core text =
 
 -- the answers of reading both texts; the recipe goes first
 unfoldable pub outputOf : (fuel work core : ℕ) (recipe text : Answer Recipe) → List ℕ
-outputOf fuel work core (refusedFor stage ground) text = verdictLine (C.refusedOn ground)
+outputOf fuel work core (refusedFor stage ground) text = recipeRefused ground
 outputOf fuel work core (got r) text = printedFor (itemWords r) (nameBytes r) fuel work core text
 
 -- the lengths of the work and core tables that any recipe can be expanded in, with the most fuel

@@ -41,14 +41,14 @@ fn program() {
         assert_eq!(printed(recipe.as_bytes(), text.as_bytes()), output, "{recipe}\n{text}");
     }
     for (recipe, text, answer) in pairs::examples() {
-        assert_eq!(printed(&recipe, &text), answer + "\n", "{}", String::from_utf8_lossy(&text));
+        assert_eq!(printed(&recipe, &text), pairs::line(&answer), "{}", String::from_utf8_lossy(&text));
     }
     assert_eq!(printed(eighty_macros().as_bytes(), b"((lambda (t) (if t t ((lambda (t) (if t t 2)) 1))) 0)"), "yes\n");
     let spaces = |n: usize| [&b" ".repeat(n)[..], b"5"].concat();
     assert_eq!(printed(b"() 5", &spaces(65_534)), "yes\n");
-    assert_eq!(printed(b"() 5", &spaces(65_535)), "refused 2\n");
-    assert_eq!(printed(b"() 5", &spaces(200_000)), "refused 2\n");
-    assert_eq!(printed(&[&spaces(65_535)[..], b" 5"].concat(), b"5"), "refused 2\n");
+    assert_eq!(printed(b"() 5", &spaces(65_535)), "refused 2 text\n");
+    assert_eq!(printed(b"() 5", &spaces(200_000)), "refused 2 text\n");
+    assert_eq!(printed(&[&spaces(65_535)[..], b" 5"].concat(), b"5"), "refused 2 recipe\n");
     let recipe = file("recipe", b"() 5");
     let missing = std::env::temp_dir().join("grebetallboy-no-such-file");
     let folder = std::env::temp_dir();

@@ -46,18 +46,20 @@ const ITEMS: usize = 4_096;
 
 /// What the program that holds a supplier's text against a recipe prints, with the most fuel and the largest tables.
 pub fn compare(recipe: &[u8], text: &[u8]) -> String {
-    let answer = || {
+    let expanded = || {
         let recipe = text::read(recipe)?;
-        let items = recipe.words();
         let (work, core) = expand::table_words(ITEMS, FUEL);
-        let run = expand::run(&items, FUEL, work, core);
-        run.outcome?;
-        let (mut items2, mut names2) = (vec![0; 12_288], vec![0; 65_536]);
-        supplier::compare(&items, &recipe.name_table(), &run.core, text, &mut items2, &mut names2)
+        let run = expand::run(&recipe.words(), FUEL, work, core);
+        run.outcome.map(|()| (recipe, run.core))
     };
-    match answer() {
+    let (recipe, core) = match expanded() {
+        Ok(expansion) => expansion,
+        Err(ground) => return format!("refused {ground} recipe\n"),
+    };
+    let (mut items2, mut names2) = (vec![0; 12_288], vec![0; 65_536]);
+    match supplier::compare(&recipe.words(), &recipe.name_table(), &core, text, &mut items2, &mut names2) {
         Ok(true) => "yes\n".to_string(),
         Ok(false) => "no\n".to_string(),
-        Err(ground) => format!("refused {ground}\n"),
+        Err(ground) => format!("refused {ground} text\n"),
     }
 }

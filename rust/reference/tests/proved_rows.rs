@@ -35,7 +35,7 @@ fn proved_pairs() {
     let rows = pairs::proved();
     assert!(rows.len() > 20, "{} rows", rows.len());
     for (recipe, text, answer) in rows {
-        assert_eq!(compared(recipe.as_bytes(), text.as_bytes()), answer + "\n", "{recipe}\n{text}");
+        assert_eq!(compared(recipe.as_bytes(), text.as_bytes()), pairs::line(&answer), "{recipe}\n{text}");
     }
     let rows = pairs::printed();
     assert!(rows.len() > 10, "{} rows", rows.len());
@@ -54,6 +54,6 @@ fn examples() {
     let pairs = pairs::examples();
     assert!(["yes", "no"].iter().all(|answer| pairs.iter().any(|pair| pair.2 == *answer)));
     for (recipe, text, answer) in pairs {
-        assert_eq!(compared(&recipe, &text), answer + "\n", "{}", String::from_utf8_lossy(&text));
+        assert_eq!(compared(&recipe, &text), pairs::line(&answer), "{}", String::from_utf8_lossy(&text));
     }
 }
