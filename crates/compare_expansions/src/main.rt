@@ -1,5 +1,5 @@
-// The comparing program: the recipe in the file that its first argument names is expanded, with document 01's fuel and tables, the
-// supplier's text in the file that its second names is held against the term, and yes, no, or refused and the ground is printed.
+// The comparing program: the recipe in the file that its first argument names is expanded, with the most fuel and the largest tables, the
+// supplier's text in the file that its second names is held against the term, and yes, no, or refused, the ground and whose text it is about is printed.
 ghost use Prim.Native.Nat.{_≤_};
 ghost use lib.ListN.{length};
 ghost use Rattle.comparison_output.specs.Output.{output};
@@ -13,13 +13,22 @@ use libc::STDERR_FILENO;
 use libc::STDOUT_FILENO;
 use line::line;
 use pair::compared;
-use words::FILING_CORE;
-use words::FILING_WORK;
+use words::CORE_RATE;
+use words::FUEL;
 use words::ITEM_WORDS;
+use words::MOST_ITEMS;
 use words::NAME_BYTES;
+use words::WORK_RATE;
+
+// Words of the tables that any recipe can be expanded in, 294,912 and 36,864. With the two texts and the tables of reading they are
+// 1.7 million bytes of stack; beside them expansion takes at most 6.6 million (include/grebetallboy.h), which 8 MiB have room for. The
+// term's words are compared when expansion has given its stack back.
+const WORK: usize = WORK_RATE * (MOST_ITEMS + FUEL as usize);
+
+const CORE: usize = CORE_RATE * (MOST_ITEMS + FUEL as usize);
 
 // Bytes of the longest output. specs/Line.antt has the same number.
-const LINE: usize = 19;
+const LINE: usize = 26;
 
 // Answered for a file that cannot be read: no buffer has so many bytes.
 const UNREAD: usize = 18446744073709551615;
@@ -32,12 +41,12 @@ fn name_table() -> [u8; NAME_BYTES] {
     [0; NAME_BYTES]
 }
 
-fn work_table() -> [u32; FILING_WORK] {
-    [0; FILING_WORK]
+fn work_table() -> [u32; WORK] {
+    [0; WORK]
 }
 
-fn core_table() -> [u32; FILING_CORE] {
-    [0; FILING_CORE]
+fn core_table() -> [u32; CORE] {
+    [0; CORE]
 }
 
 // The output of a recipe's text and a supplier's, at the beginning of out; its length. Any output fits.

@@ -1,17 +1,17 @@
 // A recipe's text and a supplier's, by way of six lent tables.
 ghost use mathlib.Core.Path.{_≡_};
 ghost use lib.ListN.{length};
-ghost use Rattle.words.specs.Limits.{filingFuel};
+ghost use Rattle.words.specs.Limits.{fuelMost};
 ghost use Rattle.reading.specs.Read.{read, readElements};
-ghost use Rattle.comparison_output.specs.Output.{verdictLine, printedFor, outputOf};
-ghost use Rattle.supplier.specs.Service.{verdictOf};
+ghost use Rattle.comparison_output.specs.Output.{printedFor, outputOf};
+ghost use Rattle.compare_expansions.specs.Line.{lineOf};
+use crate::line::Answer;
 use expander::Expansion;
 use expander::expand;
 use reader::Reading;
 use reader::read;
-use supplier::Comparison;
 use supplier::compare;
-use words::FILING_FUEL;
+use words::FUEL;
 use words::ITEM;
 use words::SLOT;
 use writer::numbers::wide;
@@ -25,23 +25,24 @@ fn held(
     core: &mut [u32],
     text_items: &mut [u32],
     text_names: &mut [u8],
-) -> Comparison
-    ensures { λ r. ⌜ verdictLine (verdictOf r) ≡ printedFor (now (items .entry)) (now (names .entry)) filingFuel (length (now (work .entry))) (length (now (core .entry))) (readElements 1 (now (text .entry)) (length (now («text_items» .entry))) (length (now («text_names» .entry)))) ⌝ }
+) -> Answer
+    ensures { λ r. ⌜ lineOf r ≡ printedFor (now (items .entry)) (now (names .entry)) fuelMost (length (now (work .entry))) (length (now (core .entry))) (readElements 1 (now (text .entry)) (length (now («text_items» .entry))) (length (now («text_names» .entry)))) ⌝ }
 {
-    match expand(items, FILING_FUEL, work, core) {
+    match expand(items, FUEL, work, core) {
         Expansion::Accepted {
             steps: _,
             sum: _,
             length: l,
         } => {
             let end = wide(l);
-            compare(items, names, &core[..end], text, text_items, text_names)
+            let about = compare(items, names, &core[..end], text, text_items, text_names);
+            Answer::Text(about)
         }
         Expansion::Refused {
             ground: g,
             steps: _,
             sum: _,
-        } => Comparison::Refused(g),
+        } => Answer::Recipe(g),
     }
 }
 
@@ -55,8 +56,8 @@ pub fn compared(
     core: &mut [u32],
     text_items: &mut [u32],
     text_names: &mut [u8],
-) -> Comparison
-    ensures { λ r. ⌜ verdictLine (verdictOf r) ≡ outputOf filingFuel (length (now (work .entry))) (length (now (core .entry))) (read (now (recipe .entry)) (length (now (items .entry))) (length (now (names .entry)))) (readElements 1 (now (text .entry)) (length (now («text_items» .entry))) (length (now («text_names» .entry)))) ⌝ }
+) -> Answer
+    ensures { λ r. ⌜ lineOf r ≡ outputOf fuelMost (length (now (work .entry))) (length (now (core .entry))) (read (now (recipe .entry)) (length (now (items .entry))) (length (now (names .entry)))) (readElements 1 (now (text .entry)) (length (now («text_items» .entry))) (length (now («text_names» .entry)))) ⌝ }
 {
     match read(recipe, items, names) {
         Reading::Read { items: i, names: n } => {
@@ -72,6 +73,6 @@ pub fn compared(
                 text_names,
             )
         }
-        Reading::Refused(ground) => Comparison::Refused(ground),
+        Reading::Refused(ground) => Answer::Recipe(ground),
     }
 }

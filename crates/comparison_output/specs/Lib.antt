@@ -1,3 +1,4 @@
 -- From a recipe's text and a supplier's to the whole output of the comparing program.
 pub mod Output
 pub mod Rows
+pub mod TextLaws

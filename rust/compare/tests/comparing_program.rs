@@ -28,19 +28,27 @@ fn printed(recipe: &[u8], text: &[u8]) -> String {
     out
 }
 
+/// A recipe that begins with eighty pasted macros, in five forms of sixteen, each with a private t; the first and the last are used.
+fn eighty_macros() -> String {
+    let rules = |i: usize| format!("(m{i} (syntax-rules () ((_ a b) ((lambda (t) (if t t b)) a))))");
+    let form = |k: usize| format!("(let-syntax ({}) ", (16 * k..16 * (k + 1)).map(rules).collect::<String>());
+    format!("() {}(m0 0 (m79 1 2)){}", (0..5).map(form).collect::<String>(), ")".repeat(5))
+}
+
 #[test]
 fn program() {
     for (recipe, text, output) in pairs::printed() {
         assert_eq!(printed(recipe.as_bytes(), text.as_bytes()), output, "{recipe}\n{text}");
     }
     for (recipe, text, answer) in pairs::examples() {
-        assert_eq!(printed(&recipe, &text), answer + "\n", "{}", String::from_utf8_lossy(&text));
+        assert_eq!(printed(&recipe, &text), pairs::line(&answer), "{}", String::from_utf8_lossy(&text));
     }
+    assert_eq!(printed(eighty_macros().as_bytes(), b"((lambda (t) (if t t ((lambda (t) (if t t 2)) 1))) 0)"), "yes\n");
     let spaces = |n: usize| [&b" ".repeat(n)[..], b"5"].concat();
     assert_eq!(printed(b"() 5", &spaces(65_534)), "yes\n");
-    assert_eq!(printed(b"() 5", &spaces(65_535)), "refused 2\n");
-    assert_eq!(printed(b"() 5", &spaces(200_000)), "refused 2\n");
-    assert_eq!(printed(&[&spaces(65_535)[..], b" 5"].concat(), b"5"), "refused 2\n");
+    assert_eq!(printed(b"() 5", &spaces(65_535)), "refused 2 text\n");
+    assert_eq!(printed(b"() 5", &spaces(200_000)), "refused 2 text\n");
+    assert_eq!(printed(&[&spaces(65_535)[..], b" 5"].concat(), b"5"), "refused 2 recipe\n");
     let recipe = file("recipe", b"() 5");
     let missing = std::env::temp_dir().join("grebetallboy-no-such-file");
     let folder = std::env::temp_dir();

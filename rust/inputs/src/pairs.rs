@@ -121,6 +121,12 @@ pub fn proved() -> Vec<(String, String, String)> {
     rows(&spec("comparison/specs/Rows.antt"), row)
 }
 
+/// What the comparing program prints where the recipe is accepted and the comparison answers so.
+pub fn line(answer: &str) -> String {
+    let whose = if answer.starts_with("refused") { " text" } else { "" };
+    format!("{answer}{whose}\n")
+}
+
 /// The pairs whose whole output is proved: `row recipe "text" "output"`.
 pub fn printed() -> Vec<(String, String, String)> {
     let row = |(recipe, text, rest): (String, String, &str)| (recipe, text, quoted(rest).expect("an output").0);

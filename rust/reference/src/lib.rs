@@ -20,7 +20,7 @@ pub const BASE_NAMES: [&str; 8] = [
     "quote", "if", "lambda", "let-syntax", "letrec-syntax", "syntax-rules", "...", "_",
 ];
 
-/// Words of the work and core tables that the programs lend.
+/// Words of the work and core tables that the filing program lends.
 const FILING_WORK: usize = 16_368;
 const FILING_CORE: usize = 2_046;
 
@@ -40,19 +40,26 @@ pub fn file(text: &[u8], fuel: u32) -> String {
     }
 }
 
-/// What the program that holds a supplier's text against a recipe prints, in the same tables.
-pub fn compare(recipe: &[u8], text: &[u8], fuel: u32) -> String {
-    let answer = || {
+/// The most fuel, and the most items of a recipe.
+const FUEL: u32 = 8_192;
+const ITEMS: usize = 4_096;
+
+/// What the program that holds a supplier's text against a recipe prints, with the most fuel and the largest tables.
+pub fn compare(recipe: &[u8], text: &[u8]) -> String {
+    let expanded = || {
         let recipe = text::read(recipe)?;
-        let items = recipe.words();
-        let run = expand::run(&items, fuel, FILING_WORK, FILING_CORE);
-        run.outcome?;
-        let (mut items2, mut names2) = (vec![0; 12_288], vec![0; 65_536]);
-        supplier::compare(&items, &recipe.name_table(), &run.core, text, &mut items2, &mut names2)
+        let (work, core) = expand::table_words(ITEMS, FUEL);
+        let run = expand::run(&recipe.words(), FUEL, work, core);
+        run.outcome.map(|()| (recipe, run.core))
     };
-    match answer() {
+    let (recipe, core) = match expanded() {
+        Ok(expansion) => expansion,
+        Err(ground) => return format!("refused {ground} recipe\n"),
+    };
+    let (mut items2, mut names2) = (vec![0; 12_288], vec![0; 65_536]);
+    match supplier::compare(&recipe.words(), &recipe.name_table(), &core, text, &mut items2, &mut names2) {
         Ok(true) => "yes\n".to_string(),
         Ok(false) => "no\n".to_string(),
-        Err(ground) => format!("refused {ground}\n"),
+        Err(ground) => format!("refused {ground} text\n"),
     }
 }

@@ -24,18 +24,23 @@ fn outputs() {
     }
 }
 
+/// What is printed for a pair.
+fn compared(recipe: &[u8], text: &[u8]) -> String {
+    in_stack(64 << 20, || compare(recipe, text))
+}
+
 /// Recipes with a supplier's text.
 #[test]
 fn proved_pairs() {
     let rows = pairs::proved();
     assert!(rows.len() > 20, "{} rows", rows.len());
     for (recipe, text, answer) in rows {
-        assert_eq!(compare(recipe.as_bytes(), text.as_bytes(), 512), answer + "\n", "{recipe}\n{text}");
+        assert_eq!(compared(recipe.as_bytes(), text.as_bytes()), pairs::line(&answer), "{recipe}\n{text}");
     }
     let rows = pairs::printed();
     assert!(rows.len() > 10, "{} rows", rows.len());
     for (recipe, text, output) in rows {
-        assert_eq!(compare(recipe.as_bytes(), text.as_bytes(), 512), output, "{recipe}\n{text}");
+        assert_eq!(compared(recipe.as_bytes(), text.as_bytes()), output, "{recipe}\n{text}");
     }
 }
 
@@ -49,6 +54,6 @@ fn examples() {
     let pairs = pairs::examples();
     assert!(["yes", "no"].iter().all(|answer| pairs.iter().any(|pair| pair.2 == *answer)));
     for (recipe, text, answer) in pairs {
-        assert_eq!(compare(&recipe, &text, 512), answer + "\n", "{}", String::from_utf8_lossy(&text));
+        assert_eq!(compared(&recipe, &text), pairs::line(&answer), "{}", String::from_utf8_lossy(&text));
     }
 }

@@ -47,7 +47,7 @@ fn of_the_request() {
     let rows = pairs::request();
     assert!(rows.len() > 15, "{} rows", rows.len());
     for (name, recipe, text, answer) in rows {
-        assert_eq!(reference::compare(recipe.as_bytes(), text.as_bytes(), 512), answer + "\n", "{name}: {recipe}\n{text}");
+        assert_eq!(reference::compare(recipe.as_bytes(), text.as_bytes()), pairs::line(&answer), "{name}: {recipe}\n{text}");
     }
 }
 

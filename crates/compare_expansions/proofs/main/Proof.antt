@@ -16,7 +16,8 @@ use lib.Seq.{length-take-le}
 
 slice-aggregate-print : tie.Need-slice-aggregate-print
 slice-aggregate-print c =
-    let h : c .before .before .before .before .before .before .before .before .load .result ≤ length (c .before .before .before .before .before .before .before .before .load .last .1 .0) = search needs in sym (length-take-le _ _ h)
+    let load′ = c .before .before .before .before .before .before .before .before .load in
+    let h : load′ .result ≤ length (load′ .last .1 .0) = search needs in sym (length-take-le _ _ h)
 
 slice-aggregate-print-2 : tie.Need-slice-aggregate-print-2
 slice-aggregate-print-2 c =

@@ -14,7 +14,8 @@ use Rattle.compare_expansions.specs.PairLaws.{output-told}
 
 returns : tie.Need-returns
 returns c =
-    output-told _ _ _ _ _ _ _ _ _ _ _ _ (c .before .before .before .before .before .before .before .before .before .before .compared .ensures) (search needs) (search needs) (search needs) (search needs) (search needs) (search needs) (c .before .before .line .ensures)
+    let at-line = c .before .before in
+    output-told _ _ _ _ _ _ _ _ _ _ _ _ (at-line .before .before .before .before .before .before .before .before .compared .ensures) (search needs) (search needs) (search needs) (search needs) (search needs) (search needs) (at-line .line .ensures)
 
 pub output-spec : {M : Type 1} → statement M
 output-spec =

@@ -11,17 +11,20 @@ use native.Mathlib.Omega.{arith}
 use Prim.Native.Nat.{_*_, _≤_}
 use lib.ListN.{length}
 use lib.Seq.{length-take-le}
-use Rattle.supplier.specs.Service.{verdictOf}
 use Rattle.program_laws.specs.ReadLaws.{items-front, names-front}
 use Rattle.compare_expansions.specs.PairLaws.{compared-read, compared-refused}
 
 mul-words : tie.Need-mul-words
 mul-words c =
-    let h : 3 * c .before .i .given .0 .0 ≤ length (c .before .before .before .before .before .before .before .read .last .1 .0) = items-front _ _ _ _ _ _ (c .before .before .before .before .before .before .before .read .ensures) _ _ (c .before .i .given .1) .0 in record { fits = omega arith }
+    let h : 3 * c .before .i .given .0 .0 ≤ length (c .before .before .before .before .before .before .before .read .last .1 .0) =
+    items-front _ _ _ _ _ _ (c .before .before .before .before .before .before .before .read .ensures) _ _ (c .before .i .given .1) .0 in
+    record { fits = omega arith }
 
 mul-bytes : tie.Need-mul-bytes
 mul-bytes c =
-    let h : 64 * c .before .i .given .0 .1 .0 ≤ length (c .before .before .before .before .before .before .before .read .last .1 .1 .0) = names-front _ _ _ _ _ _ (c .before .before .before .before .before .before .before .read .ensures) _ _ (c .before .i .given .1) .0 in record { fits = omega arith }
+    let h : 64 * c .before .i .given .0 .1 .0 ≤ length (c .before .before .before .before .before .before .before .read .last .1 .1 .0) =
+    names-front _ _ _ _ _ _ (c .before .before .before .before .before .before .before .read .ensures) _ _ (c .before .i .given .1) .0 in
+    record { fits = omega arith }
 
 slice-reshare-prefix-held : tie.Need-slice-reshare-prefix-held
 slice-reshare-prefix-held c =
@@ -37,14 +40,16 @@ slice-reshare-prefix-held-2 c =
 
 slice-aggregate-held-2 : tie.Need-slice-aggregate-held-2
 slice-aggregate-held-2 c =
-    sym (length-take-le _ _ (names-front _ _ _ _ _ _ (c .before .before .before .before .before .before .before .before .before .read .ensures) _ _ (c .before .before .before .i .given .1) .0))
+    let at-i = c .before .before .before in
+    sym (length-take-le _ _ (names-front _ _ _ _ _ _ (at-i .before .before .before .before .before .before .read .ensures) _ _ (at-i .i .given .1) .0))
 
 returns : tie.Need-returns
 returns c =
-    compared-read _ _ _ _ _ _ (c .before .before .before .before .before .before .before .before .before .before .before .before .before .before .before .before .before .before .before .before .before .before .read .ensures) _ _ _ _ _ _ (c .before .before .before .before .before .before .before .before .before .before .before .before .before .before .before .before .i .given .1) _ (c .before .before .before .before .before .before .before .before .held .ensures)
+    let at-held = c .before .before .before .before .before .before .before .before in
+    let at-i = at-held .before .before .before .before .before .before .before .before in
+    compared-read _ _ _ _ _ _ (at-i .before .before .before .before .before .before .read .ensures) _ _ _ _ _ _ (at-i .i .given .1) _ (at-held .held .ensures)
 
 returns-2 : tie.Need-returns-2
-unfolding verdictOf
 returns-2 c =
     compared-refused _ _ _ _ _ _ (c .before .before .before .before .before .before .before .read .ensures) _ _ _ _ _ (c .before .ground .given .1)
 

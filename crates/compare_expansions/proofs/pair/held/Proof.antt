@@ -9,7 +9,6 @@ use Rattle.supplier.proofs.compare.Reads as compare-reads
 use Rattle.writer.proofs.numbers.wide.Reads as wide-reads
 use mathlib.Core.Path.{sym}
 use lib.Seq.{length-take-le}
-use Rattle.supplier.specs.Service.{verdictOf}
 use Rattle.program_laws.specs.RunLaws.{term-front}
 use Rattle.compare_expansions.specs.PairLaws.{held-accepted, held-refused}
 
@@ -19,14 +18,18 @@ slice-reshare-prefix-compare c =
 
 slice-aggregate-compare : tie.Need-slice-aggregate-compare
 slice-aggregate-compare c =
-    sym (length-take-le _ _ (term-front _ _ _ _ _ _ _ (c .before .before .before .before .before .before .before .before .before .expand .ensures) _ _ _ (c .before .before .before .l .given .1) _ (c .before .wide .ensures) .0))
+    let at-wide = c .before in
+    let at-l = at-wide .before .before in
+    sym (length-take-le _ _ (term-front _ _ _ _ _ _ _ (at-l .before .before .before .before .before .before .expand .ensures) _ _ _ (at-l .l .given .1) _ (at-wide .wide .ensures) .0))
 
 returns : tie.Need-returns
 returns c =
-    held-accepted _ _ _ _ _ _ _ (c .before .before .before .before .before .before .before .before .before .before .before .before .before .before .before .before .expand .ensures) _ _ _ (c .before .before .before .before .before .before .before .before .before .before .l .given .1) _ (c .before .before .before .before .before .before .before .before .wide .ensures) _ _ _ _ _ (c .before .before .before .before .compare .ensures .verdict)
+    let at-compare = c .before .before .before .before in
+    let at-wide = at-compare .before .before .before .before in
+    let at-l = at-wide .before .before in
+    held-accepted _ _ _ _ _ _ _ (at-l .before .before .before .before .before .before .expand .ensures) _ _ _ (at-l .l .given .1) _ (at-wide .wide .ensures) _ _ _ _ _ (at-compare .compare .ensures .verdict)
 
 returns-2 : tie.Need-returns-2
-unfolding verdictOf
 returns-2 c =
     held-refused _ _ _ _ _ _ _ (c .before .before .before .before .before .before .before .expand .ensures) _ _ _ (c .before .g .given .1) _ _
 
