@@ -21,8 +21,9 @@ use words::NAME_BYTES;
 use words::WORK_RATE;
 
 // Words of the tables that any recipe can be expanded in, 294,912 and 36,864. With the two texts and the tables of reading they are
-// 1.7 million bytes of stack; beside them expansion takes at most 6.6 million (include/grebetallboy.h), which 8 MiB have room for. The
-// term's words are compared when expansion has given its stack back.
+// 1.7 million bytes of stack; beside them expansion takes at most 6.6 million (include/grebetallboy.h), which 8 MiB have room for. When
+// expansion has given its stack back, comparing goes as deep as the term, at most 64 levels of the recipe and one for each two of the 8,192
+// items that macros make.
 const WORK: usize = WORK_RATE * (MOST_ITEMS + FUEL as usize);
 
 const CORE: usize = CORE_RATE * (MOST_ITEMS + FUEL as usize);
