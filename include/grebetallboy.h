@@ -53,7 +53,8 @@ uint32_t grebetallboy_expand(const uint32_t *items, size_t items_count, uint32_t
                              uint32_t *core, size_t core_count, uint64_t *counts, size_t counts_count);
 
 /* Writes the text of a core term, with so many operations (256 where none is known). A variable is written with its name, as v0.t;
- * where a term has more than 6,144 variables, each of its names is looked for in the words, and the time is no longer linear. Accepted: counts has its length, then 0, 0. */
+ * where a term has more than 6,144 variables, each of its names is looked for in the words, and the time is no longer linear. Testing the
+ * words, here and in comparing, goes through them once for every 4,096 variables. Accepted: counts has its length, then 0, 0. */
 uint32_t grebetallboy_write(const uint32_t *words, size_t words_count, uint32_t operations, const uint8_t *names,
                             size_t names_count, uint8_t *out, size_t out_count, uint64_t *counts, size_t counts_count);
 
