@@ -1,4 +1,4 @@
--- A core term's nodes: a code and the words that stand with it, as document 01's 'The core term' lists them.
+-- A core term's nodes: a code and the words that stand with it, as document 01's 'The core term' lists them; request L1 has the decimal's, request L5 a lambda's names.
 -- nodeWords and nodeAt are the two ways between a node and its words; everything else goes by nodes.
 use mathlib.Core.Bool.{Bool, true, false, cond}
 use mathlib.Core.List.{List, [], _∷_}

@@ -1,4 +1,4 @@
--- The item table (document 01): three words an item, its layout (ground 7), and the tree that it holds.
+-- The item table (document 01; request L1 for decimals, kind 5): three words an item, its layout (ground 7), and the tree that it holds.
 use mathlib.Core.Bool.{Bool, _&&_, _||_, cond}
 use mathlib.Core.List.{List, [], _∷_}
 use Prim.Native.Nat.{ℕ, suc, _*_, _-_, _/_}

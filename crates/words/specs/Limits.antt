@@ -1,4 +1,4 @@
--- The limits of document 01, each named once. src/lib.rt has the same numbers for code.
+-- The limits of documents 01 and 02, each named once; where a request moved one, it is named. src/lib.rt has the same numbers for code.
 use Prim.Native.Nat.{ℕ}
 
 -- ---- reading: words and bytes to lend (ground 1), bytes of a text (2), elements, names and open lists (6)
@@ -28,7 +28,7 @@ nameLengthMost = 63
 abbrev pub slotSize : ℕ
 slotSize = 64
 
--- digits behind a decimal's dot
+-- digits behind a decimal's dot (request L1)
 abbrev pub placesMost : ℕ
 placesMost = 4
 
@@ -50,6 +50,7 @@ fuelMost = 8192
 abbrev pub workRate : ℕ
 workRate = 24
 
+-- three since request L1
 abbrev pub coreRate : ℕ
 coreRate = 3
 
