@@ -159,7 +159,7 @@ pub fn put_join(work: &mut [u32], top: u32, outer: u32, inner: u32) -> u32
 
 // A binder: its own name by number, key, count of marks, newest mark and the two wraps that its marks come from; the key of the
 // new binding, and the wrap inside.
-#[derive(Drop)]
+#[derive(Clone, Copy)]
 pub struct Binder {
     pub number: u32,
     pub binding: u32,

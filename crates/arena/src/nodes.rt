@@ -7,7 +7,7 @@ ghost use Rattle.arena.specs.Lists.{Tests};
 use crate::cells;
 
 // A name's origin and own wrap, a pair's head and tail, a constant's kind and two words.
-#[derive(Drop)]
+#[derive(Clone, Copy)]
 pub enum Node {
     Empty,
     Name(u32, u32),

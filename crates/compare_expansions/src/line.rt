@@ -12,7 +12,7 @@ use writer::bytes::{FULL, copy};
 use writer::numbers::{numbered, wide};
 
 // A recipe that is refused, and why, or the answer about the supplier's text.
-#[derive(Drop)]
+#[derive(Clone, Copy)]
 pub enum Answer {
     Recipe(u32),
     Text(Comparison),

@@ -9,14 +9,14 @@ use crate::nodes::Node;
 use words::{NAME_LENGTH, NAMES, SLOT};
 
 // The count of variables bound behind a node that may stand.
-#[derive(Drop)]
+#[derive(Clone, Copy)]
 pub enum Head {
     Node(usize),
     No,
 }
 
 // What stays the same on a walk: the count of operations, whether names are in a table, and the window's first variable.
-#[derive(Drop)]
+#[derive(Clone, Copy)]
 pub struct Walk {
     pub operations: u32,
     pub tabled: bool,

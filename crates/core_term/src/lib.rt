@@ -19,7 +19,7 @@ use term::{Checked, term};
 use words::OPERATIONS;
 
 // How many variables the words' term binds; or the words are no term (ground 19).
-#[derive(Drop)]
+#[derive(Clone, Copy)]
 pub enum Counted {
     Variables(usize),
     NoTerm,

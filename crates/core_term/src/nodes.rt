@@ -7,7 +7,7 @@ use crate::head::wide;
 use crate::read::read;
 
 // A lambda's first variable and their count, its names behind them; a decimal's value and places.
-#[derive(Drop)]
+#[derive(Clone, Copy)]
 pub enum Node {
     Variable(u32),
     Operation(u32),
@@ -31,7 +31,7 @@ pub fn opened(words: &[u32]) -> Node
 
 // How many words a node has of its own, how many of them, the last, are names of variables, how many terms follow, and
 // whether these are data (quoted).
-#[derive(Drop)]
+#[derive(Clone, Copy)]
 pub struct Shape {
     pub own: usize,
     pub names: usize,

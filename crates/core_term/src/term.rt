@@ -9,7 +9,7 @@ use crate::nodes::{Shape, shape_of};
 use crate::read::read;
 
 // How many words are taken, and how many variables are bound behind them.
-#[derive(Drop)]
+#[derive(Clone, Copy)]
 pub enum Checked {
     Term(usize, usize),
     No,

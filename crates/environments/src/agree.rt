@@ -13,7 +13,7 @@ use crate::{environment, lengths, marks};
 use rule_cells::cells;
 
 // What is round a part of a template: nothing, or the first n copies of an element.
-#[derive(Drop)]
+#[derive(Clone, Copy)]
 enum Round {
     Nothing,
     Copies(u32),

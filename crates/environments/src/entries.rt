@@ -15,7 +15,7 @@ pub const WORDS: usize = ENTRY * words::VARIABLES as usize;
 
 // One more than the ellipses over the variable, 0 where it is none of the pattern's; its node or the block of its outermost ellipsis; its
 // column there, and in the block of its second.
-#[derive(Drop)]
+#[derive(Clone, Copy)]
 pub struct Entry {
     pub level: u32,
     pub whole: u32,

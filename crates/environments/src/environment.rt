@@ -19,7 +19,7 @@ pub const WORDS: usize = ENTRY * ENTRIES;
 
 // What a variable takes under none, one and two of the innermost indices; the ellipses of the pattern that a first and a second
 // index enter, 0 where there is none; and what is left of the lists that these indices count.
-#[derive(Drop)]
+#[derive(Clone, Copy)]
 pub struct Entry {
     pub whole: u32,
     pub one: u32,

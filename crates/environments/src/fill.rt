@@ -10,21 +10,21 @@ use arena::lists;
 use rule_cells::cells;
 
 // Where the next slot's word goes, and the next block.
-#[derive(Drop)]
+#[derive(Clone, Copy)]
 pub struct Free {
     pub slot: u32,
     pub top: u32,
 }
 
 // A block's count, and the top above its rows.
-#[derive(Drop)]
+#[derive(Clone, Copy)]
 pub struct Block {
     pub count: u32,
     pub top: u32,
 }
 
 // The list behind what an ellipsis has taken, and the top above its blocks.
-#[derive(Drop)]
+#[derive(Clone, Copy)]
 pub struct Behind {
     pub node: u32,
     pub top: u32,

@@ -7,7 +7,7 @@ use crate::environment;
 use rule_cells::cells;
 
 // What the lists that drive an element say: there is none, all are of one length, or two differ in length.
-#[derive(Drop)]
+#[derive(Clone, Copy)]
 pub enum Driving {
     None,
     Length(u32),
@@ -15,7 +15,7 @@ pub enum Driving {
 }
 
 // How many copies an element gets, or the lists that drive it differ in length.
-#[derive(Drop)]
+#[derive(Clone, Copy)]
 pub enum Count {
     Of(u32),
     Differ,

@@ -6,7 +6,7 @@ use arena::lists;
 use rule_cells::cells;
 
 // Whether a list has as many elements as follow an ellipsis, and then the node behind so many of them.
-#[derive(Drop)]
+#[derive(Clone, Copy)]
 pub enum Enough {
     Yes(u32),
     No,

@@ -12,7 +12,7 @@ use layout::operation;
 
 // How a call ends: accepted with the two counts and the term's length, or refused with its ground and, for 11 to 18,
 // the counts of completed steps.
-#[derive(Drop)]
+#[derive(Clone, Copy)]
 pub enum Expansion {
     Accepted { steps: u32, sum: u32, length: u32 },
     Refused { ground: u32, steps: u32, sum: u32 },

@@ -80,7 +80,7 @@ fn key_of(macros: bool, n: u32) -> u32
 }
 
 // The wrap that binds, and the new top.
-#[derive(Drop)]
+#[derive(Clone, Copy)]
 pub struct Scope {
     pub wrap: u32,
     pub top: u32,

@@ -7,7 +7,7 @@ ghost use Rattle.lexer.specs.Answers.{numeral_meaning, DigitsAfter, behind_dot};
 use crate::bytes::is_digit;
 
 // What a run that starts as a number is.
-#[derive(Drop)]
+#[derive(Clone, Copy)]
 pub enum Numeral {
     Value(i32, u32),
     Malformed,
@@ -24,7 +24,7 @@ fn wide(b: u8) -> u64
 }
 
 // The digits that a run begins with: how many, and the number that they spell after another, or the one beyond all.
-#[derive(Drop)]
+#[derive(Clone, Copy)]
 pub struct Digits {
     pub count: usize,
     pub value: u64,

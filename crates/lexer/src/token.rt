@@ -7,14 +7,14 @@ use crate::bytes::{is_running, is_separating};
 use crate::number::{Numeral, is_numeral, numeral_of};
 
 // A place in the text.
-#[derive(Drop)]
+#[derive(Clone, Copy)]
 pub struct Cursor {
     pub at: usize,
 }
 
 // What stands at a cursor, with the cursor past it. A number has its value without the dot and its places, of which an integer has
 // none; a name starts at its first field; what is refused has its ground.
-#[derive(Drop)]
+#[derive(Clone, Copy)]
 pub enum Token {
     End,
     Open(Cursor),

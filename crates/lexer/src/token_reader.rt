@@ -5,7 +5,7 @@ ghost use Rattle.lexer.specs.Answered.{Answered, past_or, ground_in};
 
 use crate::token::{Cursor, Token, token_at};
 
-#[derive(Drop)]
+#[derive(Clone, Copy)]
 pub struct TokenReader<'a> {
     text: &'a [u8],
     at: usize,

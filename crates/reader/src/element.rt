@@ -12,7 +12,7 @@ use lexer::token_reader::token_from;
 use words::signed::to_word;
 
 // What reading does next: it goes on from a place and a cursor, is done with so many items and names, or turns the text back.
-#[derive(Drop)]
+#[derive(Clone, Copy)]
 pub enum Move {
     On(Place, Cursor),
     Done(usize, usize),

@@ -18,7 +18,7 @@ pub mod names; // the name table and its index
 mod place; // where reading stands
 
 // The answer: item and name counts, or the ground.
-#[derive(Drop)]
+#[derive(Clone, Copy)]
 pub enum Reading {
     Read { items: usize, names: usize },
     Refused(u32),

@@ -7,7 +7,7 @@ use datum::kinds;
 use words::ITEM;
 
 // The next item, the pair whose tail is open, open lists, e, elements that the text lacks, names.
-#[derive(Drop)]
+#[derive(Clone, Copy)]
 pub struct Place {
     pub next: usize,
     pub pair: usize,
@@ -18,7 +18,7 @@ pub struct Place {
 }
 
 // What a token does: it is taken, or the text is refused.
-#[derive(Drop)]
+#[derive(Clone, Copy)]
 pub enum Step {
     Went(Place),
     Refused(u32),

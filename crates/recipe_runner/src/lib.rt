@@ -6,7 +6,7 @@ use expander::Expansion;
 use runner::Running;
 
 // What running the term gave; or the ground on which expansion refused, with its two counts.
-#[derive(Drop)]
+#[derive(Clone, Copy)]
 pub enum RecipeRunning {
     Ran(Running),
     Refused { ground: u32, steps: u32, sum: u32 },

@@ -11,7 +11,7 @@ ghost use Rattle.resolution.specs.Marks.{marks_in, Toggled, Hand, MarksAfter, Fi
 pub const STEP_LIMIT: u32 = words::FUEL + 2;
 
 // How two names compare, where a table has room for the marks of both.
-#[derive(Drop)]
+#[derive(Clone, Copy)]
 pub enum Compared {
     Same,
     Other,

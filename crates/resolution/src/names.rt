@@ -46,7 +46,7 @@ const MORE_WORDS: usize = 1536;
 const LARGE_WORDS: usize = 24583;
 
 // What a name means: bound variable n, macro n, form k, or the place of an operation.
-#[derive(Drop)]
+#[derive(Clone, Copy)]
 pub enum Meaning {
     Variable(u32),
     Macro(u32),
@@ -55,7 +55,7 @@ pub enum Meaning {
 }
 
 // What a lookup finds.
-#[derive(Drop)]
+#[derive(Clone, Copy)]
 pub enum Looked {
     Finds(Meaning),
     Nothing,
@@ -117,7 +117,7 @@ pub fn is_ordinary(work: &[u32], node: u32) -> bool
 }
 
 // A name as a binder keeps it: its binding's key, how many marks it has, and the newest.
-#[derive(Drop)]
+#[derive(Clone, Copy)]
 pub struct Summary {
     pub binding: u32,
     pub count: usize,

@@ -102,7 +102,7 @@ fn has_own_marks(work: &[u32], table: &mut [u32], start: usize, count: usize, w:
 }
 
 // The name in hand: how many marks it has, and its binding's key.
-#[derive(Drop)]
+#[derive(Clone, Copy)]
 pub struct InHand {
     pub count: usize,
     pub binding: u32,

@@ -15,7 +15,7 @@ use arena::{cells, lists};
 use resolution::names;
 
 // The reference of a pattern, the new top, and the number of the next variable.
-#[derive(Drop)]
+#[derive(Clone, Copy)]
 pub enum Parsed {
     Good(u32, u32, u32),
     Bad,

@@ -15,7 +15,7 @@ use datum::base_names;
 use resolution::names;
 
 // What the rules of a form are read by: its ellipsis (`dots` says how), the list of its literals, and the wrap that waits on all of it.
-#[derive(Drop)]
+#[derive(Clone, Copy)]
 pub struct Form {
     pub dots: u32,
     pub literals: u32,

@@ -23,7 +23,7 @@ use words::packed::Built;
 
 // What a template is read under: how many variables its rule has, the ellipsis (`dots` says how), the wrap that waits on all of
 // it, and how many ellipses are around it.
-#[derive(Drop)]
+#[derive(Clone, Copy)]
 pub struct Scope {
     pub count: u32,
     pub dots: u32,

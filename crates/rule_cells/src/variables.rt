@@ -20,7 +20,7 @@ use resolution::names;
 pub const WORDS: usize = 2 * words::VARIABLES as usize;
 
 // The variable that a name is the same as: its number and its depth.
-#[derive(Drop)]
+#[derive(Clone, Copy)]
 pub enum Known {
     At(u32, u32),
     Not,

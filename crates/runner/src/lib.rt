@@ -24,7 +24,7 @@ use words::{BUDGET, OPERATIONS, RUN_RATE};
 const SHORT: usize = 1024;
 
 // A result with its units, or the ground.
-#[derive(Drop)]
+#[derive(Clone, Copy)]
 pub enum Running {
     Integer(u32, usize),
     Boolean(bool, usize),

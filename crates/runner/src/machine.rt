@@ -9,7 +9,7 @@ use crate::rows::{Value, value_at};
 use crate::state::{Counts, Turn};
 
 // What a run ends with: a value and the units, or a ground.
-#[derive(Drop)]
+#[derive(Clone, Copy)]
 pub enum End {
     Value(Value, usize),
     Ground(u32),

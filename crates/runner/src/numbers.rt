@@ -19,7 +19,7 @@ pub const LESS: u32 = 2;
 
 pub const OPERATIONS: u32 = 4;
 
-#[derive(Drop)]
+#[derive(Clone, Copy)]
 pub enum Made {
     Value(Value),
     Ground(u32),

@@ -31,7 +31,7 @@ pub const CLOSURE: u32 = 4;
 
 pub const OPERATION: u32 = 5;
 
-#[derive(Drop)]
+#[derive(Clone, Copy)]
 pub struct Value {
     pub kind: u32,
     pub a: u32,
@@ -45,7 +45,7 @@ pub const TEST: u32 = 1;
 
 pub const PARTS: u32 = 2;
 
-#[derive(Drop)]
+#[derive(Clone, Copy)]
 pub struct Frame {
     pub what: u32,
     pub next: usize,
@@ -138,7 +138,7 @@ pub fn put_cell(table: &mut [u32], row: usize, number: u32, v: Value, link: u32)
     table[at + 5] = link;
 }
 
-#[derive(Drop)]
+#[derive(Clone, Copy)]
 pub enum Found {
     Value(Value),
     None,
@@ -166,7 +166,7 @@ pub fn find(table: &[u32], environment: u32, number: u32) -> Found
 }
 
 // An environment with more cells.
-#[derive(Drop)]
+#[derive(Clone, Copy)]
 pub struct Extended {
     pub environment: u32,
     pub cells: usize,

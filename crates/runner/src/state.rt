@@ -8,7 +8,7 @@ ghost use Rattle.runner.specs.BeginLaws.{framed};
 use crate::rows::{Frame, Value, put_frame, put_value};
 
 // The units spent, and how many rows are in use of each kind.
-#[derive(Drop)]
+#[derive(Clone, Copy)]
 pub struct Counts {
     pub units: usize,
     pub values: usize,
@@ -17,7 +17,7 @@ pub struct Counts {
 }
 
 // The node at a place begins in an environment; or a value has come, on top of the values; or a ground was met.
-#[derive(Drop)]
+#[derive(Clone, Copy)]
 pub enum Turn {
     Begins(Counts, usize, u32),
     Comes(Counts),

@@ -9,7 +9,7 @@ use words::packed;
 use words::packed::Built;
 
 // Grounds 16, 17 and 18, or the result's root and its items.
-#[derive(Drop)]
+#[derive(Clone, Copy)]
 pub enum Applied {
     NoRule,
     Differ,

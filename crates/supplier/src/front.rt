@@ -19,7 +19,7 @@ pub const OPEN: u32 = 2;
 pub const OUTSIDE: u32 = 3;
 
 // With the words of ours that are taken: all of them after a difference.
-#[derive(Drop)]
+#[derive(Clone, Copy)]
 pub struct Walked {
     pub rank: u32,
     pub taken: usize,
@@ -45,7 +45,7 @@ pub const APPLICATION: u32 = 7;
 const NONE: u32 = 8;
 
 // Of a constant its kind and two words, of a lambda how many variables and the first, of others their number; its own words.
-#[derive(Drop)]
+#[derive(Clone, Copy)]
 pub struct Front {
     pub sort: u32,
     pub first: u32,

@@ -18,14 +18,14 @@ use words::NAMES;
 pub const FORMALS: usize = words::FORMALS as usize;
 
 // How many formals a lambda has, where it may bind them.
-#[derive(Drop)]
+#[derive(Clone, Copy)]
 pub enum Bound {
     Formals(usize),
     No,
 }
 
 // An element or a list of the text: its item, how many formals are round it, whether it is quoted.
-#[derive(Drop)]
+#[derive(Clone, Copy)]
 pub struct Place {
     pub i: usize,
     pub top: usize,
@@ -33,7 +33,7 @@ pub struct Place {
 }
 
 // The same of a list whose elements are walked through, and what was found before them.
-#[derive(Drop)]
+#[derive(Clone, Copy)]
 pub struct Start {
     pub i: usize,
     pub top: usize,

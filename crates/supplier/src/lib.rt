@@ -22,7 +22,7 @@ use words::tables::{zero_bytes, zero_words};
 use words::{ITEM, MOST_ITEMS, NAMES, OPERATIONS};
 
 // The answer: our term or another, or the ground.
-#[derive(Drop)]
+#[derive(Clone, Copy)]
 pub enum Comparison {
     Yes,
     No,

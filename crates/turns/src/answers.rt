@@ -4,7 +4,7 @@ ghost use Rattle.std.specs.Prelude.{◌≡◌, ◌+◌, ◌^◌, ◌<◌};
 ghost use Rattle.turns.specs.Numbers.{at_start, moved, widened, grown, stepped};
 
 // The numbers that an expansion carries: how far the arena and the core words reach, the two counts, variables and macros so far.
-#[derive(Drop)]
+#[derive(Clone, Copy)]
 pub struct Reached {
     pub top: u32,
     pub at: u32,
@@ -91,7 +91,7 @@ impl Reached {
 }
 
 // How the expansion of an expression or of operands ends.
-#[derive(Drop)]
+#[derive(Clone, Copy)]
 pub enum Ended {
     Done(Reached),
     Refused { ground: u32, steps: u32, sum: u32 },
@@ -99,7 +99,7 @@ pub enum Ended {
 
 // What is left of an expression after one turn: another expression in its place, operands, or nothing; the first two by node,
 // wrap and numbers.
-#[derive(Drop)]
+#[derive(Clone, Copy)]
 pub enum Turn {
     Again(u32, u32, Reached),
     Operands(u32, u32, Reached),

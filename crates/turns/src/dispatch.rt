@@ -17,7 +17,7 @@ use resolution::names;
 use resolution::names::{Looked, Meaning};
 
 // A list at hand: its node, its head and its tail, and the wrap that waits on it.
-#[derive(Drop)]
+#[derive(Clone, Copy)]
 struct Listed {
     node: u32,
     head: u32,

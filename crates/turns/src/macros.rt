@@ -15,7 +15,7 @@ use words::packed;
 use words::packed::Built;
 
 // The new top, or rules that break their rules.
-#[derive(Drop)]
+#[derive(Clone, Copy)]
 pub enum Read {
     Good(u32),
     Bad,

@@ -3,7 +3,7 @@ ghost use Rattle.std.specs.Prelude.{◌≡◌};
 ghost use Rattle.words.specs.Code.Packed.{packed, built_of};
 
 // What a word holds: two words, or none.
-#[derive(Drop)]
+#[derive(Clone, Copy)]
 pub enum Built {
     At(u32, u32),
     None,

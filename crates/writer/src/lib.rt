@@ -24,7 +24,7 @@ use names::Pen;
 use term::{Step, term};
 
 // The text's length; or no term (ground 19); or an output shorter than the text (ground 20).
-#[derive(Drop)]
+#[derive(Clone, Copy)]
 pub enum Writing {
     Written(usize),
     NoTerm,

@@ -14,14 +14,14 @@ use crate::numbers::{gap, numbered};
 use words::SLOT;
 
 // What stays the same on a walk: whether bytes are laid, and whether the names of variables stand in a table of their own.
-#[derive(Drop)]
+#[derive(Clone, Copy)]
 pub struct Pen {
     pub ink: bool,
     pub direct: bool,
 }
 
 // The variables of a lambda: the first, and their count.
-#[derive(Drop)]
+#[derive(Clone, Copy)]
 pub struct Bound {
     pub first: usize,
     pub count: usize,

@@ -43,7 +43,7 @@ fn power(powers: &[usize], k: usize) -> usize
 }
 
 // A digit's byte so far, and what is left of the number.
-#[derive(Drop)]
+#[derive(Clone, Copy)]
 struct Part {
     digit: u8,
     left: usize,

@@ -16,7 +16,7 @@ use crate::pieces::{begin, finish};
 use core_term::nodes::{Node, Shape, opened, shape_of};
 
 // How many words a term takes, and the place behind its text; or the output is too short.
-#[derive(Drop)]
+#[derive(Clone, Copy)]
 pub enum Step {
     Done(usize, usize),
     Full,
