@@ -145,7 +145,7 @@ module _ (work macros : List ℕ) (node w : ℕ) (inside : Bool) (r : Reached) (
     list-below : list ≤ r.top
     list-below = omega (arith, list-is.low, room.placed.node-below)
 
-    module _ (mid : List ℕ) (wrap end Rules-wrap : ℕ) (scoped : Scoped macro r.macros (keywords tree) w work mid r.top wrap end) (wrap-is : Rules-wrap ≡ cond inside wrap w)
+    module _ (mid : List ℕ) (wrap end rules-wrap : ℕ) (scoped : Scoped macro r.macros (keywords tree) w work mid r.top wrap end) (wrap-is : rules-wrap ≡ cond inside wrap w)
         (long : length mid ≡ length work) where
       abbrev scope : Tree → Tree
       scope = bind_all macro r.macros (keywords tree)
@@ -163,20 +163,20 @@ module _ (work macros : List ℕ) (node w : ℕ) (inside : Bool) (r : Reached) (
       list-size true = bind_all-size macro r.macros (keywords tree) (element 1 tree)
       list-size false = refl
 
-      is-list : tree_at mid list Rules-wrap ≡ cond inside scope (λ t. t) (element 1 tree)
+      is-list : tree_at mid list rules-wrap ≡ cond inside scope (λ t. t) (element 1 tree)
       is-list = ap (tree_at mid list) wrap-is ∙ list-tree inside
 
-      forms-are : forms_in (tree_at mid list Rules-wrap) ≡ forms_of inside tree r.macros
+      forms-are : forms_in (tree_at mid list rules-wrap) ≡ forms_of inside tree r.macros
       forms-are = ap forms_in is-list ∙ list-forms inside
 
-      size_same : size (tree_at mid list Rules-wrap) ≡ size (element 1 tree)
+      size_same : size (tree_at mid list rules-wrap) ≡ size (element 1 tree)
       size_same = ap size is-list ∙ list-size inside
 
       map-length : (f : Tree → Tree) (l : List Tree) → length (map f l) ≡ length l
       map-length f [] = refl
       map-length f (x ∷ xs) = ap suc (map-length f xs)
 
-      forms-count : length (forms_in (tree_at mid list Rules-wrap)) ≡ length (keywords tree)
+      forms-count : length (forms_in (tree_at mid list rules-wrap)) ≡ length (keywords tree)
       unfolding forms_of rules_forms
       forms-count =
           ap length forms-are
@@ -188,10 +188,10 @@ module _ (work macros : List ℕ) (node w : ℕ) (inside : Bool) (r : Reached) (
       wrap-low true = scoped.wrap-below
       wrap-low false = omega (arith, room.placed.wrap-below, scoped.end_is)
 
-      rules-wrap-low : Rules-wrap ≤ end
+      rules-wrap-low : rules-wrap ≤ end
       rules-wrap-low = rw wrap-is (wrap-low inside)
 
-      pub macros-ask : AllAsk mid macros list Rules-wrap r.macros end
+      pub macros-ask : AllAsk mid macros list rules-wrap r.macros end
       macros-ask =
           record {
             asks = record {
@@ -207,19 +207,19 @@ module _ (work macros : List ℕ) (node w : ℕ) (inside : Bool) (r : Reached) (
             below = λ k h. let g = room.below k h in omega (arith, scoped.end_is);
           }
 
-      module _ (work' macros' : List ℕ) (a : Read) (left : AllLeft (tree_at mid list Rules-wrap) mid work' macros macros' r.macros end a) where
+      module _ (work' macros' : List ℕ) (a : Read) (left : AllLeft (tree_at mid list rules-wrap) mid work' macros macros' r.macros end a) where
         pub macros-bad : a ≡ Bad → traverse rules_of (forms_of inside tree r.macros) ≡ none
         macros-bad e =
-            let n : traverse rules_of (forms_in (tree_at mid list Rules-wrap)) ≡ none = subst (λ (z : Read). AllLeft (tree_at mid list Rules-wrap) mid work' macros macros' r.macros end z) e left in
+            let n : traverse rules_of (forms_in (tree_at mid list rules-wrap)) ≡ none = subst (λ (z : Read). AllLeft (tree_at mid list rules-wrap) mid work' macros macros' r.macros end z) e left in
             ap (traverse rules_of) (sym forms-are) ∙ n
 
         pub macros-known : (top body : ℕ) → a ≡ Good top → Means work node body (element 2) → (q : Reached) → q ≡ grown top count r → Known tree inside r work work' macros macros' body wrap q
         unfolding grown
         macros-known top body e body_is q q-is =
-            let m : AllRead (tree_at mid list Rules-wrap) mid work' macros macros' r.macros end top =
-            subst (λ (z : Read). AllLeft (tree_at mid list Rules-wrap) mid work' macros macros' r.macros end z) e left in
+            let m : AllRead (tree_at mid list rules-wrap) mid work' macros macros' r.macros end top =
+            subst (λ (z : Read). AllLeft (tree_at mid list rules-wrap) mid work' macros macros' r.macros end z) e left in
             let body-low : body ≤ r.top = omega (arith, body_is.low, room.placed.node-below) in
-            let far : r.macros + count ≡ r.macros + length (forms_in (tree_at mid list Rules-wrap)) = omega (arith, macros-count, forms-count) in
+            let far : r.macros + count ≡ r.macros + length (forms_in (tree_at mid list rules-wrap)) = omega (arith, macros-count, forms-count) in
             let up : r.top ≤ end = omega (arith, scoped.end_is) in
             subst (Known tree inside r work work' macros macros' body wrap) (sym q-is)
             (record {

@@ -9,8 +9,8 @@ unfolding good_name
 returns c =
     c.count.ensures
 
-pub count-variables-spec : {M : Type 1} → statement M
-count-variables-spec =
+pub count_variables_spec : {M : Type 1} → statement M
+count_variables_spec =
     tie.close
     (tie.spec
     (λ c κs. search rules)  -- count-requires

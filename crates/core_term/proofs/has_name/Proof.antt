@@ -4,14 +4,14 @@ use Rattle.core_term.proofs.has_name.Statement.{statement}
 use Rattle.core_term.proofs.has_name.Tie as tie
 use Rattle.core_term.specs.Code.Window.{good_name}
 
-name-good-requires : tie.Need-name-good-requires
+name-good-requires : tie.Need-name_good-requires
 name-good-requires c κs =
     search rules
 
 returns : tie.Need-returns
 unfolding good_name
 returns c =
-    c.name-good.ensures
+    c.name_good.ensures
 
-pub has-name-spec : {M : Type 1} → statement M
-has-name-spec = tie.close (tie.spec name-good-requires returns)
+pub has_name_spec : {M : Type 1} → statement M
+has_name_spec = tie.close (tie.spec name-good-requires returns)

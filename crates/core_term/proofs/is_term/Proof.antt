@@ -7,18 +7,18 @@ use mathlib.Core.Path.{sym, ◌∙◌}
 use Rattle.core_term.specs.Check.{is_term}
 use Rattle.core_term.specs.Code.Counted.{counted-no, counted-yes}
 
-returns : tie.Need-returns
+returns : tie.Need-returns-in_default
 unfolding is_term
 returns c =
-    sym (counted-no _ (sym c.before.before.count-variables.ensures ∙ c.enum_told.given.1))
+    sym (counted-no _ (sym c.before.before.count_variables.ensures ∙ c.enum_told-1.given.1))
 
-returns-2 : tie.Need-returns-2
+returns-2 : tie.Need-returns
 unfolding is_term
 returns-2 c =
-    sym (counted-yes _ _ (sym c.before.before.before.count-variables.ensures ∙ c.before.count.given.1))
+    sym (counted-yes _ _ (sym c.before.before.before.count_variables.ensures ∙ c.before.count-1.given.1))
 
-pub is-term-spec : {M : Type 1} → statement M
-is-term-spec =
+pub is_term_spec : {M : Type 1} → statement M
+is_term_spec =
     tie.close
     (tie.spec
     (λ c κs. search rules)  -- count-variables-requires

@@ -8,18 +8,18 @@ use Rattle.core_term.specs.Check.{is_term}
 use Rattle.core_term.specs.Code.Window.{good_name}
 use Rattle.core_term.specs.Code.Counted.{counted-no, counted-yes}
 
-returns : tie.Need-returns
+returns : tie.Need-returns-in_default
 unfolding is_term good_name
 returns c =
-    sym (counted-no _ (sym c.before.before.count.ensures ∙ c.enum_told.given.1))
+    sym (counted-no _ (sym c.before.before.count.ensures ∙ c.enum_told-1.given.1))
 
-returns-2 : tie.Need-returns-2
+returns-2 : tie.Need-returns
 unfolding is_term good_name
 returns-2 c =
-    sym (counted-yes _ _ (sym c.before.before.before.count.ensures ∙ c.before.count2.given.1))
+    sym (counted-yes _ _ (sym c.before.before.before.count.ensures ∙ c.before.count-1.given.1))
 
-pub is-term-unnamed-spec : {M : Type 1} → statement M
-is-term-unnamed-spec =
+pub is_term_unnamed_spec : {M : Type 1} → statement M
+is_term_unnamed_spec =
     tie.close
     (tie.spec
     (λ c. search rules)  -- slice-aggregate-count

@@ -9,23 +9,23 @@ use Rattle.grebetallboy.specs.CallLaws.{compare-told}
 use Rattle.grebetallboy.specs.Calls.{tells_verdict, verdict_ground}
 use Rattle.supplier.specs.Service.{verdict_of}
 
-returns : tie.Need-returns
+returns : tie.Need-returns-in-Yes
 unfolding verdict_of tells_verdict verdict_ground
 returns c =
-    compare-told c.before.before.before.before.before.before.before.before.before.before.before.before.before.before.before.before.before.before.before.before.args.counts.now c.before.before.before.before.before.before.before.before.before.before.compare.ensures c.before.before.before.before.enum_told.given.1 c.before.before.tell.ensures
+    compare-told c.before.before.before.before.before.before.before.before.before.before.before.before.before.before.before.before.before.before.before.before.args.counts.now c.before.before.before.before.before.before.before.before.before.before.compare.ensures c.before.before.before.before.enum_told-1.given.1 c.before.before.tell.ensures
 
-returns-2 : tie.Need-returns-2
+returns-2 : tie.Need-returns-in-No
 unfolding verdict_of tells_verdict verdict_ground
 returns-2 c =
-    compare-told c.before.before.before.before.before.before.before.before.before.before.before.before.before.before.before.before.before.before.before.before.args.counts.now c.before.before.before.before.before.before.before.before.before.before.compare.ensures c.before.before.before.before.enum-told2.given.1 c.before.before.tell2.ensures
+    compare-told c.before.before.before.before.before.before.before.before.before.before.before.before.before.before.before.before.before.before.before.before.args.counts.now c.before.before.before.before.before.before.before.before.before.before.compare.ensures c.before.before.before.before.enum_told-in-No-1.given.1 c.before.before.tell-in-No.ensures
 
-returns-3 : tie.Need-returns-3
+returns-3 : tie.Need-returns-in-Refused
 unfolding verdict_of tells_verdict verdict_ground
 returns-3 c =
-    compare-told c.before.before.before.before.before.before.before.before.before.before.before.before.before.before.before.before.before.before.before.before.before.args.counts.now c.before.before.before.before.before.before.before.before.before.before.before.compare.ensures c.before.before.before.before.before.g.given.1 c.before.before.tell3.ensures
+    compare-told c.before.before.before.before.before.before.before.before.before.before.before.before.before.before.before.before.before.before.before.before.before.args.counts.now c.before.before.before.before.before.before.before.before.before.before.before.compare.ensures c.before.before.before.before.before.g-1.given.1 c.before.before.tell-in-Refused.ensures
 
-pub grebetallboy-compare-spec : {M : Type 1} → statement M
-grebetallboy-compare-spec =
+pub grebetallboy_compare_spec : {M : Type 1} → statement M
+grebetallboy_compare_spec =
     tie.close
     (tie.spec
     (λ c κs. search rules)  -- compare-requires

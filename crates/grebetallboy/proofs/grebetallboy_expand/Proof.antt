@@ -9,18 +9,18 @@ use Rattle.grebetallboy.specs.CallLaws.{expand-told}
 use Rattle.grebetallboy.specs.Calls.{tells_run}
 use Rattle.expander.specs.Service.{numbers_of}
 
-returns : tie.Need-returns
+returns : tie.Need-returns-in-Accepted
 unfolding numbers_of tells_run
 returns c =
-    expand-told c.before.before.before.before.before.before.before.before.before.before.before.before.before.before.before.before.before.before.args.counts.now c.before.before.before.before.before.before.before.before.before.before.before.expand.ensures c.before.before.before.before.before.n.given.1 c.before.before.tell.ensures
+    expand-told c.before.before.before.before.before.before.before.before.before.before.before.before.before.before.before.before.before.before.args.counts.now c.before.before.before.before.before.before.before.before.before.before.before.expand.ensures c.before.before.before.before.before.n-1.given.1 c.before.before.tell.ensures
 
-returns-2 : tie.Need-returns-2
+returns-2 : tie.Need-returns-in-Refused
 unfolding numbers_of tells_run
 returns-2 c =
-    expand-told c.before.before.before.before.before.before.before.before.before.before.before.before.before.before.before.before.before.before.args.counts.now c.before.before.before.before.before.before.before.before.before.before.before.expand.ensures c.before.before.before.before.before.g.given.1 c.before.before.tell2.ensures
+    expand-told c.before.before.before.before.before.before.before.before.before.before.before.before.before.before.before.before.before.before.args.counts.now c.before.before.before.before.before.before.before.before.before.before.before.expand.ensures c.before.before.before.before.before.g-1.given.1 c.before.before.tell-in-Refused.ensures
 
-pub grebetallboy-expand-spec : {M : Type 1} → statement M
-grebetallboy-expand-spec =
+pub grebetallboy_expand_spec : {M : Type 1} → statement M
+grebetallboy_expand_spec =
     tie.close
     (tie.spec
     (λ c κs. search rules)  -- expand-requires

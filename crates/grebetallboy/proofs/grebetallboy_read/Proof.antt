@@ -9,18 +9,18 @@ use Rattle.grebetallboy.specs.CallLaws.{read_told}
 use Rattle.reader.specs.Served.{numbers_of}
 use Rattle.grebetallboy.specs.Calls.{tells_read}
 
-returns : tie.Need-returns
+returns : tie.Need-returns-in-Read
 unfolding numbers_of tells_read
 returns c =
-    read_told c.before.before.before.before.before.before.before.before.before.before.before.before.before.before.before.before.before.before.args.counts.now c.before.before.before.before.before.before.before.before.before.before.before.read.ensures c.before.before.before.before.before.i.given.1 c.before.before.tell.ensures
+    read_told c.before.before.before.before.before.before.before.before.before.before.before.before.before.before.before.before.before.before.args.counts.now c.before.before.before.before.before.before.before.before.before.before.before.read.ensures c.before.before.before.before.before.i-1.given.1 c.before.before.tell.ensures
 
-returns-2 : tie.Need-returns-2
+returns-2 : tie.Need-returns-in-Refused
 unfolding numbers_of tells_read
 returns-2 c =
-    read_told c.before.before.before.before.before.before.before.before.before.before.before.before.before.before.before.before.before.before.args.counts.now c.before.before.before.before.before.before.before.before.before.before.before.read.ensures c.before.before.before.before.before.g.given.1 c.before.before.tell2.ensures
+    read_told c.before.before.before.before.before.before.before.before.before.before.before.before.before.before.before.before.before.before.args.counts.now c.before.before.before.before.before.before.before.before.before.before.before.read.ensures c.before.before.before.before.before.g-1.given.1 c.before.before.tell-in-Refused.ensures
 
-pub grebetallboy-read-spec : {M : Type 1} → statement M
-grebetallboy-read-spec =
+pub grebetallboy_read_spec : {M : Type 1} → statement M
+grebetallboy_read_spec =
     tie.close
     (tie.spec
     (λ c κs. search rules)  -- read-requires

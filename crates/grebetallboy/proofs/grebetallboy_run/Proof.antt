@@ -8,22 +8,22 @@ run-requires : tie.Need-run-requires
 run-requires c κs = search rules
 
 -- src/lib.rt:203:5
-tell-running-requires : tie.Need-tell-running-requires
+tell-running-requires : tie.Need-tell_running-requires
 tell-running-requires c κs = search rules
 
 -- src/lib.rt:194:1
-same_length : tie.Need-same-length
+same_length : tie.Need-shape_of-table
 same_length c = search rules
 
 -- src/lib.rt:194:1
-same-length-2 : tie.Need-same-length-2
+same-length-2 : tie.Need-shape_of-counts
 same-length-2 c = search rules
 
 -- src/lib.rt:194:1
 returns : tie.Need-returns
 returns c =
-    ran-told _ c.before.before.before.before.before.before.run.ensures c.before.before.tell-running.ensures
+    ran-told _ c.before.before.before.before.before.before.run.ensures c.before.before.tell_running.ensures
 
-pub grebetallboy-run-spec : {M : Type 1} → statement M
-grebetallboy-run-spec =
+pub grebetallboy_run_spec : {M : Type 1} → statement M
+grebetallboy_run_spec =
     tie.close (tie.spec run-requires tell-running-requires same_length same-length-2 returns)

@@ -8,23 +8,23 @@ use Rattle.writer.proofs.write.Reads as write-reads
 use Rattle.grebetallboy.specs.CallLaws.{write-told}
 use Rattle.writer.specs.Writing.{ground_of, length_of}
 
-returns : tie.Need-returns
+returns : tie.Need-returns-in-Written
 unfolding ground_of length_of
 returns c =
-    write-told c.before.before.before.before.before.before.before.before.before.before.before.before.before.before.before.args.counts.now c.before.before.before.before.before.before.before.before.before.write.ensures c.before.before.before.before.before.n.given.1 c.before.before.tell.ensures
+    write-told c.before.before.before.before.before.before.before.before.before.before.before.before.before.before.before.args.counts.now c.before.before.before.before.before.before.before.before.before.write.ensures c.before.before.before.before.before.n-1.given.1 c.before.before.tell.ensures
 
-returns-2 : tie.Need-returns-2
+returns-2 : tie.Need-returns-in-NoTerm
 unfolding ground_of length_of
 returns-2 c =
-    write-told c.before.before.before.before.before.before.before.before.before.before.before.before.before.before.args.counts.now c.before.before.before.before.before.before.before.before.write.ensures c.before.before.before.before.enum_told.given.1 c.before.before.tell2.ensures
+    write-told c.before.before.before.before.before.before.before.before.before.before.before.before.before.before.args.counts.now c.before.before.before.before.before.before.before.before.write.ensures c.before.before.before.before.enum_told-1.given.1 c.before.before.tell-in-NoTerm.ensures
 
-returns-3 : tie.Need-returns-3
+returns-3 : tie.Need-returns-in-NoRoom
 unfolding ground_of length_of
 returns-3 c =
-    write-told c.before.before.before.before.before.before.before.before.before.before.before.before.before.before.args.counts.now c.before.before.before.before.before.before.before.before.write.ensures c.before.before.before.before.enum-told2.given.1 c.before.before.tell3.ensures
+    write-told c.before.before.before.before.before.before.before.before.before.before.before.before.before.before.args.counts.now c.before.before.before.before.before.before.before.before.write.ensures c.before.before.before.before.enum_told-in-NoRoom-1.given.1 c.before.before.tell-in-NoRoom.ensures
 
-pub grebetallboy-write-spec : {M : Type 1} → statement M
-grebetallboy-write-spec =
+pub grebetallboy_write_spec : {M : Type 1} → statement M
+grebetallboy_write_spec =
     tie.close
     (tie.spec
     (λ c κs. search rules)  -- write-requires

@@ -10,30 +10,30 @@ use lib.ListN.{set}
 use Rattle.grebetallboy.specs.CallLaws.{told-short, told_more}
 
 -- src/lib.rt:25:9
-returns : tie.Need-returns
+returns : tie.Need-returns-then-counts-lt4
 returns c =
-    told-short (c.before.before.args.a ∷ c.before.before.args.b ∷ c.before.before.args.c ∷ c.before.before.args.d ∷ []) _ c.if1.true
+    told-short (c.before.before.args.a ∷ c.before.before.args.b ∷ c.before.before.args.c ∷ c.before.before.args.d ∷ []) _ c.if-counts-lt4.true
 
 -- src/lib.rt:27:5
 tell-requires : tie.Need-tell-requires
 tell-requires c κs = search rules
 
 -- src/lib.rt:28:5
-slice-write-counts : tie.Need-slice-write-counts
+slice-write-counts : tie.Need-bounds-counts-3
 slice-write-counts c = search rules
 
 -- src/lib.rt:21:1
-same_length : tie.Need-same-length
+same_length : tie.Need-shape_of-counts
 same_length c = search rules
 
 -- src/lib.rt:21:1
-returns-2 : tie.Need-returns-2
+returns-2 : tie.Need-returns
 returns-2 c =
     let at-tell = c.before.before in
     let at-if1 = at-tell.before.before in
     let args' = at-if1.before.before.args in
-    ap (λ (l : List ℕ). set l 3 args'.d) at-tell.tell.ensures ∙ told_more (args'.a ∷ args'.b ∷ args'.c ∷ []) args'.d _ at-if1.if1.false
+    ap (λ (l : List ℕ). set l 3 args'.d) at-tell.tell.ensures ∙ told_more (args'.a ∷ args'.b ∷ args'.c ∷ []) args'.d _ at-if1.if-counts-lt4.false
 
-pub tell-four-spec : {M : Type 1} → statement M
-tell-four-spec =
+pub tell_four_spec : {M : Type 1} → statement M
+tell_four_spec =
     tie.close (tie.spec returns tell-requires slice-write-counts same_length returns-2)

@@ -6,19 +6,19 @@ use mathlib.Core.Path.{refl}
 use Rattle.runner.specs.Service.{numbers_of}
 
 -- src/lib.rt:45:26
-enum-known-running : tie.Need-enum-known-running
+enum-known-running : tie.Need-enum_known-running
 enum-known-running c = search rules
 
 -- src/lib.rt:45:56
-cast-tell-four : tie.Need-overflow-cast-tell-four
+cast-tell-four : tie.Need-overflow_cast-w
 cast-tell-four c = search rules
 
 -- src/lib.rt:45:35
-tell-four-requires : tie.Need-tell-four-requires
+tell-four-requires : tie.Need-tell_four-requires
 tell-four-requires c κs = search rules
 
 -- src/lib.rt:46:26
-enum-known-running-2 : tie.Need-enum-known-running-2
+enum-known-running-2 : tie.Need-enum_known-running-in-Boolean-1
 enum-known-running-2 c = search rules
 
 -- src/lib.rt:46:56
@@ -26,103 +26,103 @@ bit-requires : tie.Need-bit-requires
 bit-requires c κs = search rules
 
 -- src/lib.rt:46:35
-tell-four-requires-2 : tie.Need-tell-four-requires-2
+tell-four-requires-2 : tie.Need-tell_four-requires-in-Boolean
 tell-four-requires-2 c κs = search rules
 
 -- src/lib.rt:47:24
-enum-known-running-3 : tie.Need-enum-known-running-3
+enum-known-running-3 : tie.Need-enum_known-running-in-Datum-1
 enum-known-running-3 c = search rules
 
 -- src/lib.rt:47:33
-tell-four-requires-3 : tie.Need-tell-four-requires-3
+tell-four-requires-3 : tie.Need-tell_four-requires-in-Datum
 tell-four-requires-3 c κs = search rules
 
 -- src/lib.rt:48:26
-enum-known-running-4 : tie.Need-enum-known-running-4
+enum-known-running-4 : tie.Need-enum_known-running-in-Closure-1
 enum-known-running-4 c = search rules
 
 -- src/lib.rt:48:32
-tell-four-requires-4 : tie.Need-tell-four-requires-4
+tell-four-requires-4 : tie.Need-tell_four-requires-in-Closure
 tell-four-requires-4 c κs = search rules
 
 -- src/lib.rt:49:28
-enum-known-running-5 : tie.Need-enum-known-running-5
+enum-known-running-5 : tie.Need-enum_known-running-in-Operation-1
 enum-known-running-5 c = search rules
 
 -- src/lib.rt:49:34
-tell-four-requires-5 : tie.Need-tell-four-requires-5
+tell-four-requires-5 : tie.Need-tell_four-requires-in-Operation
 tell-four-requires-5 c κs = search rules
 
 -- src/lib.rt:50:26
-enum-known-running-6 : tie.Need-enum-known-running-6
+enum-known-running-6 : tie.Need-enum_known-running-in-Refused-1
 enum-known-running-6 c = search rules
 
 -- src/lib.rt:51:13
-tell-four-requires-6 : tie.Need-tell-four-requires-6
+tell-four-requires-6 : tie.Need-tell_four-requires-in-Refused
 tell-four-requires-6 c κs = search rules
 
 -- src/lib.rt:52:13
-same_length : tie.Need-same-length
+same_length : tie.Need-shape_of-counts-in-Refused
 same_length c = search rules
 
 -- src/lib.rt:52:13
-returns : tie.Need-returns
+returns : tie.Need-returns-in-Refused
 unfolding numbers_of
 returns c =
-    rw c.before.before.before.before.before.running6.given.1 (refl, c.before.before.tell-four6.ensures)
+    rw c.before.before.before.before.before.running-in-Refused-1.given.1 (refl, c.before.before.tell_four-in-Refused.ensures)
 
 -- src/lib.rt:41:1
-same-length-2 : tie.Need-same-length-2
+same-length-2 : tie.Need-shape_of-counts-in-Integer
 same-length-2 c = search rules
 
 -- src/lib.rt:41:1
-returns-2 : tie.Need-returns-2
+returns-2 : tie.Need-returns-in-Integer
 unfolding numbers_of
 returns-2 c =
-    rw c.before.before.before.before.before.running.given.1 (refl, c.before.before.tell-four.ensures)
+    rw c.before.before.before.before.before.running-1.given.1 (refl, c.before.before.tell_four.ensures)
 
 -- src/lib.rt:41:1
-same-length-3 : tie.Need-same-length-3
+same-length-3 : tie.Need-shape_of-counts-in-Boolean
 same-length-3 c = search rules
 
 -- src/lib.rt:41:1
-returns-3 : tie.Need-returns-3
+returns-3 : tie.Need-returns-in-Boolean
 unfolding numbers_of
 returns-3 c =
-    rw (c.before.before.before.before.before.before.running2.given.1, ← c.before.before.before.bit.ensures) (refl, c.before.before.tell-four2.ensures)
+    rw (c.before.before.before.before.before.before.running-in-Boolean-1.given.1, ← c.before.before.before.bit.ensures) (refl, c.before.before.tell_four-in-Boolean.ensures)
 
 -- src/lib.rt:41:1
-same-length-4 : tie.Need-same-length-4
+same-length-4 : tie.Need-shape_of-counts-in-Datum
 same-length-4 c = search rules
 
 -- src/lib.rt:41:1
-returns-4 : tie.Need-returns-4
+returns-4 : tie.Need-returns-in-Datum
 unfolding numbers_of
 returns-4 c =
-    rw c.before.before.before.before.before.running3.given.1 (refl, c.before.before.tell-four3.ensures)
+    rw c.before.before.before.before.before.running-in-Datum-1.given.1 (refl, c.before.before.tell_four-in-Datum.ensures)
 
 -- src/lib.rt:41:1
-same-length-5 : tie.Need-same-length-5
+same-length-5 : tie.Need-shape_of-counts-in-Closure
 same-length-5 c = search rules
 
 -- src/lib.rt:41:1
-returns-5 : tie.Need-returns-5
+returns-5 : tie.Need-returns-in-Closure
 unfolding numbers_of
 returns-5 c =
-    rw c.before.before.before.before.before.running4.given.1 (refl, c.before.before.tell-four4.ensures)
+    rw c.before.before.before.before.before.running-in-Closure-1.given.1 (refl, c.before.before.tell_four-in-Closure.ensures)
 
 -- src/lib.rt:41:1
-same-length-6 : tie.Need-same-length-6
+same-length-6 : tie.Need-shape_of-counts-in-Operation
 same-length-6 c = search rules
 
 -- src/lib.rt:41:1
-returns-6 : tie.Need-returns-6
+returns-6 : tie.Need-returns-in-Operation
 unfolding numbers_of
 returns-6 c =
-    rw c.before.before.before.before.before.running5.given.1 (refl, c.before.before.tell-four5.ensures)
+    rw c.before.before.before.before.before.running-in-Operation-1.given.1 (refl, c.before.before.tell_four-in-Operation.ensures)
 
-pub tell-running-spec : {M : Type 1} → statement M
-tell-running-spec =
+pub tell_running_spec : {M : Type 1} → statement M
+tell_running_spec =
     tie.close
     (tie.spec
     enum-known-running

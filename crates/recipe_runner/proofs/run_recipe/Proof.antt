@@ -11,65 +11,65 @@ expand-requires : tie.Need-expand-requires
 expand-requires c κs = search rules
 
 -- src/lib.rt:28:21
-enum-known-l : tie.Need-enum-known-l
+enum-known-l : tie.Need-enum_known-l
 enum-known-l c = search rules
 
 -- src/lib.rt:30:23
-cast-end : tie.Need-overflow-cast-end
+cast-end : tie.Need-overflow_cast-end
 cast-end c = search rules
 
 -- src/lib.rt:31:44
-slice-reshare-prefix-run : tie.Need-slice-reshare-prefix-run
+slice-reshare-prefix-run : tie.Need-slice_bounds-run-end
 slice-reshare-prefix-run c =
-    term-inside _ _ _ _ _ _ _ c.before.before.before.before.before.before.before.expand.ensures _ _ _ c.before.l.given.1
+    term-inside _ _ _ _ _ _ _ c.before.before.before.before.before.before.before.expand.ensures _ _ _ c.before.l-1.given.1
 
 -- src/lib.rt:31:44
-slice-aggregate-run : tie.Need-slice-aggregate-run
+slice-aggregate-run : tie.Need-slice_bounds-run-end-in-Accepted
 slice-aggregate-run c =
-    sym (length-take-le _ _ (term-inside _ _ _ _ _ _ _ c.before.before.before.before.before.before.before.before.expand.ensures _ _ _ c.before.before.l.given.1))
+    sym (length-take-le _ _ (term-inside _ _ _ _ _ _ _ c.before.before.before.before.before.before.before.before.expand.ensures _ _ _ c.before.before.l-1.given.1))
 
 -- src/lib.rt:31:32
 run-requires : tie.Need-run-requires
 run-requires c κs = search rules
 
 -- src/lib.rt:34:21
-enum-known-g : tie.Need-enum-known-g
+enum-known-g : tie.Need-enum_known-g
 enum-known-g c = search rules
 
 -- src/lib.rt:14:1
-same_length : tie.Need-same-length
+same_length : tie.Need-shape_of-work-in-Accepted
 same_length c = search rules
 
 -- src/lib.rt:14:1
-same-length-2 : tie.Need-same-length-2
+same-length-2 : tie.Need-shape_of-core-in-Accepted
 same-length-2 c = search rules
 
 -- src/lib.rt:14:1
-same-length-3 : tie.Need-same-length-3
+same-length-3 : tie.Need-shape_of-table
 same-length-3 c = search rules
 
 -- src/lib.rt:14:1
-returns : tie.Need-returns
+returns : tie.Need-returns-in-Accepted
 returns c =
     let at-run = c.before.before in
     let at-l = at-run.before.before.before.before in
-    recipe-ran _ _ _ _ _ _ _ at-l.before.before.before.before.before.before.expand.ensures _ _ _ at-l.l.given.1 _ _ _ _ at-run.run.ensures
+    recipe-ran _ _ _ _ _ _ _ at-l.before.before.before.before.before.before.expand.ensures _ _ _ at-l.l-1.given.1 _ _ _ _ at-run.run.ensures
 
 -- src/lib.rt:14:1
-same-length-4 : tie.Need-same-length-4
+same-length-4 : tie.Need-shape_of-work-in-Refused
 same-length-4 c = search rules
 
 -- src/lib.rt:14:1
-same-length-5 : tie.Need-same-length-5
+same-length-5 : tie.Need-shape_of-core-in-Refused
 same-length-5 c = search rules
 
 -- src/lib.rt:14:1
-returns-2 : tie.Need-returns-2
+returns-2 : tie.Need-returns-in-Refused
 returns-2 c =
-    recipe-stopped _ _ _ _ _ _ _ c.before.before.before.before.before.before.before.expand.ensures _ _ _ c.before.g.given.1 _ _
+    recipe-stopped _ _ _ _ _ _ _ c.before.before.before.before.before.before.before.expand.ensures _ _ _ c.before.g-1.given.1 _ _
 
-pub run-recipe-spec : {M : Type 1} → statement M
-run-recipe-spec =
+pub run_recipe_spec : {M : Type 1} → statement M
+run_recipe_spec =
     tie.close
     (tie.spec
     expand-requires

@@ -14,10 +14,10 @@ use Rattle.run_recipe.specs.ValueLaws.{output-told}
 
 returns : tie.Need-returns
 returns c =
-    output-told _ _ _ _ _ _ _ _ _ c.before.before.before.before.before.before.before.before.value.ensures (search rules) (search rules) (search rules) (search rules) c.before.before.line.ensures
+    output-told _ _ _ _ _ _ _ _ _ c.before.before.before.before.before.before.before.before.value-answer.ensures (search rules) (search rules) (search rules) (search rules) c.before.before.line.ensures
 
-pub output-spec : {M : Type 1} → statement M
-output-spec =
+pub output_spec : {M : Type 1} → statement M
+output_spec =
     tie.close
     (tie.spec
     (λ c κs. search rules)  -- item-table-requires

@@ -11,16 +11,16 @@ use mathlib.Core.Path.{sym}
 use lib.Seq.{length-take-le}
 use Rattle.program_laws.specs.Printed.{printed-within}
 
-array-share-prefix-out : tie.Need-array-share-prefix-out
+array-share-prefix-out : tie.Need-slice_bounds-out-end
 array-share-prefix-out c =
-    printed-within c.before.output.ensures
+    printed-within c.before.output-end.ensures
 
-slice-aggregate-write-all : tie.Need-slice-aggregate-write-all
+slice-aggregate-write-all : tie.Need-slice_bounds-write_all-end
 slice-aggregate-write-all c =
-    sym (length-take-le _ _ (printed-within c.before.before.output.ensures))
+    sym (length-take-le _ _ (printed-within c.before.before.output-end.ensures))
 
-pub print-spec : {M : Type 1} → statement M
-print-spec =
+pub print_spec : {M : Type 1} → statement M
+print_spec =
     tie.close
     (tie.spec
     (λ c. search rules)  -- slice-aggregate-output

@@ -17,17 +17,17 @@ mark-requires c κs =
     (pre'.0, (pre'.1.term, here-whole operations_most small _ _ pre'.1.is))
 
 -- src/lib.rt:99:9
-go-requires : tie.Need-go-requires
+go-requires : tie.Need-go-end-requires
 go-requires c κs =
     let at_mark = c.before.before.before.before in
     (at_mark.mark.ensures.0, (_, starts _ at_mark.before.before.before.before.before.requires.1))
 
 -- src/lib.rt:100:5
-zero-words-requires : tie.Need-zero-words-requires
+zero-words-requires : tie.Need-zero_words-requires
 zero-words-requires c κs = search rules
 
 -- src/lib.rt:102:20
-enum-known-end : tie.Need-enum-known-end
+enum-known-end : tie.Need-enum_known-end
 enum-known-end c = search rules
 
 -- src/lib.rt:102:33
@@ -35,47 +35,47 @@ whole-requires : tie.Need-whole-requires
 whole-requires c κs = search rules
 
 -- src/lib.rt:103:21
-enum-known-end-2 : tie.Need-enum-known-end-2
+enum-known-end-2 : tie.Need-enum_known-end-in-Ground-1
 enum-known-end-2 c = search rules
 
 -- src/lib.rt:88:1
-same_length : tie.Need-same-length
+same_length : tie.Need-shape_of-ends-in-Value
 same_length c = search rules
 
 -- src/lib.rt:88:1
-same-length-2 : tie.Need-same-length-2
+same-length-2 : tie.Need-shape_of-table-in-Value
 same-length-2 c = search rules
 
 -- src/lib.rt:88:1
-returns : tie.Need-returns
+returns : tie.Need-returns-in-Value
 returns c =
     let at-end = c.before.before in
     let at-zero-words = at-end.before.before.before.before in
     let at-go = at-zero-words.before.before.before.before in
     let at-args = at-go.before.before.before.before.before.before.before.before.before.before in
-    let zeros = at-zero-words.zero-words.ensures ∙ ap (λ (n : ℕ). replicate n 0) at-go.go.auto.1.1.1.0 in
-    ran-value _ at-args.requires.1 zeros _ _ (at-go.go.ensures _ (starts _ at-args.requires.1)) _ _ at-end.end.given.1 _ c.whole.ensures
+    let zeros = at-zero-words.zero_words.ensures ∙ ap (λ (n : ℕ). replicate n 0) at-go.go-end.auto.1.1.1.0 in
+    ran-value _ at-args.requires.1 zeros _ _ (at-go.go-end.ensures _ (starts _ at-args.requires.1)) _ _ at-end.end-1.given.1 _ c.whole.ensures
 
 -- src/lib.rt:88:1
-same-length-3 : tie.Need-same-length-3
+same-length-3 : tie.Need-shape_of-ends-in-Ground
 same-length-3 c = search rules
 
 -- src/lib.rt:88:1
-same-length-4 : tie.Need-same-length-4
+same-length-4 : tie.Need-shape_of-table-in-Ground
 same-length-4 c = search rules
 
 -- src/lib.rt:88:1
-returns-2 : tie.Need-returns-2
+returns-2 : tie.Need-returns-in-Ground
 returns-2 c =
     let at-end2 = c.before in
     let at-zero-words = at-end2.before.before.before.before in
     let at-go = at-zero-words.before.before.before.before in
     let at-args = at-go.before.before.before.before.before.before.before.before.before.before in
-    let zeros = at-zero-words.zero-words.ensures ∙ ap (λ (n : ℕ). replicate n 0) at-go.go.auto.1.1.1.0 in
-    ran-ground _ at-args.requires.1 zeros _ _ (at-go.go.ensures _ (starts _ at-args.requires.1)) _ at-end2.end2.given.1
+    let zeros = at-zero-words.zero_words.ensures ∙ ap (λ (n : ℕ). replicate n 0) at-go.go-end.auto.1.1.1.0 in
+    ran-ground _ at-args.requires.1 zeros _ _ (at-go.go-end.ensures _ (starts _ at-args.requires.1)) _ at-end2.end-in-Ground-1.given.1
 
-pub evaluated-spec : {M : Type 1} → statement M
-evaluated-spec =
+pub evaluated_spec : {M : Type 1} → statement M
+evaluated_spec =
     tie.close
     (tie.spec
     mark-requires

@@ -9,24 +9,24 @@ use Rattle.runner.specs.Memo.{Memo, memo-none}
 use Rattle.runner.specs.ServiceLaws.{tested-fit, tested-unfit, ran-unfit}
 
 -- src/lib.rt:123:9
-unfit-requires : tie.Need-unfit-requires
+unfit-requires : tie.Need-unfit-g-requires
 unfit-requires c κs = search rules
 
 -- src/lib.rt:125:9
-same_length : tie.Need-same-length
+same_length : tie.Need-shape_of-table-then-g-ne0
 same_length c = search rules
 
 -- src/lib.rt:125:9
-returns : tie.Need-returns
+returns : tie.Need-returns-then-g-ne0
 returns c =
-    ran-unfit (tested-unfit _ _ _ _ c.if1.true c.before.unfit.ensures)
+    ran-unfit (tested-unfit _ _ _ _ c.if-g-ne0.true c.before.unfit-g.ensures)
 
 -- src/lib.rt:128:24
-short-ends-requires : tie.Need-short-ends-requires
+short-ends-requires : tie.Need-short_ends-ends-requires
 short-ends-requires c κs = search rules
 
 -- src/lib.rt:129:33
-slice-aggregate-evaluated : tie.Need-slice-aggregate-evaluated
+slice-aggregate-evaluated : tie.Need-slice_bounds-evaluated-end
 slice-aggregate-evaluated c = search rules
 
 -- src/lib.rt:129:9
@@ -35,24 +35,24 @@ evaluated-requires c κs =
     let at-short-ends = c.before.before in
     let at-if1 = at-short-ends.before.before in
     let at-unfit = at-if1.before in (
-      subst (λ (e : List ℕ). Memo at-unfit.before.before.before.before.args.words.now e) (sym at-short-ends.short-ends.ensures) (memo-none _ 1024),
-      tested-fit _ _ _ _ at-if1.if1.false at-unfit.unfit.ensures,
+      subst (λ (e : List ℕ). Memo at-unfit.before.before.before.before.args.words.now e) (sym at-short-ends.short_ends-ends.ensures) (memo-none _ 1024),
+      tested-fit _ _ _ _ at-if1.if-g-ne0.false at-unfit.unfit-g.ensures,
     )
 
 -- src/lib.rt:129:9
-same-length-2 : tie.Need-same-length-2
+same-length-2 : tie.Need-shape_of-table-then-words-le-SHORT
 same-length-2 c = search rules
 
 -- src/lib.rt:129:9
-returns-2 : tie.Need-returns-2
+returns-2 : tie.Need-returns-then-words-le-SHORT
 returns-2 c = search rules
 
 -- src/lib.rt:131:20
-long-ends-requires : tie.Need-long-ends-requires
+long-ends-requires : tie.Need-long_ends-ends-requires
 long-ends-requires c κs = search rules
 
 -- src/lib.rt:132:22
-slice-aggregate-evaluated-2 : tie.Need-slice-aggregate-evaluated-2
+slice-aggregate-evaluated-2 : tie.Need-slice_bounds-evaluated-end-2
 slice-aggregate-evaluated-2 c = search rules
 
 -- src/lib.rt:132:5
@@ -61,16 +61,16 @@ evaluated-requires-2 c κs =
     let at-long-ends = c.before.before in
     let at-if1 = at-long-ends.before.before in
     let at-unfit = at-if1.before in (
-      subst (λ (e : List ℕ). Memo at-unfit.before.before.before.before.args.words.now e) (sym at-long-ends.long-ends.ensures) (memo-none _ 36864),
-      tested-fit _ _ _ _ at-if1.if1.false at-unfit.unfit.ensures,
+      subst (λ (e : List ℕ). Memo at-unfit.before.before.before.before.args.words.now e) (sym at-long-ends.long_ends-ends.ensures) (memo-none _ 36864),
+      tested-fit _ _ _ _ at-if1.if-g-ne0.false at-unfit.unfit-g.ensures,
     )
 
 -- src/lib.rt:120:1
-same-length-3 : tie.Need-same-length-3
+same-length-3 : tie.Need-shape_of-table
 same-length-3 c = search rules
 
 -- src/lib.rt:120:1
-returns-3 : tie.Need-returns-3
+returns-3 : tie.Need-returns
 returns-3 c = search rules
 
 pub run_spec : {M : Type 1} → statement M

@@ -9,38 +9,38 @@ use lib.ListN.{length}
 use Rattle.runner.specs.ServiceLaws.{no-term, over-budget, short-table, fits}
 
 -- src/lib.rt:56:9
-is-term-unnamed-requires : tie.Need-is-term-unnamed-requires
+is-term-unnamed-requires : tie.Need-is_term_unnamed-requires
 is-term-unnamed-requires c κs = search rules
 
 -- src/lib.rt:57:9
-returns : tie.Need-returns
+returns : tie.Need-returns-then-not-is_term_unnamed
 returns c =
-    no-term _ _ _ (sym c.before.is-term-unnamed.ensures ∙ not-true _ c.if1.true)
+    no-term _ _ _ (sym c.before.is_term_unnamed.ensures ∙ not-true _ c.if-not-is_term_unnamed.true)
 
 -- src/lib.rt:60:9
-returns-2 : tie.Need-returns-2
+returns-2 : tie.Need-returns-then-budget-gt-BUDGET
 returns-2 c =
-    over-budget _ _ _ (sym c.before.before.is-term-unnamed.ensures ∙ not-false _ c.before.if1.false) c.if2.true
+    over-budget _ _ _ (sym c.before.before.is_term_unnamed.ensures ∙ not-false _ c.before.if-not-is_term_unnamed.false) c.if-budget-gt-BUDGET.true
 
 -- src/lib.rt:62:34
-add-if3 : tie.Need-overflow-add-if3
+add-if3 : tie.Need-overflow_add-budget
 add-if3 c = search rules
 
 -- src/lib.rt:62:22
-mul-if3 : tie.Need-overflow-mul-if3
+mul-if3 : tie.Need-overflow_mul-budget
 mul-if3 c = search rules
 
 -- src/lib.rt:63:9
-returns-3 : tie.Need-returns-3
+returns-3 : tie.Need-returns-then-table-budget
 returns-3 c =
-    short-table _ _ _ (sym c.before.before.before.is-term-unnamed.ensures ∙ not-false _ c.before.before.if1.false) c.before.if2.false c.if3.true
+    short-table _ _ _ (sym c.before.before.before.is_term_unnamed.ensures ∙ not-false _ c.before.before.if-not-is_term_unnamed.false) c.before.if-budget-gt-BUDGET.false c.if-table-budget.true
 
 -- src/lib.rt:53:1
-returns-4 : tie.Need-returns-4
+returns-4 : tie.Need-returns
 returns-4 c =
-    fits _ _ _ (sym c.before.before.before.is-term-unnamed.ensures ∙ not-false _ c.before.before.if1.false) c.before.if2.false c.if3.false
+    fits _ _ _ (sym c.before.before.before.is_term_unnamed.ensures ∙ not-false _ c.before.before.if-not-is_term_unnamed.false) c.before.if-budget-gt-BUDGET.false c.if-table-budget.false
 
-pub unfit-spec : {M : Type 1} → statement M
-unfit-spec =
+pub unfit_spec : {M : Type 1} → statement M
+unfit_spec =
     tie.close
     (tie.spec is-term-unnamed-requires returns returns-2 add-if3 mul-if3 returns-3 returns-4)

@@ -8,28 +8,28 @@ use Rattle.writer.proofs.has_room.Reads as has-room-reads
 use Rattle.writer.proofs.term.term.Reads as term-reads
 use Rattle.writer.specs.WroteLaws.{room-measured, walk-short, walk-fits}
 
-returns : tie.Need-returns
+returns : tie.Need-returns-then-has_room
 returns c =
-    λ operations t k. room-measured _ operations _ t k _ (sym c.before.has_room.ensures ∙ c.if1.true)
+    λ operations t k. room-measured _ operations _ t k _ (sym c.before.has_room.ensures ∙ c.if-has_room.true)
 
 term-requires : tie.Need-term-requires
 term-requires c κs =
     let pre' = c.before.before.before.before.before.before.before.before.requires in
     (omega arith, pre'.0, pre'.1)
 
-returns-2 : tie.Need-returns-2
+returns-2 : tie.Need-returns-in_default
 returns-2 c =
     let at-term = c.before.before.before.before in
-    λ operations. walk-short _ operations _ _ at-term.before.before.before.before.before.before.before.before.before.requires.2 at-term.term.ensures c.enum_told.given.1
+    λ operations. walk-short _ operations _ _ at-term.before.before.before.before.before.before.before.before.before.requires.2 at-term.term.ensures c.enum_told-1.given.1
 
-returns-3 : tie.Need-returns-3
+returns-3 : tie.Need-returns
 returns-3 c =
     let at-used = c.before in
     let at-term = at-used.before.before.before.before in
-    λ operations. walk-fits _ operations _ _ at-term.before.before.before.before.before.before.before.before.before.requires.2 at-term.term.ensures _ _ at-used.used.given.1
+    λ operations. walk-fits _ operations _ _ at-term.before.before.before.before.before.before.before.before.before.requires.2 at-term.term.ensures _ _ at-used.used-1.given.1
 
-pub text-fits-spec : {M : Type 1} → statement M
-text-fits-spec =
+pub text_fits_spec : {M : Type 1} → statement M
+text_fits_spec =
     tie.close
     (tie.spec
     (λ c κs. search rules)  -- has-room-requires

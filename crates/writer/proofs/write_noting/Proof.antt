@@ -14,20 +14,20 @@ note-requires c κs =
     let at-args = c.before.before.before.before.before in
     (is-told at-args.args.words.now at-args.args.operations at-args.args.names.now at-args.requires.0, at-args.requires.1, at-args.requires.2)
 
-slice-aggregate-write-called : tie.Need-slice-aggregate-write-called
+slice-aggregate-write-called : tie.Need-slice_bounds-write_called-end-2
 slice-aggregate-write-called c =
     let at-note = c.before.before.before.before in
     let at-args = at-note.before.before.before.before.before.before in
     let h : at-args.args.count ≤ length at-note.note.new.1.1.0 = omega (arith, at-args.requires.2, at-note.note.auto.1.1.0) in
     sym (length-take-le at-args.args.count at-note.note.new.1.1.0 h)
 
-write-called-requires : tie.Need-write-called-requires
+write-called-requires : tie.Need-write_called-requires
 write-called-requires c κs =
     let at-note = c.before.before.before.before in
     (at-note.before.before.before.before.before.before.requires.0, λ e. absurd (true≢false e), called-table true _ refl ∙ at-note.note.ensures)
 
-pub write-noting-spec : {M : Type 1} → statement M
-write-noting-spec =
+pub write_noting_spec : {M : Type 1} → statement M
+write_noting_spec =
     tie.close
     (tie.spec
     note-requires

@@ -6,39 +6,39 @@ use lib.ListN.{get_or-eq_default}
 use Rattle.arena.specs.Arena.{word_at}
 use Rattle.words.specs.ListLaws.{either}
 
-wrapping-sub-usize-requires : tie.Need-wrapping-sub-usize-requires
+wrapping-sub-usize-requires : tie.Need-wrapping_sub_usize-i-requires
 wrapping-sub-usize-requires c κs = search rules
 
-mul-result : tie.Need-overflow-mul-result
+mul-result : tie.Need-offset_bounds-work-i
 mul-result c = search rules
 
-shared-slice-read-result : tie.Need-shared-slice-read-result
+shared-slice-read-result : tie.Need-bounds-work-i
 shared-slice-read-result c = search rules
 
-returns : tie.Need-returns
+returns : tie.Need-returns-then-i-work
 unfolding word_at
 returns c =
     let entry = c.before.before.before.before in
     let a = entry.args in
-    let wrapped = c.before.before.wrapping-sub-usize in
-    let h : a.k ≤ a.at = omega (arith, wrapped.ensures, c.before.if1.true) in
-    let e : wrapped.result ≡ a.at - a.k = omega (arith, wrapped.ensures, c.before.if1.true) in
+    let wrapped = c.before.before.wrapping_sub_usize-i in
+    let h : a.k ≤ a.at = omega (arith, wrapped.ensures, c.before.if-i-work.true) in
+    let e : wrapped.result ≡ a.at - a.k = omega (arith, wrapped.ensures, c.before.if-i-work.true) in
     rw (entry.requires, le-ltb a.at a.k h, e)
 
-returns-2 : tie.Need-returns-2
+returns-2 : tie.Need-returns
 unfolding word_at
 returns-2 c =
     let entry = c.before.before.before in
     let a = entry.args in
-    let wrapped = c.before.wrapping-sub-usize in
+    let wrapped = c.before.wrapping_sub_usize-i in
     sym (either (ltb a.at a.k)
     (λ t. rw (entry.requires, t))
     (λ t.
     let h : a.k ≤ a.at = ltb-false a.at a.k t in
-    let l : length a.work.now ≤ a.at - a.k = omega (arith, wrapped.ensures, h, c.if1.false) in
+    let l : length a.work.now ≤ a.at - a.k = omega (arith, wrapped.ensures, h, c.if-i-work.false) in
     rw (entry.requires, t) (get_or-eq_default a.work.now 0 l)))
 
-pub further-word-spec : {M : Type 1} → statement M
-further-word-spec =
+pub further_word_spec : {M : Type 1} → statement M
+further_word_spec =
     tie.close
     (tie.spec wrapping-sub-usize-requires mul-result shared-slice-read-result returns returns-2)

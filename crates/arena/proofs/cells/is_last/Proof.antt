@@ -4,15 +4,15 @@ use Rattle.words.specs.Lists.{within}
 use Rattle.std.proofs.Common.{le-leb}
 use borrow.Author.Tests.{lt-leb}
 
-returns : tie.Need-returns
+returns : tie.Need-returns-then-k-ge1
 unfolding within
 returns c =
-    rw (le-leb 1 c.before.args.k c.if1.true)
+    rw (le-leb 1 c.before.args.k c.if-k-ge1.true)
 
-returns-2 : tie.Need-returns-2
+returns-2 : tie.Need-returns-else-k-ge1
 unfolding within
 returns-2 c =
-    rw (lt-leb 1 c.before.args.k c.if1.false)
+    rw (lt-leb 1 c.before.args.k c.if-k-ge1.false)
 
-pub is-last-spec : {M : Type 1} → statement M
-is-last-spec = tie.close (tie.spec returns returns-2)
+pub is_last_spec : {M : Type 1} → statement M
+is_last_spec = tie.close (tie.spec returns returns-2)

@@ -4,15 +4,15 @@ use Rattle.arena.proofs.cells.put.Statement.{statement}
 use Rattle.arena.proofs.cells.put.Tie as tie
 use Rattle.arena.specs.CellLaws.{cell-stored}
 
-slice-write-work-2 : tie.Need-slice-write-work-2
+slice-write-work-2 : tie.Need-bounds-work-at-2
 slice-write-work-2 c =
     simp length-set (omega arith)
 
-slice-write-work-3 : tie.Need-slice-write-work-3
+slice-write-work-3 : tie.Need-bounds-work-at-3
 slice-write-work-3 c =
     simp length-set (omega arith)
 
-same_length : tie.Need-same-length
+same_length : tie.Need-shape_of-work
 same_length c =
     simp length-set
 

@@ -7,7 +7,7 @@ use Rattle.arena.specs.CellLaws.{grown-constant}
 put-requires : tie.Need-put-requires
 put-requires c κs = search rules
 
-same_length : tie.Need-same-length
+same_length : tie.Need-shape_of-work
 same_length c = search rules
 
 returns : tie.Need-returns
@@ -18,5 +18,5 @@ returns c =
     let put = c.before.before.put in
     grown-constant a.work.now _ a.top _ a.kind a.first a.second pre.1 pre.2 pre.3 put.ensures
 
-pub put-constant-spec : {M : Type 1} → statement M
-put-constant-spec = tie.close (tie.spec put-requires same_length returns)
+pub put_constant_spec : {M : Type 1} → statement M
+put_constant_spec = tie.close (tie.spec put-requires same_length returns)

@@ -7,7 +7,7 @@ use Rattle.arena.specs.CellLaws.{grown-empty}
 put-requires : tie.Need-put-requires
 put-requires c κs = search rules
 
-same_length : tie.Need-same-length
+same_length : tie.Need-shape_of-work
 same_length c = search rules
 
 returns : tie.Need-returns
@@ -16,5 +16,5 @@ returns c =
     let put = c.before.before.put in
     grown-empty a.work.now _ a.top _ 0 0 put.ensures
 
-pub put-empty-spec : {M : Type 1} → statement M
-put-empty-spec = tie.close (tie.spec put-requires same_length returns)
+pub put_empty_spec : {M : Type 1} → statement M
+put_empty_spec = tie.close (tie.spec put-requires same_length returns)

@@ -7,7 +7,7 @@ use Rattle.arena.specs.CellLaws.{wrapped-join}
 put-requires : tie.Need-put-requires
 put-requires c κs = search rules
 
-same_length : tie.Need-same-length
+same_length : tie.Need-shape_of-work
 same_length c = search rules
 
 returns : tie.Need-returns
@@ -18,5 +18,5 @@ returns c =
     let put = c.before.before.put in
     wrapped-join a.work.now _ a.top _ a.outer a.inner pre.1 pre.2 put.ensures
 
-pub put-join-spec : {M : Type 1} → statement M
-put-join-spec = tie.close (tie.spec put-requires same_length returns)
+pub put_join_spec : {M : Type 1} → statement M
+put_join_spec = tie.close (tie.spec put-requires same_length returns)

@@ -7,7 +7,7 @@ use Rattle.arena.specs.CellLaws.{grown-name}
 put-requires : tie.Need-put-requires
 put-requires c κs = search rules
 
-same_length : tie.Need-same-length
+same_length : tie.Need-shape_of-work
 same_length c = search rules
 
 returns : tie.Need-returns
@@ -18,5 +18,5 @@ returns c =
     let put = c.before.before.put in
     grown-name a.work.now _ a.top _ a.origin a.own pre.1 put.ensures
 
-pub put-name-spec : {M : Type 1} → statement M
-put-name-spec = tie.close (tie.spec put-requires same_length returns)
+pub put_name_spec : {M : Type 1} → statement M
+put_name_spec = tie.close (tie.spec put-requires same_length returns)

@@ -4,21 +4,21 @@ use Rattle.arena.proofs.cells.reference.Statement.{statement}
 use Rattle.arena.proofs.cells.reference.Tie as tie
 use Rattle.arena.specs.Arena.{falling, reference_at}
 
-word-requires : tie.Need-word-requires
+word-requires : tie.Need-word-r-requires
 word-requires c κs = search rules
 
-returns : tie.Need-returns
+returns : tie.Need-returns-then-r-at
 unfolding reference_at falling
 returns c =
-    let word = c.before.word in
-    rw (← word.ensures, lt-ltb _ _ c.if1.true)
+    let word = c.before.word-r in
+    rw (← word.ensures, lt-ltb _ _ c.if-r-at.true)
 
-returns-2 : tie.Need-returns-2
+returns-2 : tie.Need-returns
 unfolding reference_at falling
 returns-2 c =
     let args = c.before.before.before.args in
-    let word = c.before.word in
+    let word = c.before.word-r in
     let h : args.at ≤ word.result = omega arith in rw (← word.ensures, le-ltb _ _ h)
 
-pub reference-spec : {M : Type 1} → statement M
-reference-spec = tie.close (tie.spec word-requires returns returns-2)
+pub reference_spec : {M : Type 1} → statement M
+reference_spec = tie.close (tie.spec word-requires returns returns-2)

@@ -6,10 +6,10 @@ use Rattle.std.proofs.Common.{rules}
 
 returns : tie.Need-returns
 returns c =
-    let a = c.before.before.before.args in skip_first a.work.now a.list a.i _ _ c.before.skip.ensures c.first.ensures
+    let a = c.before.before.before.args in skip_first a.work.now a.list a.i _ _ c.before.skip-node.ensures c.first.ensures
 
-pub element-spec : {M : Type 1} → statement M
-element-spec =
+pub element_spec : {M : Type 1} → statement M
+element_spec =
     tie.close
     (tie.spec
     (λ c κs. search rules)  -- skip-requires

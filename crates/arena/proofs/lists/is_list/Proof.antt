@@ -4,20 +4,20 @@ use Rattle.arena.proofs.lists.is_list.Statement.{statement}
 use Rattle.arena.proofs.lists.is_list.Tie as tie
 use Rattle.arena.specs.ListLaws.{list-empty, list-pair}
 
-word-requires : tie.Need-word-requires
+word-requires : tie.Need-word-kind-requires
 word-requires c κs = search rules
 
-returns : tie.Need-returns
+returns : tie.Need-returns-then-kind-eq-EMPTY
 returns c =
     let a = c.before.before.before.args in
-    let word = c.before.word in
-    list-empty a.work.now a.node _ word.ensures c.if1.true
+    let word = c.before.word-kind in
+    list-empty a.work.now a.node _ word.ensures c.if-kind-eq-EMPTY.true
 
-returns-2 : tie.Need-returns-2
+returns-2 : tie.Need-returns
 returns-2 c =
     let a = c.before.before.before.args in
-    let word = c.before.word in
-    list-pair a.work.now a.node _ word.ensures c.if1.false
+    let word = c.before.word-kind in
+    list-pair a.work.now a.node _ word.ensures c.if-kind-eq-EMPTY.false
 
-pub is-list-spec : {M : Type 1} → statement M
-is-list-spec = tie.close (tie.spec word-requires returns returns-2)
+pub is_list_spec : {M : Type 1} → statement M
+is_list_spec = tie.close (tie.spec word-requires returns returns-2)

@@ -5,28 +5,28 @@ use Rattle.arena.specs.Lists.{Skipped}
 use Rattle.arena.specs.ListLaws.{skip-begins, skip-more, skip-ends}
 use Rattle.std.proofs.Common.{rules}
 
-abbrev invariant-loop : tie.invariant-loop
+abbrev invariant-loop : tie.invariant-loop-k
 invariant-loop work list n node₀ k₀ node k =
     Skipped work list n node k
 
-abbrev decreases-loop : tie.decreases-loop
+abbrev decreases-loop : tie.decreases-loop-k
 decreases-loop work list n node₀ k₀ node k =
     k
 
-loop-holds : tie.Need-loop-init invariant-loop decreases-loop
+loop-holds : tie.Need-loop-k-init invariant-loop decreases-loop
 loop-holds c =
     skip-begins c.before.args.work.now c.before.args.list c.before.args.n
 
-loop-again : tie.Need-loop-preserved invariant-loop decreases-loop
+loop-again : tie.Need-loop-k-preserved invariant-loop decreases-loop
 loop-again c =
-    let a = c.before.before.before.before.args in skip-more a.work.now a.list a.n c.before.before.loop.node c.before.before.loop.k _ c.before.loop-test.true c.rest.ensures c.before.before.loop.invariant
+    let a = c.before.before.before.before.args in skip-more a.work.now a.list a.n c.before.before.loop-k.node c.before.before.loop-k.k _ c.before.loop-k-test.true c.rest-node.ensures c.before.before.loop-k.invariant
 
 returns : tie.Need-returns invariant-loop decreases-loop
 returns c =
-    let a = c.before.before.before.args in skip-ends a.work.now a.list a.n c.before.loop.node c.before.loop.k c.loop-test.false c.before.loop.invariant
+    let a = c.before.before.before.args in skip-ends a.work.now a.list a.n c.before.loop-k.node c.before.loop-k.k c.loop-k-test.false c.before.loop-k.invariant
 
-pub skip-spec : {M : Type 1} → statement M
-skip-spec =
+pub skip_spec : {M : Type 1} → statement M
+skip_spec =
     tie.close
     (tie.spec
     invariant-loop

@@ -12,5 +12,5 @@ returns c =
     let a = c.before.before.args in
     name-test a.work.now a.node _ c.word.ensures
 
-pub is-name-spec : {M : Type 1} → statement M
-is-name-spec = tie.close (tie.spec word-requires returns)
+pub is_name_spec : {M : Type 1} → statement M
+is_name_spec = tie.close (tie.spec word-requires returns)

@@ -8,5 +8,5 @@ returns : tie.Need-returns
 unfolding origin_name
 returns c = refl
 
-pub number-spec : {M : Type 1} → statement M
-number-spec = tie.close (tie.spec returns)
+pub number_spec : {M : Type 1} → statement M
+number_spec = tie.close (tie.spec returns)

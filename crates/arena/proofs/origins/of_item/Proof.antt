@@ -7,8 +7,8 @@ use Rattle.arena.specs.Origins.{origin-plain}
 returns : tie.Need-returns
 returns c = origin-plain _ _ c.requires.0
 
-pub of-item-spec : {M : Type 1} → statement M
-of-item-spec =
+pub of_item_spec : {M : Type 1} → statement M
+of_item_spec =
     tie.close
     (tie.spec
     (λ c. search rules)  -- mul-result

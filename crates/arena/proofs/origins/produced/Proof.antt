@@ -7,8 +7,8 @@ use Rattle.arena.specs.Origins.{origin-produced}
 returns : tie.Need-returns
 returns c = origin-produced _
 
-pub produced-spec : {M : Type 1} → statement M
-produced-spec =
+pub produced_spec : {M : Type 1} → statement M
+produced_spec =
     tie.close
     (tie.spec
     (λ c. search rules)  -- mul-result

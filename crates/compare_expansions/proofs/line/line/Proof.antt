@@ -10,20 +10,20 @@ use mathlib.Core.Path.{sym, ap, ◌∙◌}
 use native.Mathlib.Omega.{arith}
 use Rattle.compare_expansions.specs.Line.{line_of, recipe-laid, refusal-room, printed-is, line-printed}
 
-returns : tie.Need-returns
+returns : tie.Need-shape_of-out-in-Text
 unfolding line_of
 returns c =
     let at-refused = c.before.before in
     let at-answer = at-refused.before.before.before.before in
-    line-printed _ _ _ _ _ (recipe-laid _ ∙ ap line_of (sym at-answer.answer.given.1)) (refusal-room _ _ (search rules) (omega arith)) at-answer.before.before.before.requires at-refused.refused.ensures
+    line-printed _ _ _ _ _ (recipe-laid _ ∙ ap line_of (sym at-answer.answer-1.given.1)) (refusal-room _ _ (search rules) (omega arith)) at-answer.before.before.before.requires at-refused.refused.ensures
 
 returns-2 : tie.Need-returns-2
 unfolding line_of
 returns-2 c =
-    printed-is _ _ _ _ _ (ap line_of (sym c.before.before.before.before.before.answer2.given.1)) c.before.before.verdict.ensures
+    printed-is _ _ _ _ _ (ap line_of (sym c.before.before.before.before.before.answer-in-Text-1.given.1)) c.before.before.verdict.ensures
 
-pub line-spec : {M : Type 1} → statement M
-line-spec =
+pub line_spec : {M : Type 1} → statement M
+line_spec =
     tie.close
     (tie.spec
     (λ c. search rules)  -- enum-known-answer

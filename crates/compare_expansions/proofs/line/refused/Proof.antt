@@ -13,24 +13,24 @@ use Prim.Native.Nat.{ℕ}
 use Rattle.core_term.specs.Decimal.{numeral}
 use Rattle.writer.specs.LaidLaws.{left_is, place-full, place-room, place-then}
 
-returns : tie.Need-returns
+returns : tie.Need-wide-requires
 returns c =
-    place-full c.before.before.before.copy.ensures _ c.if1.true
+    place-full c.before.before.before.copy-a.ensures _ c.if-a.true
 
-numbered-requires : tie.Need-numbered-requires
+numbered-requires : tie.Need-shape_of-out-then-b
 numbered-requires c κs =
-    place-room c.before.before.before.before.before.copy.ensures c.before.before.if1.false
+    place-room c.before.before.before.before.before.copy-a.ensures c.before.before.if-a.false
 
-returns-2 : tie.Need-returns-2
+returns-2 : tie.Need-copy-requires
 returns-2 c =
     let at-numbered = c.before.before.before in
     let at_wide = at-numbered.before.before in
     let at-if1 = at_wide.before in
-    place-then at-if1.before.before.before.copy.ensures at-if1.if1.false (place-full (left_is (ap (λ (n : ℕ). 32 ∷ numeral n) at_wide.wide.ensures) at-numbered.numbered.ensures) _ c.if2.true)
+    place-then at-if1.before.before.before.copy-a.ensures at-if1.if-a.false (place-full (left_is (ap (λ (n : ℕ). 32 ∷ numeral n) at_wide.wide.ensures) at-numbered.numbered-b.ensures) _ c.if-b.true)
 
-copy-requires-2 : tie.Need-copy-requires-2
+copy-requires-2 : tie.Need-shape_of-out
 copy-requires-2 c κs =
-    place-room c.before.before.before.before.numbered.ensures c.before.if2.false
+    place-room c.before.before.before.before.numbered-b.ensures c.before.if-b.false
 
 returns-3 : tie.Need-returns-3
 returns-3 c =
@@ -39,10 +39,10 @@ returns-3 c =
     let at-numbered = at-if2.before.before.before in
     let at_wide = at-numbered.before.before in
     let at-if1 = at_wide.before in
-    place-then at-if1.before.before.before.copy.ensures at-if1.if1.false (place-then (left_is (ap (λ (n : ℕ). 32 ∷ numeral n) at_wide.wide.ensures) at-numbered.numbered.ensures) at-if2.if2.false at-copy2.copy2.ensures)
+    place-then at-if1.before.before.before.copy-a.ensures at-if1.if-a.false (place-then (left_is (ap (λ (n : ℕ). 32 ∷ numeral n) at_wide.wide.ensures) at-numbered.numbered-b.ensures) at-if2.if-b.false at-copy2.copy.ensures)
 
-pub refused-spec : {M : Type 1} → statement M
-refused-spec =
+pub refused_spec : {M : Type 1} → statement M
+refused_spec =
     tie.close
     (tie.spec
     (λ c. search rules)  -- slice-aggregate-copy

@@ -12,29 +12,29 @@ use Rattle.comparison_output.specs.Output.{verdict_line}
 use Rattle.supplier.specs.Service.{verdict_of}
 use Rattle.compare_expansions.specs.Line.{yes-laid, no-laid, text-laid, refusal-room, line-printed}
 
-returns : tie.Need-returns
+returns : tie.Need-shape_of-out-in-Refused
 unfolding verdict_of
 returns c =
     let at_copy = c.before.before in
     let at-enum-told = at_copy.before.before.before in
-    line-printed _ _ _ _ _ (yes-laid ∙ ap (λ x. verdict_line (verdict_of x)) (sym at-enum-told.enum_told.given.1)) (omega arith) at-enum-told.before.before.before.requires at_copy.copy.ensures
+    line-printed _ _ _ _ _ (yes-laid ∙ ap (λ x. verdict_line (verdict_of x)) (sym at-enum-told.enum_told-1.given.1)) (omega arith) at-enum-told.before.before.before.requires at_copy.copy.ensures
 
 returns-2 : tie.Need-returns-2
 unfolding verdict_of
 returns-2 c =
     let at-copy2 = c.before.before in
     let at-enum-told2 = at-copy2.before.before.before in
-    line-printed _ _ _ _ _ (no-laid ∙ ap (λ x. verdict_line (verdict_of x)) (sym at-enum-told2.enum-told2.given.1)) (omega arith) at-enum-told2.before.before.before.requires at-copy2.copy2.ensures
+    line-printed _ _ _ _ _ (no-laid ∙ ap (λ x. verdict_line (verdict_of x)) (sym at-enum-told2.enum_told-in-No-1.given.1)) (omega arith) at-enum-told2.before.before.before.requires at-copy2.copy-in-No.ensures
 
 returns-3 : tie.Need-returns-3
 unfolding verdict_of
 returns-3 c =
     let at-refused = c.before.before in
     let at-answer = at-refused.before.before.before.before in
-    line-printed _ _ _ _ _ (text-laid _ ∙ ap (λ x. verdict_line (verdict_of x)) (sym at-answer.answer.given.1)) (refusal-room _ _ (search rules) (omega arith)) at-answer.before.before.before.requires at-refused.refused.ensures
+    line-printed _ _ _ _ _ (text-laid _ ∙ ap (λ x. verdict_line (verdict_of x)) (sym at-answer.answer-1.given.1)) (refusal-room _ _ (search rules) (omega arith)) at-answer.before.before.before.requires at-refused.refused.ensures
 
-pub verdict-spec : {M : Type 1} → statement M
-verdict-spec =
+pub verdict_spec : {M : Type 1} → statement M
+verdict_spec =
     tie.close
     (tie.spec
     (λ c. search rules)  -- enum_told

@@ -14,47 +14,47 @@ use lib.Seq.{length-take-le}
 use Rattle.program_laws.specs.ReadLaws.{items-front, names-front}
 use Rattle.compare_expansions.specs.PairLaws.{compared-read, compared-refused}
 
-mul_words : tie.Need-overflow-mul-words
+mul_words : tie.Need-overflow_mul-words
 mul_words c =
-    let h : 3 * c.before.i.given.0.0 ≤ length c.before.before.before.before.before.before.before.read.new.1.0 =
-    (items-front _ _ _ _ _ _ c.before.before.before.before.before.before.before.read.ensures _ _ c.before.i.given.1).0 in
+    let h : 3 * c.before.i-1.given.0.0 ≤ length c.before.before.before.before.before.before.before.read.new.1.0 =
+    (items-front _ _ _ _ _ _ c.before.before.before.before.before.before.before.read.ensures _ _ c.before.i-1.given.1).0 in
     record { fits = omega arith }
 
-mul-bytes : tie.Need-overflow-mul-bytes
+mul-bytes : tie.Need-overflow_mul-bytes
 mul-bytes c =
-    let h : 64 * c.before.i.given.0.1.0 ≤ length c.before.before.before.before.before.before.before.read.new.1.1.0 =
-    (names-front _ _ _ _ _ _ c.before.before.before.before.before.before.before.read.ensures _ _ c.before.i.given.1).0 in
+    let h : 64 * c.before.i-1.given.0.1.0 ≤ length c.before.before.before.before.before.before.before.read.new.1.1.0 =
+    (names-front _ _ _ _ _ _ c.before.before.before.before.before.before.before.read.ensures _ _ c.before.i-1.given.1).0 in
     record { fits = omega arith }
 
-slice-reshare-prefix-held : tie.Need-slice-reshare-prefix-held
+slice-reshare-prefix-held : tie.Need-slice_bounds-held-end
 slice-reshare-prefix-held c =
-    (items-front _ _ _ _ _ _ c.before.before.before.before.before.before.before.read.ensures _ _ c.before.i.given.1).0
+    (items-front _ _ _ _ _ _ c.before.before.before.before.before.before.before.read.ensures _ _ c.before.i-1.given.1).0
 
-slice-aggregate-held : tie.Need-slice-aggregate-held
+slice-aggregate-held : tie.Need-slice_bounds-held-end-in-Read
 slice-aggregate-held c =
-    sym (length-take-le _ _ (items-front _ _ _ _ _ _ c.before.before.before.before.before.before.before.before.read.ensures _ _ c.before.before.i.given.1).0)
+    sym (length-take-le _ _ (items-front _ _ _ _ _ _ c.before.before.before.before.before.before.before.before.read.ensures _ _ c.before.before.i-1.given.1).0)
 
-slice-reshare-prefix-held-2 : tie.Need-slice-reshare-prefix-held-2
+slice-reshare-prefix-held-2 : tie.Need-slice_bounds-held-end-in-Read-2
 slice-reshare-prefix-held-2 c =
-    (names-front _ _ _ _ _ _ c.before.before.before.before.before.before.before.before.read.ensures _ _ c.before.before.i.given.1).0
+    (names-front _ _ _ _ _ _ c.before.before.before.before.before.before.before.before.read.ensures _ _ c.before.before.i-1.given.1).0
 
-slice-aggregate-held-2 : tie.Need-slice-aggregate-held-2
+slice-aggregate-held-2 : tie.Need-slice_bounds-held-end-in-Read-3
 slice-aggregate-held-2 c =
     let at_i = c.before.before.before in
-    sym (length-take-le _ _ (names-front _ _ _ _ _ _ at_i.before.before.before.before.before.before.read.ensures _ _ at_i.i.given.1).0)
+    sym (length-take-le _ _ (names-front _ _ _ _ _ _ at_i.before.before.before.before.before.before.read.ensures _ _ at_i.i-1.given.1).0)
 
-returns : tie.Need-returns
+returns : tie.Need-returns-in-Read
 returns c =
     let at_held = c.before.before.before.before.before.before.before.before in
     let at_i = at_held.before.before.before.before.before.before.before.before in
-    compared-read _ _ _ _ _ _ at_i.before.before.before.before.before.before.read.ensures _ _ _ _ _ _ at_i.i.given.1 _ at_held.held.ensures
+    compared-read _ _ _ _ _ _ at_i.before.before.before.before.before.before.read.ensures _ _ _ _ _ _ at_i.i-1.given.1 _ at_held.held.ensures
 
-returns-2 : tie.Need-returns-2
+returns-2 : tie.Need-returns-in-Refused
 returns-2 c =
-    compared-refused _ _ _ _ _ _ c.before.before.before.before.before.before.before.read.ensures _ _ _ _ _ c.before.ground.given.1
+    compared-refused _ _ _ _ _ _ c.before.before.before.before.before.before.before.read.ensures _ _ _ _ _ c.before.ground-1.given.1
 
-pub compared-spec : {M : Type 1} → statement M
-compared-spec =
+pub compared_spec : {M : Type 1} → statement M
+compared_spec =
     tie.close
     (tie.spec
     (λ c κs. search rules)  -- read-requires

@@ -13,32 +13,32 @@ use lib.ListN.{length}
 use Rattle.core_term.specs.Code.Window.{put, marked}
 use Rattle.core_term.specs.Code.WindowLaws.{marked_more}
 
-abbrev invariant-loop : tie.invariant-loop
+abbrev invariant-loop : tie.invariant-loop-k
 invariant-loop flags₀ base from to value k₀ flags k =
     (length flags ≡ length flags₀) × (from ≤ k) × (k - from ≤ to - from) × (flags ≡ marked base from (k - from) value flags₀)
 
-abbrev decreases-loop : tie.decreases-loop
+abbrev decreases-loop : tie.decreases-loop-k
 decreases-loop flags₀ base from to value k₀ flags k =
     to - k
 
-loop-holds : tie.Need-loop-init invariant-loop decreases-loop
+loop-holds : tie.Need-loop-k-init invariant-loop decreases-loop
 unfolding marked
 loop-holds c =
     let e : c.before.args.from - c.before.args.from ≡ 0 = omega arith in (refl, omega arith, omega arith, rw e)
 
-loop-again : tie.Need-loop-preserved invariant-loop decreases-loop
+loop-again : tie.Need-loop-k-preserved invariant-loop decreases-loop
 loop-again c =
     let at_set = c.before.before in
     let at-loop = at_set.before.before.before in
-    let a = at-loop.before.before.args in let l = at-loop.loop in let e = at_set.set.ensures ∙ ap (λ (s : List ℕ). put a.base l.k a.value s) l.invariant.3 ∙ marked_more a.base a.from l.k a.value a.flags.now l.invariant.1 in (at_set.set.auto.0 ∙ l.invariant.0, omega arith, omega arith, e)
+    let a = at-loop.before.before.args in let l = at-loop.loop-k in let e = at_set.set.ensures ∙ ap (λ (s : List ℕ). put a.base l.k a.value s) l.invariant.3 ∙ marked_more a.base a.from l.k a.value a.flags.now l.invariant.1 in (at_set.set.auto.0 ∙ l.invariant.0, omega arith, omega arith, e)
 
-same_length : tie.Need-same-length invariant-loop decreases-loop
+same_length : tie.Need-shape_of-flags invariant-loop decreases-loop
 same_length c =
-    c.before.loop.invariant.0
+    c.before.loop-k.invariant.0
 
 returns : tie.Need-returns invariant-loop decreases-loop
 returns c =
-    let a = c.before.before.before.args in let l = c.before.loop in let e : l.k - a.from ≡ a.to - a.from = omega arith in l.invariant.3 ∙ ap (λ (n : ℕ). marked a.base a.from n a.value a.flags.now) e
+    let a = c.before.before.before.args in let l = c.before.loop-k in let e : l.k - a.from ≡ a.to - a.from = omega arith in l.invariant.3 ∙ ap (λ (n : ℕ). marked a.base a.from n a.value a.flags.now) e
 
 pub mark_spec : {M : Type 1} → statement M
 mark_spec =

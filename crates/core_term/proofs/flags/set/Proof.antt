@@ -7,25 +7,25 @@ use Rattle.core_term.proofs.flags.set.Lts as lts
 use mathlib.Core.Path.{sym}
 use Rattle.core_term.specs.Code.WindowLaws.{put-below, put_in, put-past}
 
-returns : tie.Need-returns
+returns : tie.Need-returns-then-k-base
 returns c =
-    sym (put-below _ _ _ _ c.if1.true)
+    sym (put-below _ _ _ _ c.if-k-base.true)
 
-returns-2 : tie.Need-returns-2
+returns-2 : tie.Need-returns-then-i-flags
 returns-2 c =
-    sym (put-past _ _ _ _ c.before.if1.false c.if2.true)
+    sym (put-past _ _ _ _ c.before.if-k-base.false c.if-i-flags.true)
 
-slice-write-flags : tie.Need-slice-write-flags
+slice-write-flags : tie.Need-bounds-flags-i
 slice-write-flags c =
     search rules
 
-same_length : tie.Need-same-length
+same_length : tie.Need-shape_of-flags
 same_length c =
     search rules
 
-returns-3 : tie.Need-returns-3
+returns-3 : tie.Need-returns
 returns-3 c =
-    sym (put_in _ _ _ _ c.before.if1.false)
+    sym (put_in _ _ _ _ c.before.if-k-base.false)
 
 pub set_spec : {M : Type 1} → statement M
 set_spec = tie.close (tie.spec returns returns-2 slice-write-flags same_length returns-3)

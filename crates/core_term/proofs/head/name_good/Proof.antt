@@ -9,36 +9,36 @@ use mathlib.Core.Path.{sym}
 use borrow.Author.Tests.{not-true, not-false}
 use Rattle.core_term.specs.Code.WindowLaws.{good-past, good-free, good-short, good-some, good-empty}
 
-returns : tie.Need-returns
+returns : tie.Need-returns-then-n-ge-NAMES
 returns c =
-    sym (good-past _ _ _ c.if1.true)
+    sym (good-past _ _ _ c.if-n-ge-NAMES.true)
 
-returns-2 : tie.Need-returns-2
+returns-2 : tie.Need-returns-then-not-tabled
 returns-2 c =
-    sym (good-free _ _ _ c.before.if1.false (not-true c.before.before.before.args.tabled c.if2.true))
+    sym (good-free _ _ _ c.before.if-n-ge-NAMES.false (not-true c.before.before.before.args.tabled c.if-not-tabled.true))
 
-returns-3 : tie.Need-returns-3
+returns-3 : tie.Need-returns-then-names-start
 returns-3 c =
-    sym (good-short _ _ _ c.before.before.if1.false (not-false c.before.before.before.before.args.tabled c.before.if2.false) c.if3.true)
+    sym (good-short _ _ _ c.before.before.if-n-ge-NAMES.false (not-false c.before.before.before.before.args.tabled c.before.if-not-tabled.false) c.if-names-start.true)
 
-returns-4 : tie.Need-returns-4
+returns-4 : tie.Need-returns-then-length-ge1
 returns-4 c =
     let at_size = c.before in
     let at-if3 = at_size.before.before in
     let at-if2 = at-if3.before in
     let at-if1 = at-if2.before in
-    sym (good-some _ _ _ _ at_size.size.ensures at-if1.if1.false (not-false at-if1.before.before.args.tabled at-if2.if2.false) at-if3.if3.false c.if4.true)
+    sym (good-some _ _ _ _ at_size.size-length.ensures at-if1.if-n-ge-NAMES.false (not-false at-if1.before.before.args.tabled at-if2.if-not-tabled.false) at-if3.if-names-start.false c.if-length-ge1.true)
 
-returns-5 : tie.Need-returns-5
+returns-5 : tie.Need-returns-else-length-ge1
 returns-5 c =
     let at_size = c.before in
     let at-if3 = at_size.before.before in
     let at-if2 = at-if3.before in
     let at-if1 = at-if2.before in
-    sym (good-empty _ _ _ _ at_size.size.ensures at-if1.if1.false (not-false at-if1.before.before.args.tabled at-if2.if2.false) at-if3.if3.false c.if4.false)
+    sym (good-empty _ _ _ _ at_size.size-length.ensures at-if1.if-n-ge-NAMES.false (not-false at-if1.before.before.args.tabled at-if2.if-not-tabled.false) at-if3.if-names-start.false c.if-length-ge1.false)
 
-pub name-good-spec : {M : Type 1} → statement M
-name-good-spec =
+pub name_good_spec : {M : Type 1} → statement M
+name_good_spec =
     tie.close
     (tie.spec
     returns

@@ -15,40 +15,40 @@ use Rattle.words.specs.Lists.{all_of}
 use Rattle.core_term.specs.Code.Window.{good_name}
 use Rattle.core_term.specs.Code.WindowLaws.{names-next, names-bad, names-end}
 
-abbrev invariant-loop : tie.invariant-loop
+abbrev invariant-loop : tie.invariant-loop-i
 invariant-loop formals names tabled i₀ i =
     (i ≤ length (formals)) × (all_of (good_name tabled (names)) (drop i (formals)) ≡ all_of (good_name tabled (names)) (formals))
 
-abbrev decreases-loop : tie.decreases-loop
+abbrev decreases-loop : tie.decreases-loop-i
 decreases-loop formals names tabled i₀ i =
     length (formals) - i
 
-loop-holds : tie.Need-loop-init invariant-loop decreases-loop
+loop-holds : tie.Need-loop-i-init invariant-loop decreases-loop
 loop-holds c =
     (omega arith, refl)
 
-returns : tie.Need-returns invariant-loop decreases-loop
+returns : tie.Need-returns-then-not-name_good invariant-loop decreases-loop
 returns c =
     let at-name-good = c.before in
     let at_wide = at-name-good.before in
     let at-loop-test = at_wide.before.before in
     let at-loop = at-loop-test.before in
-    names-bad _ at-loop.before.before.before.args.formals.now _ at-loop.loop.invariant.1 at-loop-test.loop-test.true (sym (ap (good_name _ _) at_wide.wide.ensures) ∙ sym at-name-good.name-good.ensures ∙ not-true _ c.if1.true)
+    names-bad _ at-loop.before.before.before.args.formals.now _ at-loop.loop-i.invariant.1 at-loop-test.loop-i-test.true (sym (ap (good_name _ _) at_wide.wide.ensures) ∙ sym at-name-good.name_good.ensures ∙ not-true _ c.if-not-name_good.true)
 
-loop-again : tie.Need-loop-preserved invariant-loop decreases-loop
+loop-again : tie.Need-loop-i-preserved invariant-loop decreases-loop
 loop-again c =
     let at-name-good = c.before in
     let at_wide = at-name-good.before in
     let at-loop-test = at_wide.before.before in
     let at-loop = at-loop-test.before in
-    (omega (arith, at-loop-test.loop-test.true), names-next _ at-loop.before.before.before.args.formals.now _ at-loop.loop.invariant.1 at-loop-test.loop-test.true (sym (ap (good_name _ _) at_wide.wide.ensures) ∙ sym at-name-good.name-good.ensures ∙ not-false _ c.if1.false))
+    (omega (arith, at-loop-test.loop-i-test.true), names-next _ at-loop.before.before.before.args.formals.now _ at-loop.loop-i.invariant.1 at-loop-test.loop-i-test.true (sym (ap (good_name _ _) at_wide.wide.ensures) ∙ sym at-name-good.name_good.ensures ∙ not-false _ c.if-not-name_good.false))
 
-returns-2 : tie.Need-returns-2 invariant-loop decreases-loop
+returns-2 : tie.Need-returns invariant-loop decreases-loop
 returns-2 c =
-    names-end _ c.before.before.before.before.args.formals.now c.before.loop.i c.before.loop.invariant.1 (omega (arith, c.before.loop.invariant.0, c.loop-test.false))
+    names-end _ c.before.before.before.before.args.formals.now c.before.loop-i.i c.before.loop-i.invariant.1 (omega (arith, c.before.loop-i.invariant.0, c.loop-i-test.false))
 
-pub names-good-spec : {M : Type 1} → statement M
-names-good-spec =
+pub names_good_spec : {M : Type 1} → statement M
+names_good_spec =
     tie.close
     (tie.spec
     invariant-loop

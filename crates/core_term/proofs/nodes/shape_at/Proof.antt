@@ -7,8 +7,8 @@ returns : tie.Need-returns
 returns c =
     shaped-opened _ _ c.before.read.ensures _ c.shape_of.ensures
 
-pub shape-at-spec : {M : Type 1} → statement M
-shape-at-spec =
+pub shape_at_spec : {M : Type 1} → statement M
+shape_at_spec =
     tie.close
     (tie.spec
     (λ c κs. search rules)  -- read-requires

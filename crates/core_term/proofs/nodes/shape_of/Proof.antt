@@ -10,63 +10,63 @@ use mathlib.Core.Path.{sym, ap, ap₂, ◌∙◌}
 use mathlib.Core.Bool.{true, false}
 use Rattle.core_term.specs.Code.Opened.{shape_by, shape_in}
 
-returns : tie.Need-returns
+returns : tie.Need-returns-in-Variable
 unfolding shape_in
 returns c =
-    c.shaped.ensures ∙ sym (ap shape_in c.before.enum_told.given.1)
+    c.shaped.ensures ∙ sym (ap shape_in c.before.enum_told-1.given.1)
 
-returns-2 : tie.Need-returns-2
+returns-2 : tie.Need-returns-in-Operation
 unfolding shape_in
 returns-2 c =
-    c.shaped2.ensures ∙ sym (ap shape_in c.before.enum-told2.given.1)
+    c.shaped-in-Operation.ensures ∙ sym (ap shape_in c.before.enum_told-in-Operation-1.given.1)
 
-returns-3 : tie.Need-returns-3
+returns-3 : tie.Need-returns-in-Integer
 unfolding shape_in
 returns-3 c =
-    c.shaped3.ensures ∙ sym (ap shape_in c.before.enum-told3.given.1)
+    c.shaped-in-Integer.ensures ∙ sym (ap shape_in c.before.enum_told-in-Integer-1.given.1)
 
-returns-4 : tie.Need-returns-4
+returns-4 : tie.Need-returns-in-Boolean
 unfolding shape_in
 returns-4 c =
-    c.shaped4.ensures ∙ sym (ap shape_in c.before.enum-told4.given.1)
+    c.shaped-in-Boolean.ensures ∙ sym (ap shape_in c.before.enum_told-in-Boolean-1.given.1)
 
-returns-5 : tie.Need-returns-5
+returns-5 : tie.Need-returns-in-Decimal
 unfolding shape_in
 returns-5 c =
-    c.shaped5.ensures ∙ sym (ap shape_in c.before.enum-told5.given.1)
+    c.shaped-in-Decimal.ensures ∙ sym (ap shape_in c.before.enum_told-in-Decimal-1.given.1)
 
-returns-6 : tie.Need-returns-6
+returns-6 : tie.Need-returns-in-Name
 unfolding shape_in
 returns-6 c =
-    c.shaped6.ensures ∙ sym (ap shape_in c.before.enum-told6.given.1)
+    c.shaped-in-Name.ensures ∙ sym (ap shape_in c.before.enum_told-in-Name-1.given.1)
 
-returns-7 : tie.Need-returns-7
+returns-7 : tie.Need-returns-in-List
 unfolding shape_in
 returns-7 c =
-    c.shaped7.ensures ∙ ap (λ (n : ℕ). shape_by 2 0 n true) c.before.wide.ensures ∙ sym (ap shape_in c.before.before.before.node.given.1)
+    c.shaped-in-List.ensures ∙ ap (λ (n : ℕ). shape_by 2 0 n true) c.before.wide.ensures ∙ sym (ap shape_in c.before.before.before.node-1.given.1)
 
-returns-8 : tie.Need-returns-8
+returns-8 : tie.Need-returns-in-If
 unfolding shape_in
 returns-8 c =
-    c.shaped8.ensures ∙ sym (ap shape_in c.before.enum-told7.given.1)
+    c.shaped-in-If.ensures ∙ sym (ap shape_in c.before.enum_told-in-If-1.given.1)
 
-returns-9 : tie.Need-returns-9
+returns-9 : tie.Need-returns-in-Lambda
 unfolding shape_in
 returns-9 c =
-    c.shaped9.ensures ∙ ap₂ (λ (m : ℕ) (n : ℕ). shape_by (3 + m) n 1 false) c.before.before.wide2.ensures c.before.wide3.ensures ∙ sym (ap shape_in c.before.before.before.before.node2.given.1)
+    c.shaped-in-Lambda.ensures ∙ ap₂ (λ (m : ℕ) (n : ℕ). shape_by (3 + m) n 1 false) c.before.before.wide-in-Lambda.ensures c.before.wide-in-Lambda-2.ensures ∙ sym (ap shape_in c.before.before.before.before.node-in-Lambda-1.given.1)
 
-returns-10 : tie.Need-returns-10
+returns-10 : tie.Need-returns-in-Application
 unfolding shape_in
 returns-10 c =
-    c.shaped10.ensures ∙ ap (λ (n : ℕ). shape_by 2 0 (n + 1) false) c.before.wide4.ensures ∙ sym (ap shape_in c.before.before.before.node3.given.1)
+    c.shaped-in-Application.ensures ∙ ap (λ (n : ℕ). shape_by 2 0 (n + 1) false) c.before.wide-in-Application.ensures ∙ sym (ap shape_in c.before.before.before.node-in-Application-1.given.1)
 
-returns-11 : tie.Need-returns-11
+returns-11 : tie.Need-returns-in-None
 unfolding shape_in
 returns-11 c =
-    c.shaped11.ensures ∙ sym (ap shape_in c.before.enum-told8.given.1)
+    c.shaped-in-None.ensures ∙ sym (ap shape_in c.before.enum_told-in-None-1.given.1)
 
-pub shape-of-spec : {M : Type 1} → statement M
-shape-of-spec =
+pub shape_of_spec : {M : Type 1} → statement M
+shape_of_spec =
     tie.close
     (tie.spec
     (λ c. search rules)  -- enum_told

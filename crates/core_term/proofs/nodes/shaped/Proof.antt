@@ -10,5 +10,5 @@ unfolding shape_by
 returns c =
     refl
 
-pub shaped-spec : {M : Type 1} → statement M
-shaped-spec = tie.close (tie.spec returns)
+pub shaped_spec : {M : Type 1} → statement M
+shaped_spec = tie.close (tie.spec returns)

@@ -10,55 +10,55 @@ use native.Mathlib.Omega.{arith}
 use Rattle.core_term.specs.CodeLaws.{at_none, short-missing}
 use Rattle.core_term.specs.Code.OpenedLaws.{opened-none, opened-if, opened-variable, opened-operation, opened-integer, opened-name, opened-list, opened-application, past-codes, opened-past}
 
-returns : tie.Need-returns
+returns : tie.Need-returns-then-words-eq0
 returns c =
-    opened-none _ (at_none _ c.if1.true)
+    opened-none _ (at_none _ c.if-words-eq0.true)
 
-returns-2 : tie.Need-returns-2
+returns-2 : tie.Need-returns-then-code-eq-IF
 returns-2 c =
-    opened-if _ (omega (arith, c.before.before.if1.false)) c.if2.true
+    opened-if _ (omega (arith, c.before.before.if-words-eq0.false)) c.if-code-eq-IF.true
 
-returns-3 : tie.Need-returns-3
+returns-3 : tie.Need-returns-then-code-eq-LAMBDA
 returns-3 c =
     c.lambda.ensures
 
-returns-4 : tie.Need-returns-4
+returns-4 : tie.Need-returns-then-code-eq-DECIMAL
 returns-4 c =
     c.decimal.ensures
 
-returns-5 : tie.Need-returns-5
+returns-5 : tie.Need-returns-then-words-lt2
 returns-5 c =
-    opened-none _ (short-missing _ c.before.before.before.if2.false c.if5.true)
+    opened-none _ (short-missing _ c.before.before.before.if-code-eq-IF.false c.if-words-lt2.true)
 
-returns-6 : tie.Need-returns-6
+returns-6 : tie.Need-returns-then-code-eq-BOOLEAN
 returns-6 c =
     c.boolean.ensures
 
-returns-7 : tie.Need-returns-7
+returns-7 : tie.Need-returns-then-code-eq-VARIABLE
 returns-7 c =
-    opened-variable _ c.before.before.before.if5.false c.if7.true
+    opened-variable _ c.before.before.before.if-words-lt2.false c.if-code-eq-VARIABLE.true
 
-returns-8 : tie.Need-returns-8
+returns-8 : tie.Need-returns-then-code-eq-OPERATION
 returns-8 c =
-    opened-operation _ c.before.before.before.before.if5.false c.if8.true
+    opened-operation _ c.before.before.before.before.if-words-lt2.false c.if-code-eq-OPERATION.true
 
-returns-9 : tie.Need-returns-9
+returns-9 : tie.Need-returns-then-code-eq-INTEGER
 returns-9 c =
-    opened-integer _ c.before.before.before.before.before.if5.false c.if9.true
+    opened-integer _ c.before.before.before.before.before.if-words-lt2.false c.if-code-eq-INTEGER.true
 
-returns-10 : tie.Need-returns-10
+returns-10 : tie.Need-returns-then-code-eq-NAME
 returns-10 c =
-    opened-name _ c.before.before.before.before.before.before.if5.false c.if10.true
+    opened-name _ c.before.before.before.before.before.before.if-words-lt2.false c.if-code-eq-NAME.true
 
-returns-11 : tie.Need-returns-11
+returns-11 : tie.Need-returns-then-code-eq-LIST
 returns-11 c =
-    opened-list _ c.before.before.before.before.before.before.before.if5.false c.if11.true
+    opened-list _ c.before.before.before.before.before.before.before.if-words-lt2.false c.if-code-eq-LIST.true
 
-returns-12 : tie.Need-returns-12
+returns-12 : tie.Need-returns-then-code-eq-APPLICATION
 returns-12 c =
-    opened-application _ c.before.before.before.before.before.before.before.before.if5.false c.if12.true
+    opened-application _ c.before.before.before.before.before.before.before.before.if-words-lt2.false c.if-code-eq-APPLICATION.true
 
-returns-13 : tie.Need-returns-13
+returns-13 : tie.Need-returns
 returns-13 c =
     let at-if11 = c.before in
     let at-if10 = at-if11.before in
@@ -68,7 +68,7 @@ returns-13 c =
     let at-if6 = at-if7.before.before in
     let at-if4 = at-if6.before.before in
     let at-if3 = at-if4.before in
-    opened-past _ (past-codes _ at-if7.if7.false at-if8.if8.false at-if9.if9.false at-if6.if6.false at-if10.if10.false at-if11.if11.false at-if3.before.if2.false at-if3.if3.false c.if12.false at-if4.if4.false)
+    opened-past _ (past-codes _ at-if7.if-code-eq-VARIABLE.false at-if8.if-code-eq-OPERATION.false at-if9.if-code-eq-INTEGER.false at-if6.if-code-eq-BOOLEAN.false at-if10.if-code-eq-NAME.false at-if11.if-code-eq-LIST.false at-if3.before.if-code-eq-IF.false at-if3.if-code-eq-LAMBDA.false c.if-code-eq-APPLICATION.false at-if4.if-code-eq-DECIMAL.false)
 
 pub read_spec : {M : Type 1} → statement M
 read_spec =

@@ -8,8 +8,8 @@ returns : tie.Need-returns
 returns c =
     let a = c.before.before.args in agrees-whole a.work.now a.env.now a.t _ c.agree.ensures
 
-pub lengths-agree-spec : {M : Type 1} → statement M
-lengths-agree-spec =
+pub lengths_agree_spec : {M : Type 1} → statement M
+lengths_agree_spec =
     tie.close
     (tie.spec
     (λ c κs. search rules)  -- agree-requires

@@ -31,45 +31,45 @@ bind-below t = and 2 bind-kinds.ps (falls 2 bind-kinds.ps ◌<◌ μ-bind t) bin
 abbrev bind-claims : ℕ → bind-lts.Claims
 bind-claims t = (word-reads.Asked, word-reads.Learnt, bind-variable-reads.Asked, bind-variable-reads.Learnt, reference-reads.Asked, reference-reads.Learnt, after-reads.Asked, after-reads.Learnt, bind-below t, bind.Post, bind-list-reads.Asked, bind-list-reads.Learnt, rest-reads.Asked, rest-reads.Learnt, first_reads.Asked, first_reads.Learnt)
 
-bind-returns : (t : ℕ) → bind-lts.Need-returns (bind-claims t) (bind-at t) bind.Post
+bind-returns : (t : ℕ) → bind-lts.Need-returns-then-tag-eq-VARIABLE (bind-claims t) (bind-at t) bind.Post
 bind-returns t c =
-    let a = c.before.before.before.before.before.before.args in pattern-variable a.work.now a.p _ c.before.before.before.before.word.ensures a.env.now a.u _ _ c.before.before.before.if1.true c.before.before.word2.ensures c.bind-variable.ensures
+    let a = c.before.before.before.before.before.before.args in pattern-variable a.work.now a.p _ c.before.before.before.before.word-tag.ensures a.env.now a.u _ _ c.before.before.before.if-tag-eq-VARIABLE.true c.before.before.word-k.ensures c.bind_variable.ensures
 
 bind-bind-requires : (t : ℕ) → bind-lts.Need-bind-requires (bind-claims t) (bind-at t) bind.Post
 bind-bind-requires t c κs =
-    let a = c.before.before.before.before.before.before.before.before.before.before.args in let l = tag-falls a.work.now a.p _ c.before.before.before.before.before.before.before.before.word.ensures 2 _ (λ z. omega arith) c.before.before.before.before.before.before.reference.ensures in omega (arith, l)
+    let a = c.before.before.before.before.before.before.before.before.before.before.args in let l = tag-falls a.work.now a.p _ c.before.before.before.before.before.before.before.before.word-tag.ensures 2 _ (λ z. omega arith) c.before.before.before.before.before.before.reference-rest.ensures in omega (arith, l)
 
-bind-returns-2 : (t : ℕ) → bind-lts.Need-returns-2 (bind-claims t) (bind-at t) bind.Post
+bind-returns-2 : (t : ℕ) → bind-lts.Need-returns-then-tag-eq-ELLIPSIS (bind-claims t) (bind-at t) bind.Post
 bind-returns-2 t c =
     let a = c.before.before.before.before.before.before.before.before.before.before.args in
-    let word = c.before.before.before.before.before.before.before.before.word in
-    let reference = c.before.before.before.before.before.before.reference in
-    let reference2 = c.before.before.before.before.before.reference2 in
-    let if2 = c.before.before.before.before.if2 in
-    let list = whole-list a.work.now _ _ _ _ _ _ c.bind-list.ensures in
-    elim c.before.before.before.if3.branch [
+    let word = c.before.before.before.before.before.before.before.before.word-tag in
+    let reference = c.before.before.before.before.before.before.reference-rest in
+    let reference2 = c.before.before.before.before.before.reference-head in
+    let if2 = c.before.before.before.before.if-tag-eq-ELLIPSIS in
+    let list = whole-list a.work.now _ _ _ _ _ _ c.bind_list.ensures in
+    elim c.before.before.before.if-rest-ne0.branch [
       | inl y ↦ pattern-ellipsis a.work.now a.p _ word.ensures a.env.now _ _ reference.ensures reference2.ensures _ _ if2.true a.u _ y.1.ensures (subst (Binds a.work.now _ _ _) (sym y.5) (whole-binds a.work.now _ _ _ _ y.4.ensures)) list
       | inr y ↦ pattern-last a.work.now a.p _ word.ensures a.env.now _ _ reference.ensures reference2.ensures _ _ if2.true a.u y.0.left y.1 list
     ]
 
-bind-returns-3 : (t : ℕ) → bind-lts.Need-returns-3 (bind-claims t) (bind-at t) bind.Post
+bind-returns-3 : (t : ℕ) → bind-lts.Need-returns-then-tag-ne-PAIR (bind-claims t) (bind-at t) bind.Post
 bind-returns-3 t c =
-    let a = c.before.before.before.before.before.before.before.args in pattern-none a.work.now a.p _ c.before.before.before.before.before.word.ensures a.env.now a.u c.before.before.before.before.if1.false c.if4.true c.before.if2.false
+    let a = c.before.before.before.before.before.before.before.args in pattern-none a.work.now a.p _ c.before.before.before.before.before.word-tag.ensures a.env.now a.u c.before.before.before.before.if-tag-eq-VARIABLE.false c.if-tag-ne-PAIR.true c.before.if-tag-eq-ELLIPSIS.false
 
 bind-bind-requires-2 : (t : ℕ) → bind-lts.Need-bind-requires-2 (bind-claims t) (bind-at t) bind.Post
 bind-bind-requires-2 t c κs =
-    let a = c.before.before.before.before.before.before.before.before.before.before.args in let l = tag-falls a.work.now a.p _ c.before.before.before.before.before.before.before.before.word.ensures 2 _ (λ z. omega arith) c.before.before.before.before.before.before.reference.ensures in omega (arith, l)
+    let a = c.before.before.before.before.before.before.before.before.before.before.args in let l = tag-falls a.work.now a.p _ c.before.before.before.before.before.before.before.before.word-tag.ensures 2 _ (λ z. omega arith) c.before.before.before.before.before.before.reference-rest.ensures in omega (arith, l)
 
 bind-bind-requires-3 : (t : ℕ) → bind-lts.Need-bind-requires-3 (bind-claims t) (bind-at t) bind.Post
 bind-bind-requires-3 t c κs =
-    let a = c.before.before.before.before.before.before.before.before.before.before.before.before.before.before.args in let l = tag-falls a.work.now a.p _ c.before.before.before.before.before.before.before.before.before.before.before.before.word.ensures 3 _ (λ z. omega arith) c.before.before.before.before.before.before.before.before.before.reference2.ensures in omega (arith, l)
+    let a = c.before.before.before.before.before.before.before.before.before.before.before.before.before.before.args in let l = tag-falls a.work.now a.p _ c.before.before.before.before.before.before.before.before.before.before.before.before.word-tag.ensures 3 _ (λ z. omega arith) c.before.before.before.before.before.before.before.before.before.reference-head.ensures in omega (arith, l)
 
-bind-returns-4 : (t : ℕ) → bind-lts.Need-returns-4 (bind-claims t) (bind-at t) bind.Post
+bind-returns-4 : (t : ℕ) → bind-lts.Need-returns (bind-claims t) (bind-at t) bind.Post
 bind-returns-4 t c =
-    let a = c.before.before.before.before.before.before.before.before.before.before.before.before.before.before.before.args in pattern-pair a.work.now a.p _ c.before.before.before.before.before.before.before.before.before.before.before.before.before.word.ensures a.env.now _ _ c.before.before.before.before.before.before.before.before.before.before.before.reference.ensures c.before.before.before.before.before.before.before.before.before.before.reference2.ensures _ _ c.before.before.before.before.before.before.before.before.if4.false a.u _ _ c.before.before.before.before.before.before.before.rest.ensures (whole-binds a.work.now _ _ _ _ c.before.before.before.before.bind2.ensures) c.before.before.before.first.ensures (whole-binds a.work.now _ _ _ _ c.bind3.ensures)
+    let a = c.before.before.before.before.before.before.before.before.before.before.before.before.before.before.before.args in pattern-pair a.work.now a.p _ c.before.before.before.before.before.before.before.before.before.before.before.before.before.word-tag.ensures a.env.now _ _ c.before.before.before.before.before.before.before.before.before.before.before.reference-rest.ensures c.before.before.before.before.before.before.before.before.before.before.reference-head.ensures _ _ c.before.before.before.before.before.before.before.before.if-tag-ne-PAIR.false a.u _ _ c.before.before.before.before.before.before.before.rest-tail.ensures (whole-binds a.work.now _ _ _ _ c.before.before.before.before.bind-2.ensures) c.before.before.before.first-first.ensures (whole-binds a.work.now _ _ _ _ c.bind-3.ensures)
 
-pub +bind-spec : {M : Type 1} → statement M
-+bind-spec = close μ-bind λ t. bind-lts.spec (bind-claims t)
+pub +bind_spec : {M : Type 1} → statement M
++bind_spec = close μ-bind λ t. bind-lts.spec (bind-claims t)
     (bind-at t)
     bind.Post
     (λ c κs. search rules)  -- bind-word-requires

@@ -5,18 +5,18 @@ use Rattle.environments.proofs.bind.bind_variable.Tie as tie
 use Rattle.environments.specs.Bind.{bound}
 use Rattle.environments.specs.BindLaws.{one-past, one-stored}
 
-returns : tie.Need-returns
+returns : tie.Need-returns-then-k-ge-VARIABLES
 returns c =
-    one-past c.before.args.k _ c.before.args.env.now c.if1.true
+    one-past c.before.args.k _ c.before.args.env.now c.if-k-ge-VARIABLES.true
 
 put-requires : tie.Need-put-requires
 put-requires c κs =
     search rules
 
-returns-2 : tie.Need-returns-2
+returns-2 : tie.Need-returns
 unfolding bound
 returns-2 c =
     one-stored c.before.before.before.args.k _ c.before.before.before.args.env.now _ c.put.ensures
 
-pub bind-variable-spec : {M : Type 1} → statement M
-bind-variable-spec = tie.close (tie.spec returns put-requires returns-2)
+pub bind_variable_spec : {M : Type 1} → statement M
+bind_variable_spec = tie.close (tie.spec returns put-requires returns-2)

@@ -6,21 +6,21 @@ use Rattle.environments.proofs.blocks.at.Reads as reads
 use Rattle.environments.proofs.blocks.at.Lts as lts
 use Rattle.environments.specs.BlockLaws.{word-past}
 
-mul-result : tie.Need-overflow-mul-result
+mul-result : tie.Need-offset_bounds-work-i
 mul-result c =
     search rules
 
-shared-slice-read-result : tie.Need-shared-slice-read-result
+shared-slice-read-result : tie.Need-bounds-work-i
 shared-slice-read-result c =
     search rules
 
-returns : tie.Need-returns
+returns : tie.Need-returns-then-i-work
 returns c =
     search rules
 
-returns-2 : tie.Need-returns-2
+returns-2 : tie.Need-returns
 returns-2 c =
-    word-past c.before.args.work.now c.before.args.i c.if1.false
+    word-past c.before.args.work.now c.before.args.i c.if-i-work.false
 
-pub at-spec : {M : Type 1} → statement M
-at-spec = tie.close (tie.spec mul-result shared-slice-read-result returns returns-2)
+pub at_spec : {M : Type 1} → statement M
+at_spec = tie.close (tie.spec mul-result shared-slice-read-result returns returns-2)

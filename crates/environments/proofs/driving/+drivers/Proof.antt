@@ -28,15 +28,15 @@ drivers-below t = and 2 drivers-kinds.ps (falls 2 drivers-kinds.ps ◌<◌ μ-dr
 abbrev drivers-claims : ℕ → drivers-lts.Claims
 drivers-claims t = (word-reads.Asked, word-reads.Learnt, copies-reads.Asked, copies-reads.Learnt, also-reads.Asked, also-reads.Learnt, reference-reads.Asked, reference-reads.Learnt, deeper-reads.Asked, deeper-reads.Learnt, drivers-below t, drivers.Post)
 
-drivers-returns : (t : ℕ) → drivers-lts.Need-returns (drivers-claims t) (drivers-at t) drivers.Post
+drivers-returns : (t : ℕ) → drivers-lts.Need-returns-then-d-j (drivers-claims t) (drivers-at t) drivers.Post
 drivers-returns t c =
     let at-word2 = c.before in
     let at-if1 = at-word2.before in
     let at-word = at-if1.before in
     let args' = at-word.before.before.args in
-    driven-few args'.work.now args'.env.now args'.t _ at-word.word.ensures args'.j args'.inner args'.before _ at-if1.if1.true at-word2.word2.ensures c.if2.true
+    driven-few args'.work.now args'.env.now args'.t _ at-word.word-tag.ensures args'.j args'.inner args'.before _ at-if1.if-tag-eq-VARIABLE.true at-word2.word-d.ensures c.if-d-j.true
 
-drivers-returns-2 : (t : ℕ) → drivers-lts.Need-returns-2 (drivers-claims t) (drivers-at t) drivers.Post
+drivers-returns-2 : (t : ℕ) → drivers-lts.Need-returns-then-tag-eq-VARIABLE (drivers-claims t) (drivers-at t) drivers.Post
 drivers-returns-2 t c =
     let at_copies = c.before in
     let at-word3 = at_copies.before in
@@ -45,42 +45,42 @@ drivers-returns-2 t c =
     let at-if1 = at-word2.before in
     let at-word = at-if1.before in
     let args' = at-word.before.before.args in
-    driven-one args'.work.now args'.env.now args'.t _ at-word.word.ensures args'.j args'.inner args'.before _ _ _ _ at-if1.if1.true at-word2.word2.ensures at-word3.word3.ensures (omega (arith, at-if2.if2.false)) at_copies.copies.ensures c.also.ensures
+    driven-one args'.work.now args'.env.now args'.t _ at-word.word-tag.ensures args'.j args'.inner args'.before _ _ _ _ at-if1.if-tag-eq-VARIABLE.true at-word2.word-d.ensures at-word3.word-k.ensures (omega (arith, at-if2.if-d-j.false)) at_copies.copies.ensures c.also.ensures
 
-drivers-returns-3 : (t : ℕ) → drivers-lts.Need-returns-3 (drivers-claims t) (drivers-at t) drivers.Post
+drivers-returns-3 : (t : ℕ) → drivers-lts.Need-returns-then-tag-lt-PAIR (drivers-claims t) (drivers-at t) drivers.Post
 drivers-returns-3 t c =
     let at-if1 = c.before in
     let at-word = at-if1.before in
     let args' = at-word.before.before.args in
-    driven-none args'.work.now args'.env.now args'.t _ at-word.word.ensures args'.j args'.inner args'.before at-if1.if1.false (λ z. omega (arith, c.if3.true)) (λ z. omega (arith, c.if3.true))
+    driven-none args'.work.now args'.env.now args'.t _ at-word.word-tag.ensures args'.j args'.inner args'.before at-if1.if-tag-eq-VARIABLE.false (λ z. omega (arith, c.if-tag-lt-PAIR.true)) (λ z. omega (arith, c.if-tag-lt-PAIR.true))
 
-drivers-returns-4 : (t : ℕ) → drivers-lts.Need-returns-4 (drivers-claims t) (drivers-at t) drivers.Post
+drivers-returns-4 : (t : ℕ) → drivers-lts.Need-returns-then-tag-gt-ELLIPSIS (drivers-claims t) (drivers-at t) drivers.Post
 drivers-returns-4 t c =
     let at-if1 = c.before.before in
     let at-word = at-if1.before in
     let args' = at-word.before.before.args in
-    driven-none args'.work.now args'.env.now args'.t _ at-word.word.ensures args'.j args'.inner args'.before at-if1.if1.false (λ z. omega (arith, c.if4.true)) (λ z. omega (arith, c.if4.true))
+    driven-none args'.work.now args'.env.now args'.t _ at-word.word-tag.ensures args'.j args'.inner args'.before at-if1.if-tag-eq-VARIABLE.false (λ z. omega (arith, c.if-tag-gt-ELLIPSIS.true)) (λ z. omega (arith, c.if-tag-gt-ELLIPSIS.true))
 
-drivers-deeper-requires : (t : ℕ) → drivers-lts.Need-deeper-requires (drivers-claims t) (drivers-at t) drivers.Post
+drivers-deeper-requires : (t : ℕ) → drivers-lts.Need-deeper-i-requires (drivers-claims t) (drivers-at t) drivers.Post
 drivers-deeper-requires t c κs =
     let at-word = c.before.before.before.before in
     let at-args = at-word.before.before in
-    let l = part_falls at-args.args.work.now at-args.args.t _ at-word.word.ensures 3 _ (λ z. omega arith) c.reference.ensures in omega (arith, l, at-args.requires.1)
+    let l = part_falls at-args.args.work.now at-args.args.t _ at-word.word-tag.ensures 3 _ (λ z. omega arith) c.reference-head.ensures in omega (arith, l, at-args.requires.1)
 
-drivers-drivers-requires : (t : ℕ) → drivers-lts.Need-drivers-requires (drivers-claims t) (drivers-at t) drivers.Post
+drivers-drivers-requires : (t : ℕ) → drivers-lts.Need-drivers-first-requires (drivers-claims t) (drivers-at t) drivers.Post
 drivers-drivers-requires t c κs =
     let at-reference = c.before in
     let at-word = at-reference.before.before.before.before in
     let at-args = at-word.before.before in
-    let l = part_falls at-args.args.work.now at-args.args.t _ at-word.word.ensures 3 _ (λ z. omega arith) at-reference.reference.ensures in let m = deeper-below _ _ at-args.args.j c.deeper.ensures in (omega (arith, l, at-args.requires.0), omega (arith, l, m, at-args.requires.1))
+    let l = part_falls at-args.args.work.now at-args.args.t _ at-word.word-tag.ensures 3 _ (λ z. omega arith) at-reference.reference-head.ensures in let m = deeper-below _ _ at-args.args.j c.deeper-i.ensures in (omega (arith, l, at-args.requires.0), omega (arith, l, m, at-args.requires.1))
 
-drivers-drivers-requires-2 : (t : ℕ) → drivers-lts.Need-drivers-requires-2 (drivers-claims t) (drivers-at t) drivers.Post
+drivers-drivers-requires-2 : (t : ℕ) → drivers-lts.Need-drivers-requires (drivers-claims t) (drivers-at t) drivers.Post
 drivers-drivers-requires-2 t c κs =
     let at-word = c.before.before.before.before.before.before.before in
     let at-args = at-word.before.before in
-    let l = part_falls at-args.args.work.now at-args.args.t _ at-word.word.ensures 2 _ (λ z. omega arith) c.reference2.ensures in (omega (arith, l, at-args.requires.0), omega (arith, l, at-args.requires.1))
+    let l = part_falls at-args.args.work.now at-args.args.t _ at-word.word-tag.ensures 2 _ (λ z. omega arith) c.reference-rest.ensures in (omega (arith, l, at-args.requires.0), omega (arith, l, at-args.requires.1))
 
-drivers-returns-5 : (t : ℕ) → drivers-lts.Need-returns-5 (drivers-claims t) (drivers-at t) drivers.Post
+drivers-returns-5 : (t : ℕ) → drivers-lts.Need-returns (drivers-claims t) (drivers-at t) drivers.Post
 drivers-returns-5 t c =
     let at-reference2 = c.before in
     let at-drivers = at-reference2.before in
@@ -90,10 +90,10 @@ drivers-returns-5 t c =
     let at-if3 = at-if4.before in
     let at-word = at-if3.before.before in
     let args' = at-word.before.before.args in
-    driven-both args'.work.now args'.env.now args'.t _ at-word.word.ensures args'.j args'.inner args'.before _ _ _ (omega (arith, at-if3.if3.false)) (omega (arith, at-if4.if4.false)) at-deeper.deeper.ensures at-reference.reference.ensures at-reference2.reference2.ensures _ _ at-drivers.drivers.ensures c.drivers2.ensures
+    driven-both args'.work.now args'.env.now args'.t _ at-word.word-tag.ensures args'.j args'.inner args'.before _ _ _ (omega (arith, at-if3.if-tag-lt-PAIR.false)) (omega (arith, at-if4.if-tag-gt-ELLIPSIS.false)) at-deeper.deeper-i.ensures at-reference.reference-head.ensures at-reference2.reference-rest.ensures _ _ at-drivers.drivers-first.ensures c.drivers.ensures
 
-pub +drivers-spec : {M : Type 1} → statement M
-+drivers-spec = close μ-drivers λ t. drivers-lts.spec (drivers-claims t)
+pub +drivers_spec : {M : Type 1} → statement M
++drivers_spec = close μ-drivers λ t. drivers-lts.spec (drivers-claims t)
     (drivers-at t)
     drivers.Post
     (λ c κs. search rules)  -- drivers-word-requires

@@ -7,7 +7,7 @@ use Rattle.environments.proofs.entries.found.Lts as lts
 use Rattle.environments.proofs.blocks.at.Reads as at_reads
 use Rattle.environments.specs.Columns.{found}
 
-cast-at : tie.Need-overflow-cast-at
+cast-at : tie.Need-overflow_cast-x
 cast-at c =
     search rules
 
@@ -15,15 +15,15 @@ at-requires : tie.Need-at-requires
 at-requires c κs =
     search rules
 
-returns : tie.Need-returns
+returns : tie.Need-returns-then-x-eq1
 unfolding found
 returns c =
-    rw (c.at.ensures, c.before.before.if1.true) refl
+    rw (c.at.ensures, c.before.before.if-x-eq1.true) refl
 
-returns-2 : tie.Need-returns-2
+returns-2 : tie.Need-returns
 unfolding found
 returns-2 c =
-    rw (ne_eqb c.before.before.before.args.x.level 1 c.if1.false) refl
+    rw (ne_eqb c.before.before.before.args.x.level 1 c.if-x-eq1.false) refl
 
-pub found-spec : {M : Type 1} → statement M
-found-spec = tie.close (tie.spec cast-at at-requires returns returns-2)
+pub found_spec : {M : Type 1} → statement M
+found_spec = tie.close (tie.spec cast-at at-requires returns returns-2)

@@ -7,26 +7,26 @@ use Rattle.environments.proofs.entries.next.Lts as lts
 use Rattle.std.proofs.num.wrapping_add_u32.Reads as wrapping-add-u32-reads
 use Rattle.environments.specs.Columns.{advance}
 
-returns : tie.Need-returns
+returns : tie.Need-returns-then-x-eq1
 unfolding advance
 returns c =
-    rw (c.wrapping-add-u32.ensures, c.before.if1.true) refl
+    rw (c.wrapping_add_u32.ensures, c.before.if-x-eq1.true) refl
 
-returns-2 : tie.Need-returns-2
+returns-2 : tie.Need-returns-then-x-eq2
 unfolding advance
 returns-2 c =
-    rw (c.wrapping-add-u322.ensures, c.before.if2.true) refl
+    rw (c.wrapping_add_u32-then-x-eq2.ensures, c.before.if-x-eq2.true) refl
 
-returns-3 : tie.Need-returns-3
+returns-3 : tie.Need-returns
 unfolding advance
 returns-3 c =
     let at-if2 = c.before in
     let at-if1 = at-if2.before.before in
     let args' = at-if1.before.before.args in
-    rw (c.wrapping-add-u323.ensures, ne_eqb args'.x.level 1 at-if1.if1.false, ne_eqb args'.x.level 2 at-if2.if2.false) refl
+    rw (c.wrapping_add_u32-2.ensures, ne_eqb args'.x.level 1 at-if1.if-x-eq1.false, ne_eqb args'.x.level 2 at-if2.if-x-eq2.false) refl
 
-pub next-spec : {M : Type 1} → statement M
-next-spec =
+pub next_spec : {M : Type 1} → statement M
+next_spec =
     tie.close
     (tie.spec
     (λ c κs. search rules)  -- wrapping-add-u32-requires

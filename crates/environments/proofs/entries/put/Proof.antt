@@ -6,15 +6,15 @@ use Rattle.environments.proofs.entries.put.Reads as reads
 use Rattle.environments.proofs.entries.put.Lts as lts
 use Rattle.environments.specs.ColumnLaws.{entry-stored}
 
-slice-write-env-2 : tie.Need-slice-write-env-2
+slice-write-env-2 : tie.Need-bounds-env-i-2
 slice-write-env-2 c =
     simp length-set (omega arith)
 
-slice-write-env-3 : tie.Need-slice-write-env-3
+slice-write-env-3 : tie.Need-bounds-env-i-3
 slice-write-env-3 c =
     simp length-set (omega arith)
 
-slice-write-env-4 : tie.Need-slice-write-env-4
+slice-write-env-4 : tie.Need-bounds-env-i-4
 slice-write-env-4 c =
     simp length-set (omega arith)
 

@@ -6,32 +6,32 @@ use Rattle.words.specs.Limits.{pattern_variables_most}
 use Rattle.environments.specs.Entries.{table_words}
 use Rattle.environments.specs.EntryLaws.{BegunBelow, begins, begins-more, begun_all, MovingBelow, moving-all, moving-less, moving-ends}
 
-abbrev invariant-loop : tie.invariant-loop
+abbrev invariant-loop : tie.invariant-loop-k
 invariant-loop outer from to₀ moving₀ k₀ to moving k =
     (k ≤ pattern_variables_most) × (length to ≡ table_words) × BegunBelow from k to × MovingBelow from k moving
 
-abbrev decreases-loop : tie.decreases-loop
+abbrev decreases-loop : tie.decreases-loop-k
 decreases-loop outer from to₀ moving₀ k₀ to moving k =
     pattern_variables_most - k
 
-loop-holds : tie.Need-loop-init invariant-loop decreases-loop
+loop-holds : tie.Need-loop-k-init invariant-loop decreases-loop
 loop-holds c =
-    let a = c.before.before.args in (omega arith, c.to.given.0.1, begins a.outer.now a.inner.now, moving-all a.outer.now 0)
+    let a = c.before.before.args in (omega arith, c.to-1.given.0.1, begins a.outer.now a.inner.now, moving-all a.outer.now 0)
 
-get-requires : tie.Need-get-requires invariant-loop decreases-loop
+get-requires : tie.Need-get-x-requires invariant-loop decreases-loop
 get-requires c κs =
-    (c.before.before.before.from.given.0, omega arith)
+    (c.before.before.before.from-1.given.0, omega arith)
 
 put-requires : tie.Need-put-requires invariant-loop decreases-loop
 put-requires c κs =
-    (c.before.before.before.before.before.before.loop.invariant.1, omega arith)
+    (c.before.before.before.before.before.before.loop-k.invariant.1, omega arith)
 
-loop-again : tie.Need-loop-preserved invariant-loop decreases-loop
+loop-again : tie.Need-loop-k-preserved invariant-loop decreases-loop
 loop-again c =
     let outer = c.before.before.before.before.before.before.before.before.before.before.before.before.args.outer.now in
-    let l = c.before.before.before.before.before.before.before.before.before.loop in
-    let get = c.before.before.before.before.before.before.before.get in
-    let if1 = c.before.before.before.before.before.if1 in
+    let l = c.before.before.before.before.before.before.before.before.before.loop-k in
+    let get = c.before.before.before.before.before.before.before.get-x in
+    let if1 = c.before.before.before.before.before.if-x-ne0 in
     let below : MovingBelow outer (l.k + 1) if1.moving =
     ⊎_elim
     (λ w. rw w.1 (moving-all outer (l.k + 1)))
@@ -42,13 +42,13 @@ loop-again c =
 returns : tie.Need-returns invariant-loop decreases-loop
 returns c =
     let outer = c.before.before.before.before.args.outer.now in
-    let l = c.before.loop in
-    let known = c.before.before.before.from.given.0 in
+    let l = c.before.loop-k in
+    let known = c.before.before.before.from-1.given.0 in
     let all = begun_all outer l.k _ known l.invariant.1 (omega arith) l.invariant.2 in
     (all.0, all.1, moving-ends outer l.k _ known l.invariant.0 (omega arith) l.invariant.3)
 
-pub begin-spec : {M : Type 1} → statement M
-begin-spec =
+pub begin_spec : {M : Type 1} → statement M
+begin_spec =
     tie.close
     (tie.spec
     invariant-loop

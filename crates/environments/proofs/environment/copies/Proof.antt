@@ -8,50 +8,50 @@ use Rattle.environments.proofs.environment.next_level.Reads as next-level-reads
 use Rattle.environments.proofs.shares.share.Reads as share-reads
 use Rattle.environments.specs.EntryLaws.{next-most, copies-out, copies-flat, copies-in}
 
-returns : tie.Need-returns
+returns : tie.Need-returns-then-k-ge-VARIABLES
 returns c =
     let a = c.before.before.before.args in
-    copies-out a.work.now a.env.now a.k a.d c.before.table.given.0 c.if1.true
+    copies-out a.work.now a.env.now a.k a.d c.before.table-1.given.0 c.if-k-ge-VARIABLES.true
 
-add-i : tie.Need-overflow-add-i
+add-i : tie.Need-overflow_add-i
 add-i c =
-    omega (arith, c.next_level.ensures, next-most c.before.before.before.before.args.d, c.before.before.table.given.0, c.before.if1.false)
+    omega (arith, c.next_level.ensures, next-most c.before.before.before.before.args.d, c.before.before.table-1.given.0, c.before.if-k-ge-VARIABLES.false)
 
-add-ellipsis : tie.Need-overflow-add-ellipsis
+add-ellipsis : tie.Need-overflow_add-ellipsis
 add-ellipsis c =
-    omega (arith, c.next_level.ensures, next-most c.before.before.before.before.args.d, c.before.before.table.given.0, c.before.if1.false)
+    omega (arith, c.next_level.ensures, next-most c.before.before.before.before.args.d, c.before.before.table-1.given.0, c.before.if-k-ge-VARIABLES.false)
 
-mul-ellipsis : tie.Need-overflow-mul-ellipsis
+mul-ellipsis : tie.Need-offset_bounds-table-i
 mul-ellipsis c =
-    omega (arith, c.next_level.ensures, next-most c.before.before.before.before.args.d, c.before.before.table.given.0, c.before.if1.false)
+    omega (arith, c.next_level.ensures, next-most c.before.before.before.before.args.d, c.before.before.table-1.given.0, c.before.if-k-ge-VARIABLES.false)
 
-shared-slice-read-ellipsis : tie.Need-shared-slice-read-ellipsis
+shared-slice-read-ellipsis : tie.Need-bounds-table-i
 shared-slice-read-ellipsis c =
     let level = c.before.next_level in
-    omega (arith, level.ensures, next-most c.before.before.before.before.before.args.d, c.before.before.before.table.given.0, c.before.before.if1.false)
+    omega (arith, level.ensures, next-most c.before.before.before.before.before.args.d, c.before.before.before.table-1.given.0, c.before.before.if-k-ge-VARIABLES.false)
 
-returns-2 : tie.Need-returns-2
+returns-2 : tie.Need-returns-then-ellipsis-eq0
 returns-2 c =
     let a = c.before.before.before.before.before.before.args in
-    copies-flat a.work.now a.env.now a.k a.d _ _ c.before.before.next_level.ensures refl c.if2.true
+    copies-flat a.work.now a.env.now a.k a.d _ _ c.before.before.next_level.ensures refl c.if-ellipsis-eq0.true
 
-mul-share : tie.Need-overflow-mul-share
+mul-share : tie.Need-offset_bounds-table-i-2
 mul-share c =
     let level = c.before.before.next_level in
-    omega (arith, level.ensures, next-most c.before.before.before.before.before.before.args.d, c.before.before.before.before.table.given.0, c.before.before.before.if1.false)
+    omega (arith, level.ensures, next-most c.before.before.before.before.before.before.args.d, c.before.before.before.before.table-1.given.0, c.before.before.before.if-k-ge-VARIABLES.false)
 
-shared-slice-read-share : tie.Need-shared-slice-read-share
+shared-slice-read-share : tie.Need-bounds-table-i-2
 shared-slice-read-share c =
     let level = c.before.before.before.next_level in
-    omega (arith, level.ensures, next-most c.before.before.before.before.before.before.before.args.d, c.before.before.before.before.before.table.given.0, c.before.before.before.before.if1.false)
+    omega (arith, level.ensures, next-most c.before.before.before.before.before.before.before.args.d, c.before.before.before.before.before.table-1.given.0, c.before.before.before.before.if-k-ge-VARIABLES.false)
 
-returns-3 : tie.Need-returns-3
+returns-3 : tie.Need-returns
 returns-3 c =
     let a = c.before.before.before.before.before.before.before.before.args in
-    copies-in a.work.now a.env.now a.k a.d _ _ c.before.before.before.before.next_level.ensures refl c.before.before.if2.false _ c.share.ensures
+    copies-in a.work.now a.env.now a.k a.d _ _ c.before.before.before.before.next_level.ensures refl c.before.before.if-ellipsis-eq0.false _ c.share.ensures
 
-pub copies-spec : {M : Type 1} → statement M
-copies-spec =
+pub copies_spec : {M : Type 1} → statement M
+copies_spec =
     tie.close
     (tie.spec
     returns

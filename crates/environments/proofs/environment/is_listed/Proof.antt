@@ -9,28 +9,28 @@ use Rattle.arena.proofs.cells.word.Reads as word-reads
 use mathlib.Core.Bool.{false≢true}
 use Rattle.environments.specs.EntryLaws.{listed-is}
 
-returns : tie.Need-returns
+returns : tie.Need-returns-then-word-ne-VARIABLE
 returns c =
     λ z. absurd (false≢true z)
 
-returns-2 : tie.Need-returns-2
+returns-2 : tie.Need-returns-then-word-ne1
 returns-2 c =
     λ z. absurd (false≢true z)
 
-returns-3 : tie.Need-returns-3
+returns-3 : tie.Need-returns-then-k-ge-VARIABLES
 returns-3 c =
     λ z. absurd (false≢true z)
 
-shared-slice-read-q : tie.Need-shared-slice-read-q
+shared-slice-read-q : tie.Need-bounds-table-k
 shared-slice-read-q c =
-    omega (arith, c.before.before.before.before.before.before.before.table.given.0, c.before.if3.false)
+    omega (arith, c.before.before.before.before.before.before.before.table-1.given.0, c.before.if-k-ge-VARIABLES.false)
 
-returns-4 : tie.Need-returns-4
+returns-4 : tie.Need-returns
 returns-4 c =
-    listed-is c.before.before.before.before.before.before.before.before.before.before.before.args.work.now c.before.before.before.before.before.before.before.before.before.before.before.args.env.now c.before.before.before.before.before.before.before.before.before.before.before.args.e _ _ _ _ _ c.before.before.before.before.before.before.before.before.word.ensures c.before.before.before.before.before.before.before.if1.false c.before.before.before.before.before.before.word2.ensures c.before.before.before.before.before.if2.false c.before.before.before.before.word3.ensures c.before.reference.ensures c.word4.ensures
+    listed-is c.before.before.before.before.before.before.before.before.before.before.before.args.work.now c.before.before.before.before.before.before.before.before.before.before.before.args.env.now c.before.before.before.before.before.before.before.before.before.before.before.args.e _ _ _ _ _ c.before.before.before.before.before.before.before.before.word.ensures c.before.before.before.before.before.before.before.if-word-ne-VARIABLE.false c.before.before.before.before.before.before.word-2.ensures c.before.before.before.before.before.if-word-ne1.false c.before.before.before.before.word-k.ensures c.before.reference-element.ensures c.word-3.ensures
 
-pub is-listed-spec : {M : Type 1} → statement M
-is-listed-spec =
+pub is_listed_spec : {M : Type 1} → statement M
+is_listed_spec =
     tie.close
     (tie.spec
     (λ c κs. search rules)  -- word-requires

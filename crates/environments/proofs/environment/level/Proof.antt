@@ -3,13 +3,13 @@ use Rattle.environments.proofs.environment.level.Statement.{statement}
 use Rattle.environments.proofs.environment.level.Tie as tie
 use Rattle.environments.specs.EntryLaws.{level-small, level-more}
 
-returns : tie.Need-returns
+returns : tie.Need-returns-then-d-lt2
 returns c =
-    level-small c.before.args.d c.if1.true
+    level-small c.before.args.d c.if-d-lt2.true
 
-returns-2 : tie.Need-returns-2
+returns-2 : tie.Need-returns
 returns-2 c =
-    level-more c.before.args.d c.if1.false
+    level-more c.before.args.d c.if-d-lt2.false
 
-pub level-spec : {M : Type 1} → statement M
-level-spec = tie.close (tie.spec returns returns-2)
+pub level_spec : {M : Type 1} → statement M
+level_spec = tie.close (tie.spec returns returns-2)

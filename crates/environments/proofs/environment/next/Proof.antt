@@ -4,27 +4,27 @@ use Rattle.environments.proofs.environment.next.Statement.{statement}
 use Rattle.environments.proofs.environment.next.Tie as tie
 use Rattle.environments.specs.EntryLaws.{next_of, next-is}
 
-within-requires : tie.Need-within-requires
+within-requires : tie.Need-within-one-requires
 within-requires c κs =
     search rules
 
-within-requires-2 : tie.Need-within-requires-2
+within-requires-2 : tie.Need-within-two-requires
 within-requires-2 c κs =
     search rules
 
-rest-requires : tie.Need-rest-requires
+rest-requires : tie.Need-rest-along-requires
 rest-requires c κs =
     search rules
 
-rest-requires-2 : tie.Need-rest-requires-2
+rest-requires-2 : tie.Need-rest-across-requires
 rest-requires-2 c κs =
     search rules
 
 returns : tie.Need-returns
 unfolding next_of
 returns c =
-    let a = c.before.before.before.before.before.args in next-is a.work.now a.k a.x _ _ _ _ c.before.before.before.before.before.requires c.before.before.before.within.ensures c.before.before.within2.ensures c.before.rest.ensures c.rest2.ensures
+    let a = c.before.before.before.before.before.args in next-is a.work.now a.k a.x _ _ _ _ c.before.before.before.before.before.requires c.before.before.before.within-one.ensures c.before.before.within-two.ensures c.before.rest-along.ensures c.rest-across.ensures
 
-pub next-spec : {M : Type 1} → statement M
-next-spec =
+pub next_spec : {M : Type 1} → statement M
+next_spec =
     tie.close (tie.spec within-requires within-requires-2 rest-requires rest-requires-2 returns)

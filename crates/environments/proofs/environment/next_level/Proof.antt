@@ -6,13 +6,13 @@ use Rattle.environments.proofs.environment.next_level.Lts as lts
 use Rattle.std.proofs.Common.{sym, refl, ap, ◌∙◌, arith, rules}
 use Rattle.environments.specs.EntryLaws.{level-first, level-second}
 
-returns : tie.Need-returns
+returns : tie.Need-returns-then-d-eq0
 returns c =
-    let a = c.before.args in level-first a.d c.if1.true
+    let a = c.before.args in level-first a.d c.if-d-eq0.true
 
-returns-2 : tie.Need-returns-2
+returns-2 : tie.Need-returns
 returns-2 c =
-    let a = c.before.args in level-second a.d c.if1.false
+    let a = c.before.args in level-second a.d c.if-d-eq0.false
 
-pub next-level-spec : {M : Type 1} → statement M
-next-level-spec = tie.close (tie.spec returns returns-2)
+pub next_level_spec : {M : Type 1} → statement M
+next_level_spec = tie.close (tie.spec returns returns-2)

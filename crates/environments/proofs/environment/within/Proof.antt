@@ -9,15 +9,15 @@ use Rattle.arena.proofs.lists.first.Reads as first_reads
 use Rattle.environments.proofs.parts.part.Reads as part-reads
 use Rattle.environments.specs.EntryLaws.{within-flat, within-part}
 
-returns : tie.Need-returns
+returns : tie.Need-returns-then-q-eq0
 returns c =
-    let a = c.before.before.args in within-flat a.work.now a.q a.k a.list a.before c.if1.true
+    let a = c.before.before.args in within-flat a.work.now a.q a.k a.list a.before c.if-q-eq0.true
 
-reference-requires : tie.Need-reference-requires
+reference-requires : tie.Need-reference-element-requires
 reference-requires c κs =
     search rules
 
-first-requires : tie.Need-first-requires
+first-requires : tie.Need-first-first-requires
 first-requires c κs =
     search rules
 
@@ -25,10 +25,10 @@ part-requires : tie.Need-part-requires
 part-requires c κs =
     search rules
 
-returns-2 : tie.Need-returns-2
+returns-2 : tie.Need-returns
 returns-2 c =
-    let a = c.before.before.before.before.before.args in within-part a.work.now a.q a.k a.list a.before _ _ _ c.before.before.before.if1.false c.before.before.reference.ensures c.before.first.ensures c.part.ensures
+    let a = c.before.before.before.before.before.args in within-part a.work.now a.q a.k a.list a.before _ _ _ c.before.before.before.if-q-eq0.false c.before.before.reference-element.ensures c.before.first-first.ensures c.part.ensures
 
-pub within-spec : {M : Type 1} → statement M
-within-spec =
+pub within_spec : {M : Type 1} → statement M
+within_spec =
     tie.close (tie.spec returns reference-requires first-requires part-requires returns-2)

@@ -46,37 +46,37 @@ fill-claims t = (word-reads.Asked, word-reads.Learnt, reference-reads.Asked, ref
 abbrev fill-rows-claims : ℕ → fill-rows-lts.Claims
 fill-rows-claims t = (first_reads.Asked, first_reads.Learnt, rest-reads.Asked, rest-reads.Learnt, fill-below t, fill.Post)
 
-fill-slice-write-work : (t : ℕ) → fill-lts.Need-slice-write-work (fill-claims t) (fill-at t) fill.Post
+fill-slice-write-work : (t : ℕ) → fill-lts.Need-bounds-work-x (fill-claims t) (fill-at t) fill.Post
 fill-slice-write-work t c =
     let at-if1 = c.before in
     let at-word = at-if1.before in
     let at-args = at-word.before.before.before in
-    row_inside at-args.args.work.now at-args.args.p at-args.args.u at-args.args.x _ at-word.word.ensures at-args.requires.1 at-if1.if1.true
+    row_inside at-args.args.work.now at-args.args.p at-args.args.u at-args.args.x _ at-word.word-tag.ensures at-args.requires.1 at-if1.if-tag-eq-VARIABLE.true
 
-fill-add-t19 : (t : ℕ) → fill-lts.Need-overflow-add-t19 (fill-claims t) (fill-at t) fill.Post
+fill-add-t19 : (t : ℕ) → fill-lts.Need-overflow_add-result (fill-claims t) (fill-at t) fill.Post
 fill-add-t19 t c =
     let at-if1 = c.before.before in
     let at-word = at-if1.before in
     let at-args = at-word.before.before.before in
-    let s = variable-small at-args.args.work.now at-args.args.p at-args.args.u at-args.args.x _ at-word.word.ensures at-args.requires.1 at-if1.if1.true in omega (arith, s)
+    let s = variable-small at-args.args.work.now at-args.args.p at-args.args.u at-args.args.x _ at-word.word-tag.ensures at-args.requires.1 at-if1.if-tag-eq-VARIABLE.true in omega (arith, s)
 
-fill-returns : (t : ℕ) → fill-lts.Need-returns (fill-claims t) (fill-at t) fill.Post
+fill-returns : (t : ℕ) → fill-lts.Need-returns-then-tag-eq-VARIABLE (fill-claims t) (fill-at t) fill.Post
 fill-returns t c =
     let at-if1 = c.before.before in
     let at-word = at-if1.before in
     let at-args = at-word.before.before.before in
-    filled-variable at-args.args.work.now at-args.args.p at-args.args.u at-args.args.x _ at-word.word.ensures at-args.requires.1 at-if1.if1.true
+    filled-variable at-args.args.work.now at-args.args.p at-args.args.u at-args.args.x _ at-word.word-tag.ensures at-args.requires.1 at-if1.if-tag-eq-VARIABLE.true
 
-fill-open-block-requires : (t : ℕ) → fill-lts.Need-open-block-requires (fill-claims t) (fill-at t) fill.Post
+fill-open-block-requires : (t : ℕ) → fill-lts.Need-open_block-b-requires (fill-claims t) (fill-at t) fill.Post
 fill-open-block-requires t c κs =
     let at-if2 = c.before in
     let at-reference2 = at-if2.before in
     let at-reference = at-reference2.before.before in
     let at-word = at-reference.before.before.before in
     let at-args = at-word.before.before.before in
-    ellipsis-openable at-args.args.work.now at-args.args.p at-args.args.u at-args.args.x _ at-word.word.ensures at-args.requires.1 _ _ at-reference.reference.ensures at-reference2.reference2.ensures at-if2.if2.true
+    ellipsis-openable at-args.args.work.now at-args.args.p at-args.args.u at-args.args.x _ at-word.word-tag.ensures at-args.requires.1 _ _ at-reference.reference-rest.ensures at-reference2.reference-head.ensures at-if2.if-tag-eq-ELLIPSIS.true
 
-fill-add-t28 : (t : ℕ) → fill-lts.Need-overflow-add-t28 (fill-claims t) (fill-at t) fill.Post
+fill-add-t28 : (t : ℕ) → fill-lts.Need-overflow_add-x (fill-claims t) (fill-at t) fill.Post
 fill-add-t28 t c =
     let at-open-block = c.before.before.before.before in
     let at-if2 = at-open-block.before.before in
@@ -84,9 +84,9 @@ fill-add-t28 t c =
     let at-reference = at-reference2.before.before in
     let at-word = at-reference.before.before.before in
     let at-args = at-word.before.before.before in
-    let s = rows-small at-args.args.work.now at-args.args.p at-args.args.u at-args.args.x _ at-word.word.ensures at-args.requires.1 _ _ at-reference.reference.ensures at-reference2.reference2.ensures at-if2.if2.true _ _ _ at-open-block.open_block.ensures at-open-block.open_block.auto.0 in omega (arith, s)
+    let s = rows-small at-args.args.work.now at-args.args.p at-args.args.u at-args.args.x _ at-word.word-tag.ensures at-args.requires.1 _ _ at-reference.reference-rest.ensures at-reference2.reference-head.ensures at-if2.if-tag-eq-ELLIPSIS.true _ _ _ at-open-block.open_block-b.ensures at-open-block.open_block-b.auto.0 in omega (arith, s)
 
-fill-fill-rows-requires : (t : ℕ) → fill-lts.Need-fill-rows-requires (fill-claims t) (fill-at t) fill.Post
+fill-fill-rows-requires : (t : ℕ) → fill-lts.Need-fill_rows-y-requires (fill-claims t) (fill-at t) fill.Post
 fill-fill-rows-requires t c κs =
     let at-open-block = c.before.before.before.before in
     let at-if2 = at-open-block.before.before in
@@ -94,9 +94,9 @@ fill-fill-rows-requires t c κs =
     let at-reference = at-reference2.before.before in
     let at-word = at-reference.before.before.before in
     let at-args = at-word.before.before.before in
-    let l = part_falls at-args.args.work.now at-args.args.p _ at-word.word.ensures 3 _ (λ z. omega arith) at-reference2.reference2.ensures in (omega (arith, l, at-args.requires.0), ellipsis-rows at-args.args.work.now at-args.args.p at-args.args.u at-args.args.x _ at-word.word.ensures at-args.requires.1 _ _ at-reference.reference.ensures at-reference2.reference2.ensures at-if2.if2.true _ _ _ at-open-block.open_block.ensures at-open-block.open_block.auto.0)
+    let l = part_falls at-args.args.work.now at-args.args.p _ at-word.word-tag.ensures 3 _ (λ z. omega arith) at-reference2.reference-head.ensures in (omega (arith, l, at-args.requires.0), ellipsis-rows at-args.args.work.now at-args.args.p at-args.args.u at-args.args.x _ at-word.word-tag.ensures at-args.requires.1 _ _ at-reference.reference-rest.ensures at-reference2.reference-head.ensures at-if2.if-tag-eq-ELLIPSIS.true _ _ _ at-open-block.open_block-b.ensures at-open-block.open_block-b.auto.0)
 
-fill-slice-write-work-2 : (t : ℕ) → fill-lts.Need-slice-write-work-2 (fill-claims t) (fill-at t) fill.Post
+fill-slice-write-work-2 : (t : ℕ) → fill-lts.Need-bounds-work-x-then-tag-eq-ELLIPSIS (fill-claims t) (fill-at t) fill.Post
 fill-slice-write-work-2 t c =
     let at-fill-rows = c.before.before.before in
     let at-open-block = at-fill-rows.before.before.before.before.before in
@@ -105,9 +105,9 @@ fill-slice-write-work-2 t c =
     let at-reference = at-reference2.before.before in
     let at-word = at-reference.before.before.before in
     let at-args = at-word.before.before.before in
-    slot-inside at-args.args.work.now at-args.args.p at-args.args.u at-args.args.x _ at-word.word.ensures at-args.requires.1 _ _ at-reference.reference.ensures at-reference2.reference2.ensures at-if2.if2.true _ _ _ at-open-block.open_block.ensures at-open-block.open_block.auto.0 _ _ _ at-fill-rows.fill-rows.ensures at-fill-rows.fill-rows.auto.0
+    slot-inside at-args.args.work.now at-args.args.p at-args.args.u at-args.args.x _ at-word.word-tag.ensures at-args.requires.1 _ _ at-reference.reference-rest.ensures at-reference2.reference-head.ensures at-if2.if-tag-eq-ELLIPSIS.true _ _ _ at-open-block.open_block-b.ensures at-open-block.open_block-b.auto.0 _ _ _ at-fill-rows.fill_rows-y.ensures at-fill-rows.fill_rows-y.auto.0
 
-fill-add-t28-2 : (t : ℕ) → fill-lts.Need-overflow-add-t28-2 (fill-claims t) (fill-at t) fill.Post
+fill-add-t28-2 : (t : ℕ) → fill-lts.Need-overflow_add-x-then-tag-eq-ELLIPSIS (fill-claims t) (fill-at t) fill.Post
 fill-add-t28-2 t c =
     let at-fill-rows = c.before.before.before.before.before in
     let at-open-block = at-fill-rows.before.before.before.before.before in
@@ -116,7 +116,7 @@ fill-add-t28-2 t c =
     let at-reference = at-reference2.before.before in
     let at-word = at-reference.before.before.before in
     let at-args = at-word.before.before.before in
-    let s = slot_small at-args.args.work.now at-args.args.p at-args.args.u at-args.args.x _ at-word.word.ensures at-args.requires.1 _ _ at-reference.reference.ensures at-reference2.reference2.ensures at-if2.if2.true _ _ _ at-open-block.open_block.ensures at-open-block.open_block.auto.0 _ _ _ at-fill-rows.fill-rows.ensures at-fill-rows.fill-rows.auto.0 in omega (arith, s)
+    let s = slot_small at-args.args.work.now at-args.args.p at-args.args.u at-args.args.x _ at-word.word-tag.ensures at-args.requires.1 _ _ at-reference.reference-rest.ensures at-reference2.reference-head.ensures at-if2.if-tag-eq-ELLIPSIS.true _ _ _ at-open-block.open_block-b.ensures at-open-block.open_block-b.auto.0 _ _ _ at-fill-rows.fill_rows-y.ensures at-fill-rows.fill_rows-y.auto.0 in omega (arith, s)
 
 fill-fill-requires : (t : ℕ) → fill-lts.Need-fill-requires (fill-claims t) (fill-at t) fill.Post
 fill-fill-requires t c κs =
@@ -127,15 +127,15 @@ fill-fill-requires t c κs =
     let at-reference = at-reference2.before.before in
     let at-word = at-reference.before.before.before in
     let at-args = at-word.before.before.before in
-    let l = part_falls at-args.args.work.now at-args.args.p _ at-word.word.ensures 2 _ (λ z. omega arith) at-reference.reference.ensures in (omega (arith, l, at-args.requires.0), fillable-behind at-args.args.work.now at-args.args.p at-args.args.u at-args.args.x _ at-word.word.ensures at-args.requires.1 _ _ at-reference.reference.ensures at-reference2.reference2.ensures at-if2.if2.true _ _ _ at-open-block.open_block.ensures at-open-block.open_block.auto.0 _ _ _ at-fill-rows.fill-rows.ensures at-fill-rows.fill-rows.auto.0)
+    let l = part_falls at-args.args.work.now at-args.args.p _ at-word.word-tag.ensures 2 _ (λ z. omega arith) at-reference.reference-rest.ensures in (omega (arith, l, at-args.requires.0), fillable-behind at-args.args.work.now at-args.args.p at-args.args.u at-args.args.x _ at-word.word-tag.ensures at-args.requires.1 _ _ at-reference.reference-rest.ensures at-reference2.reference-head.ensures at-if2.if-tag-eq-ELLIPSIS.true _ _ _ at-open-block.open_block-b.ensures at-open-block.open_block-b.auto.0 _ _ _ at-fill-rows.fill_rows-y.ensures at-fill-rows.fill_rows-y.auto.0)
 
-fill-same-length-2 : (t : ℕ) → fill-lts.Need-same-length-2 (fill-claims t) (fill-at t) fill.Post
+fill-same-length-2 : (t : ℕ) → fill-lts.Need-shape_of-work-then-tag-eq-ELLIPSIS (fill-claims t) (fill-at t) fill.Post
 fill-same-length-2 t c =
     let at_fill_lem = c.before.before in
     let at-fill-rows = at_fill_lem.before.before.before.before.before.before in
-    (simp length-set at at_fill_lem.fill.auto.0) ∙ at-fill-rows.fill-rows.auto.0 ∙ at-fill-rows.before.before.before.before.before.open_block.auto.0
+    (simp length-set at at_fill_lem.fill.auto.0) ∙ at-fill-rows.fill_rows-y.auto.0 ∙ at-fill-rows.before.before.before.before.before.open_block-b.auto.0
 
-fill-returns-2 : (t : ℕ) → fill-lts.Need-returns-2 (fill-claims t) (fill-at t) fill.Post
+fill-returns-2 : (t : ℕ) → fill-lts.Need-returns-then-tag-eq-ELLIPSIS (fill-claims t) (fill-at t) fill.Post
 fill-returns-2 t c =
     let at_fill_lem = c.before.before in
     let at-fill-rows = at_fill_lem.before.before.before.before.before.before in
@@ -145,17 +145,17 @@ fill-returns-2 t c =
     let at-reference = at-reference2.before.before in
     let at-word = at-reference.before.before.before in
     let at-args = at-word.before.before.before in
-    filled-ellipsis at-args.args.work.now at-args.args.p at-args.args.u at-args.args.x _ at-word.word.ensures at-args.requires.1 _ _ at-reference.reference.ensures at-reference2.reference2.ensures at-if2.if2.true _ _ _ at-open-block.open_block.ensures at-open-block.open_block.auto.0 _ _ _ at-fill-rows.fill-rows.ensures at-fill-rows.fill-rows.auto.0 _ _ at_fill_lem.fill.ensures
+    filled-ellipsis at-args.args.work.now at-args.args.p at-args.args.u at-args.args.x _ at-word.word-tag.ensures at-args.requires.1 _ _ at-reference.reference-rest.ensures at-reference2.reference-head.ensures at-if2.if-tag-eq-ELLIPSIS.true _ _ _ at-open-block.open_block-b.ensures at-open-block.open_block-b.auto.0 _ _ _ at-fill-rows.fill_rows-y.ensures at-fill-rows.fill_rows-y.auto.0 _ _ at_fill_lem.fill.ensures
 
-fill-returns-3 : (t : ℕ) → fill-lts.Need-returns-3 (fill-claims t) (fill-at t) fill.Post
+fill-returns-3 : (t : ℕ) → fill-lts.Need-returns-then-tag-ne-PAIR (fill-claims t) (fill-at t) fill.Post
 fill-returns-3 t c =
     let at-if2 = c.before in
     let at-if1 = at-if2.before.before.before.before.before in
     let at-word = at-if1.before in
     let at-args = at-word.before.before.before in
-    filled_none at-args.args.work.now at-args.args.p at-args.args.u at-args.args.x _ at-word.word.ensures at-args.requires.1 at-if1.if1.false c.if3.true at-if2.if2.false
+    filled_none at-args.args.work.now at-args.args.p at-args.args.u at-args.args.x _ at-word.word-tag.ensures at-args.requires.1 at-if1.if-tag-eq-VARIABLE.false c.if-tag-ne-PAIR.true at-if2.if-tag-eq-ELLIPSIS.false
 
-fill-fill-requires-2 : (t : ℕ) → fill-lts.Need-fill-requires-2 (fill-claims t) (fill-at t) fill.Post
+fill-fill-requires-2 : (t : ℕ) → fill-lts.Need-fill-y-requires (fill-claims t) (fill-at t) fill.Post
 fill-fill-requires-2 t c κs =
     let at_rest = c.before in
     let at_first = at_rest.before.before in
@@ -164,9 +164,9 @@ fill-fill-requires-2 t c κs =
     let at-reference = at-reference2.before.before in
     let at-word = at-reference.before.before.before in
     let at-args = at-word.before.before.before in
-    let l = part_falls at-args.args.work.now at-args.args.p _ at-word.word.ensures 3 _ (λ z. omega arith) at-reference2.reference2.ensures in (omega (arith, l, at-args.requires.0), fillable-head at-args.args.work.now at-args.args.p at-args.args.u at-args.args.x _ at-word.word.ensures at-args.requires.1 _ _ _ _ at-reference2.reference2.ensures at-reference.reference.ensures at-if3.if3.false at_first.first.ensures at_rest.rest.ensures)
+    let l = part_falls at-args.args.work.now at-args.args.p _ at-word.word-tag.ensures 3 _ (λ z. omega arith) at-reference2.reference-head.ensures in (omega (arith, l, at-args.requires.0), fillable-head at-args.args.work.now at-args.args.p at-args.args.u at-args.args.x _ at-word.word-tag.ensures at-args.requires.1 _ _ _ _ at-reference2.reference-head.ensures at-reference.reference-rest.ensures at-if3.if-tag-ne-PAIR.false at_first.first-first.ensures at_rest.rest-tail.ensures)
 
-fill-fill-requires-3 : (t : ℕ) → fill-lts.Need-fill-requires-3 (fill-claims t) (fill-at t) fill.Post
+fill-fill-requires-3 : (t : ℕ) → fill-lts.Need-fill-requires-2 (fill-claims t) (fill-at t) fill.Post
 fill-fill-requires-3 t c κs =
     let at-fill2 = c.before.before.before in
     let at_rest = at-fill2.before.before in
@@ -176,13 +176,13 @@ fill-fill-requires-3 t c κs =
     let at-reference = at-reference2.before.before in
     let at-word = at-reference.before.before.before in
     let at-args = at-word.before.before.before in
-    let l = part_falls at-args.args.work.now at-args.args.p _ at-word.word.ensures 2 _ (λ z. omega arith) at-reference.reference.ensures in (omega (arith, l, at-args.requires.0), fillable-rest at-args.args.work.now at-args.args.p at-args.args.u at-args.args.x _ at-word.word.ensures at-args.requires.1 _ _ _ _ at-reference2.reference2.ensures at-reference.reference.ensures at-if3.if3.false at_first.first.ensures at_rest.rest.ensures _ _ at-fill2.fill2.auto.0 at-fill2.fill2.ensures)
+    let l = part_falls at-args.args.work.now at-args.args.p _ at-word.word-tag.ensures 2 _ (λ z. omega arith) at-reference.reference-rest.ensures in (omega (arith, l, at-args.requires.0), fillable-rest at-args.args.work.now at-args.args.p at-args.args.u at-args.args.x _ at-word.word-tag.ensures at-args.requires.1 _ _ _ _ at-reference2.reference-head.ensures at-reference.reference-rest.ensures at-if3.if-tag-ne-PAIR.false at_first.first-first.ensures at_rest.rest-tail.ensures _ _ at-fill2.fill-y.auto.0 at-fill2.fill-y.ensures)
 
-fill-same-length-4 : (t : ℕ) → fill-lts.Need-same-length-4 (fill-claims t) (fill-at t) fill.Post
+fill-same-length-4 : (t : ℕ) → fill-lts.Need-shape_of-work (fill-claims t) (fill-at t) fill.Post
 fill-same-length-4 t c =
-    c.before.before.fill3.auto.0 ∙ c.before.before.before.before.before.before.fill2.auto.0
+    c.before.before.fill-2.auto.0 ∙ c.before.before.before.before.before.before.fill-y.auto.0
 
-fill-returns-4 : (t : ℕ) → fill-lts.Need-returns-4 (fill-claims t) (fill-at t) fill.Post
+fill-returns-4 : (t : ℕ) → fill-lts.Need-returns (fill-claims t) (fill-at t) fill.Post
 fill-returns-4 t c =
     let at-fill3 = c.before.before in
     let at-fill2 = at-fill3.before.before.before.before in
@@ -193,34 +193,34 @@ fill-returns-4 t c =
     let at-reference = at-reference2.before.before in
     let at-word = at-reference.before.before.before in
     let at-args = at-word.before.before.before in
-    filled-pair at-args.args.work.now at-args.args.p at-args.args.u at-args.args.x _ at-word.word.ensures at-args.requires.1 _ _ _ _ at-reference2.reference2.ensures at-reference.reference.ensures at-if3.if3.false at_first.first.ensures at_rest.rest.ensures _ _ at-fill2.fill2.auto.0 at-fill2.fill2.ensures _ _ at-fill3.fill3.ensures
+    filled-pair at-args.args.work.now at-args.args.p at-args.args.u at-args.args.x _ at-word.word-tag.ensures at-args.requires.1 _ _ _ _ at-reference2.reference-head.ensures at-reference.reference-rest.ensures at-if3.if-tag-ne-PAIR.false at_first.first-first.ensures at_rest.rest-tail.ensures _ _ at-fill2.fill-y.auto.0 at-fill2.fill-y.ensures _ _ at-fill3.fill-2.ensures
 
-abbrev fill-rows-Inv-loop : fill-rows-lts.invariant-loop
+abbrev fill-rows-Inv-loop : fill-rows-lts.invariant-loop-i
 fill-rows-Inv-loop work₀ p u c node₀ slot₀ top₀ i₀ work node slot top i =
     Filling work₀ work p u c (record { slot = slot₀; top = top₀ }) i node slot top
 
-abbrev fill-rows-μ-loop : fill-rows-lts.decreases-loop
+abbrev fill-rows-μ-loop : fill-rows-lts.decreases-loop-i
 fill-rows-μ-loop work₀ p u c node₀ slot₀ top₀ i₀ work node slot top i =
     c - i
 
-fill-rows-loop-holds : (t : ℕ) → fill-rows-lts.Need-loop-init (fill-rows-claims t) (fill-rows-at t) fill-rows.Post fill-rows-Inv-loop fill-rows-μ-loop
+fill-rows-loop-holds : (t : ℕ) → fill-rows-lts.Need-loop-i-init (fill-rows-claims t) (fill-rows-at t) fill-rows.Post fill-rows-Inv-loop fill-rows-μ-loop
 fill-rows-loop-holds t c =
     filling-begins c.before.args.work.now c.before.args.p c.before.args.u c.before.args.c c.before.args.x
 
-fill-rows-fill-requires : (t : ℕ) → fill-rows-lts.Need-fill-requires (fill-rows-claims t) (fill-rows-at t) fill-rows.Post fill-rows-Inv-loop fill-rows-μ-loop
+fill-rows-fill-requires : (t : ℕ) → fill-rows-lts.Need-fill-y-requires (fill-rows-claims t) (fill-rows-at t) fill-rows.Post fill-rows-Inv-loop fill-rows-μ-loop
 fill-rows-fill-requires t c κs =
     let at_rest = c.before in
     let at_first = at_rest.before.before in
     let at-loop-test = at_first.before.before in
     let at-loop = at-loop-test.before in
     let at-args = at-loop.before.before in
-    (omega (arith, at-args.requires.0), filling-asks at-args.args.work.now at-args.args.p at-args.args.u at-args.args.c at-args.args.x _ _ _ _ _ at-loop.loop.invariant at-args.requires.1 at-loop-test.loop-test.true _ _ at_first.first.ensures at_rest.rest.ensures)
+    (omega (arith, at-args.requires.0), filling-asks at-args.args.work.now at-args.args.p at-args.args.u at-args.args.c at-args.args.x _ _ _ _ _ at-loop.loop-i.invariant at-args.requires.1 at-loop-test.loop-i-test.true _ _ at_first.first-first.ensures at_rest.rest-tail.ensures)
 
-fill-rows-loop-less : (t : ℕ) → fill-rows-lts.Need-loop-smaller (fill-rows-claims t) (fill-rows-at t) fill-rows.Post fill-rows-Inv-loop fill-rows-μ-loop
+fill-rows-loop-less : (t : ℕ) → fill-rows-lts.Need-loop-i-smaller (fill-rows-claims t) (fill-rows-at t) fill-rows.Post fill-rows-Inv-loop fill-rows-μ-loop
 fill-rows-loop-less t c =
-    omega (arith, c.before.before.before.before.before.before.before.before.loop-test.true)
+    omega (arith, c.before.before.before.before.before.before.before.before.loop-i-test.true)
 
-fill-rows-loop-again : (t : ℕ) → fill-rows-lts.Need-loop-preserved (fill-rows-claims t) (fill-rows-at t) fill-rows.Post fill-rows-Inv-loop fill-rows-μ-loop
+fill-rows-loop-again : (t : ℕ) → fill-rows-lts.Need-loop-i-preserved (fill-rows-claims t) (fill-rows-at t) fill-rows.Post fill-rows-Inv-loop fill-rows-μ-loop
 fill-rows-loop-again t c =
     let at_fill_lem = c.before.before in
     let at_rest = at_fill_lem.before.before in
@@ -228,20 +228,20 @@ fill-rows-loop-again t c =
     let at-loop-test = at_first.before.before in
     let at-loop = at-loop-test.before in
     let at-args = at-loop.before.before in
-    filling-more at-args.args.work.now at-args.args.p at-args.args.u at-args.args.c at-args.args.x _ _ _ _ _ at-loop.loop.invariant at-args.requires.1 at-loop-test.loop-test.true _ _ at_first.first.ensures at_rest.rest.ensures _ _ at_fill_lem.fill.auto.0 at_fill_lem.fill.ensures
+    filling-more at-args.args.work.now at-args.args.p at-args.args.u at-args.args.c at-args.args.x _ _ _ _ _ at-loop.loop-i.invariant at-args.requires.1 at-loop-test.loop-i-test.true _ _ at_first.first-first.ensures at_rest.rest-tail.ensures _ _ at_fill_lem.fill-y.auto.0 at_fill_lem.fill-y.ensures
 
-fill-rows-same-length : (t : ℕ) → fill-rows-lts.Need-same-length (fill-rows-claims t) (fill-rows-at t) fill-rows.Post fill-rows-Inv-loop fill-rows-μ-loop
+fill-rows-same-length : (t : ℕ) → fill-rows-lts.Need-shape_of-work (fill-rows-claims t) (fill-rows-at t) fill-rows.Post fill-rows-Inv-loop fill-rows-μ-loop
 fill-rows-same-length t c =
-    c.before.loop.invariant.long
+    c.before.loop-i.invariant.long
 
 fill-rows-returns : (t : ℕ) → fill-rows-lts.Need-returns (fill-rows-claims t) (fill-rows-at t) fill-rows.Post fill-rows-Inv-loop fill-rows-μ-loop
 fill-rows-returns t c =
     let at-loop = c.before in
     let args' = at-loop.before.before.args in
-    filling-ends args'.work.now args'.p args'.u args'.c args'.x _ _ _ _ _ at-loop.loop.invariant (omega (arith, c.loop-test.false))
+    filling-ends args'.work.now args'.p args'.u args'.c args'.x _ _ _ _ _ at-loop.loop-i.invariant (omega (arith, c.loop-i-test.false))
 
-pub +fill-fill-rows-spec : {M : Type 1} → statement M
-+fill-fill-rows-spec = close μ-fill μ-fill-rows (λ t. fill-lts.spec (fill-claims t)
+pub +fill_fill_rows_spec : {M : Type 1} → statement M
++fill_fill_rows_spec = close μ-fill μ-fill-rows (λ t. fill-lts.spec (fill-claims t)
     (fill-at t)
     fill.Post
     (λ c κs. search rules)  -- fill-word-requires

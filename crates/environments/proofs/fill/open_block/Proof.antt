@@ -9,54 +9,54 @@ use Rattle.environments.proofs.fill.slots.Reads as slots-reads
 use Rattle.environments.proofs.shares.share.Reads as share-reads
 use Rattle.environments.specs.FillLaws.{opened-none, opened-slots, opened-room, opened_some}
 
-returns : tie.Need-returns
+returns : tie.Need-returns-then-c-eq0
 returns c =
     let at-share = c.before in
     let at-args = at-share.before.before.before in
-    opened-none at-args.args.work.now at-args.args.p at-args.args.u at-args.args.top _ at-args.requires at-share.share.ensures c.if1.true
+    opened-none at-args.args.work.now at-args.args.p at-args.args.u at-args.args.top _ at-args.requires at-share.share-c.ensures c.if-c-eq0.true
 
-slots-requires : tie.Need-slots-requires
+slots-requires : tie.Need-slots-width-requires
 slots-requires c κs =
     let at-reference = c.before in
     let at-if1 = at-reference.before.before in
     let at-share = at-if1.before in
     let at-args = at-share.before.before.before in
-    opened-slots at-args.args.work.now at-args.args.p at-args.args.u at-args.args.top _ at-args.requires at-share.share.ensures _ at-if1.if1.false at-reference.reference.ensures
+    opened-slots at-args.args.work.now at-args.args.p at-args.args.u at-args.args.top _ at-args.requires at-share.share-c.ensures _ at-if1.if-c-eq0.false at-reference.reference-element.ensures
 
-slice-write-work-3 : tie.Need-slice-write-work-3
+slice-write-work-3 : tie.Need-bounds-work-top-3
 slice-write-work-3 c =
     let at-reference = c.before.before in
     let at-if1 = at-reference.before.before in
     let at-share = at-if1.before in
     let at-args = at-share.before.before.before in
-    let r = opened-room at-args.args.work.now at-args.args.p at-args.args.u at-args.args.top _ at-args.requires at-share.share.ensures _ at-if1.if1.false at-reference.reference.ensures _ c.slots.ensures in simp length-set (omega (arith, r.fits))
+    let r = opened-room at-args.args.work.now at-args.args.p at-args.args.u at-args.args.top _ at-args.requires at-share.share-c.ensures _ at-if1.if-c-eq0.false at-reference.reference-element.ensures _ c.slots-width.ensures in simp length-set (omega (arith, r.fits))
 
-mul-t25 : tie.Need-overflow-mul-t25
+mul-t25 : tie.Need-overflow_mul-result
 mul-t25 c =
     let at-reference = c.before.before in
     let at-if1 = at-reference.before.before in
     let at-share = at-if1.before in
     let at-args = at-share.before.before.before in
-    let r = opened-room at-args.args.work.now at-args.args.p at-args.args.u at-args.args.top _ at-args.requires at-share.share.ensures _ at-if1.if1.false at-reference.reference.ensures _ c.slots.ensures in record { fits = omega (arith, r.small) }
+    let r = opened-room at-args.args.work.now at-args.args.p at-args.args.u at-args.args.top _ at-args.requires at-share.share-c.ensures _ at-if1.if-c-eq0.false at-reference.reference-element.ensures _ c.slots-width.ensures in record { fits = omega (arith, r.small) }
 
-add-t26 : tie.Need-overflow-add-t26
+add-t26 : tie.Need-overflow_add-result-3
 add-t26 c =
     let at-reference = c.before.before in
     let at-if1 = at-reference.before.before in
     let at-share = at-if1.before in
     let at-args = at-share.before.before.before in
-    let r = opened-room at-args.args.work.now at-args.args.p at-args.args.u at-args.args.top _ at-args.requires at-share.share.ensures _ at-if1.if1.false at-reference.reference.ensures _ c.slots.ensures in record { fits = omega (arith, r.small) }
+    let r = opened-room at-args.args.work.now at-args.args.p at-args.args.u at-args.args.top _ at-args.requires at-share.share-c.ensures _ at-if1.if-c-eq0.false at-reference.reference-element.ensures _ c.slots-width.ensures in record { fits = omega (arith, r.small) }
 
-returns-2 : tie.Need-returns-2
+returns-2 : tie.Need-returns
 returns-2 c =
     let at-reference = c.before.before in
     let at-if1 = at-reference.before.before in
     let at-share = at-if1.before in
     let at-args = at-share.before.before.before in
-    opened_some at-args.args.work.now at-args.args.p at-args.args.u at-args.args.top _ at-args.requires at-share.share.ensures _ at-if1.if1.false at-reference.reference.ensures _ c.slots.ensures
+    opened_some at-args.args.work.now at-args.args.p at-args.args.u at-args.args.top _ at-args.requires at-share.share-c.ensures _ at-if1.if-c-eq0.false at-reference.reference-element.ensures _ c.slots-width.ensures
 
-pub open-block-spec : {M : Type 1} → statement M
-open-block-spec =
+pub open_block_spec : {M : Type 1} → statement M
+open_block_spec =
     tie.close
     (tie.spec
     (λ c κs. search rules)  -- share-requires

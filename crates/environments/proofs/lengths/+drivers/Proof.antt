@@ -28,44 +28,44 @@ drivers-below t = and 2 drivers-kinds.ps (falls 2 drivers-kinds.ps ◌<◌ μ-dr
 abbrev drivers-claims : ℕ → drivers-lts.Claims
 drivers-claims t = (word-reads.Asked, word-reads.Learnt, copies-reads.Asked, copies-reads.Learnt, also-reads.Asked, also-reads.Learnt, reference-reads.Asked, reference-reads.Learnt, deeper-reads.Asked, deeper-reads.Learnt, drivers-below t, drivers.Post)
 
-drivers-returns : (t : ℕ) → drivers-lts.Need-returns (drivers-claims t) (drivers-at t) drivers.Post
+drivers-returns : (t : ℕ) → drivers-lts.Need-returns-then-d-j (drivers-claims t) (drivers-at t) drivers.Post
 drivers-returns t c =
-    let a = c.before.before.before.before.before.args in drives-few a.work.now a.env.now a.t _ c.before.before.before.word.ensures a.j _ _ c.before.before.if1.true c.before.word2.ensures c.if2.true
+    let a = c.before.before.before.before.before.args in drives-few a.work.now a.env.now a.t _ c.before.before.before.word-tag.ensures a.j _ _ c.before.before.if-tag-eq-VARIABLE.true c.before.word-d.ensures c.if-d-j.true
 
-drivers-returns-2 : (t : ℕ) → drivers-lts.Need-returns-2 (drivers-claims t) (drivers-at t) drivers.Post
+drivers-returns-2 : (t : ℕ) → drivers-lts.Need-returns-then-tag-eq-VARIABLE (drivers-claims t) (drivers-at t) drivers.Post
 drivers-returns-2 t c =
     let a = c.before.before.before.before.before.before.before.before.args in
-    λ w. c.also.ensures ∙ drives-one a.work.now a.env.now a.t _ c.before.before.before.before.before.before.word.ensures a.j a.before _ _ _ c.before.before.before.before.before.if1.true c.before.before.before.before.word2.ensures c.before.before.word3.ensures (omega arith) c.before.copies.ensures w
+    λ w. c.also.ensures ∙ drives-one a.work.now a.env.now a.t _ c.before.before.before.before.before.before.word-tag.ensures a.j a.before _ _ _ c.before.before.before.before.before.if-tag-eq-VARIABLE.true c.before.before.before.before.word-d.ensures c.before.before.word-k.ensures (omega arith) c.before.copies.ensures w
 
-drivers-returns-3 : (t : ℕ) → drivers-lts.Need-returns-3 (drivers-claims t) (drivers-at t) drivers.Post
+drivers-returns-3 : (t : ℕ) → drivers-lts.Need-returns-then-tag-lt-PAIR (drivers-claims t) (drivers-at t) drivers.Post
 drivers-returns-3 t c =
-    let a = c.before.before.before.before.args in drives-none a.work.now a.env.now a.t _ c.before.before.word.ensures a.j _ c.before.if1.false (λ z. omega arith) (λ z. omega arith)
+    let a = c.before.before.before.before.args in drives-none a.work.now a.env.now a.t _ c.before.before.word-tag.ensures a.j _ c.before.if-tag-eq-VARIABLE.false (λ z. omega arith) (λ z. omega arith)
 
-drivers-returns-4 : (t : ℕ) → drivers-lts.Need-returns-4 (drivers-claims t) (drivers-at t) drivers.Post
+drivers-returns-4 : (t : ℕ) → drivers-lts.Need-returns-then-tag-gt-ELLIPSIS (drivers-claims t) (drivers-at t) drivers.Post
 drivers-returns-4 t c =
-    let a = c.before.before.before.before.before.args in drives-none a.work.now a.env.now a.t _ c.before.before.before.word.ensures a.j _ c.before.before.if1.false (λ z. omega arith) (λ z. omega arith)
+    let a = c.before.before.before.before.before.args in drives-none a.work.now a.env.now a.t _ c.before.before.before.word-tag.ensures a.j _ c.before.before.if-tag-eq-VARIABLE.false (λ z. omega arith) (λ z. omega arith)
 
-drivers-deeper-requires : (t : ℕ) → drivers-lts.Need-deeper-requires (drivers-claims t) (drivers-at t) drivers.Post
+drivers-deeper-requires : (t : ℕ) → drivers-lts.Need-deeper-i-requires (drivers-claims t) (drivers-at t) drivers.Post
 drivers-deeper-requires t c κs =
-    let a = c.before.before.before.before.before.before.args in let l = tag-falls a.work.now a.t _ c.before.before.before.before.word.ensures 3 _ (λ z. omega arith) c.reference.ensures in omega (arith, l, c.before.before.before.before.before.before.requires.1)
+    let a = c.before.before.before.before.before.before.args in let l = tag-falls a.work.now a.t _ c.before.before.before.before.word-tag.ensures 3 _ (λ z. omega arith) c.reference-head.ensures in omega (arith, l, c.before.before.before.before.before.before.requires.1)
 
-drivers-drivers-requires : (t : ℕ) → drivers-lts.Need-drivers-requires (drivers-claims t) (drivers-at t) drivers.Post
+drivers-drivers-requires : (t : ℕ) → drivers-lts.Need-drivers-first-requires (drivers-claims t) (drivers-at t) drivers.Post
 drivers-drivers-requires t c κs =
-    let a = c.before.before.before.before.before.before.before.before.args in let l = tag-falls a.work.now a.t _ c.before.before.before.before.before.before.word.ensures 3 _ (λ z. omega arith) c.before.before.reference.ensures in (omega (arith, l, c.before.before.before.before.before.before.before.before.requires.0), omega (arith, l, c.before.before.before.before.before.before.before.before.requires.1, c.before.deeper.ensures, deeper-most c.before.before.before.before.before.before.word.result a.j))
+    let a = c.before.before.before.before.before.before.before.before.args in let l = tag-falls a.work.now a.t _ c.before.before.before.before.before.before.word-tag.ensures 3 _ (λ z. omega arith) c.before.before.reference-head.ensures in (omega (arith, l, c.before.before.before.before.before.before.before.before.requires.0), omega (arith, l, c.before.before.before.before.before.before.before.before.requires.1, c.before.deeper-i.ensures, deeper-most c.before.before.before.before.before.before.word-tag.result a.j))
 
-drivers-drivers-requires-2 : (t : ℕ) → drivers-lts.Need-drivers-requires-2 (drivers-claims t) (drivers-at t) drivers.Post
+drivers-drivers-requires-2 : (t : ℕ) → drivers-lts.Need-drivers-requires (drivers-claims t) (drivers-at t) drivers.Post
 drivers-drivers-requires-2 t c κs =
-    let a = c.before.before.before.before.before.before.before.before.before.before.before.args in let l = tag-falls a.work.now a.t _ c.before.before.before.before.before.before.before.before.before.word.ensures 2 _ (λ z. omega arith) c.before.reference2.ensures in (omega (arith, l, c.before.before.before.before.before.before.before.before.before.before.before.requires.0), omega (arith, l, c.before.before.before.before.before.before.before.before.before.before.before.requires.1))
+    let a = c.before.before.before.before.before.before.before.before.before.before.before.args in let l = tag-falls a.work.now a.t _ c.before.before.before.before.before.before.before.before.before.word-tag.ensures 2 _ (λ z. omega arith) c.before.reference-rest.ensures in (omega (arith, l, c.before.before.before.before.before.before.before.before.before.before.before.requires.0), omega (arith, l, c.before.before.before.before.before.before.before.before.before.before.before.requires.1))
 
-drivers-returns-5 : (t : ℕ) → drivers-lts.Need-returns-5 (drivers-claims t) (drivers-at t) drivers.Post
+drivers-returns-5 : (t : ℕ) → drivers-lts.Need-returns (drivers-claims t) (drivers-at t) drivers.Post
 drivers-returns-5 t c =
     let a = c.before.before.before.before.before.before.before.before.before.before.before.before.args in
-    let first = whole-drives a.work.now _ _ _ _ _ c.before.before.before.drivers.ensures in
-    let later = whole-drives a.work.now _ _ _ _ _ c.drivers2.ensures in
-    drives-both a.work.now a.env.now a.t _ c.before.before.before.before.before.before.before.before.before.before.word.ensures a.j _ _ _ (omega arith) (omega arith) c.before.before.before.before.before.deeper.ensures c.before.before.before.before.before.before.reference.ensures c.before.before.reference2.ensures _ _ _ first later
+    let first = whole-drives a.work.now _ _ _ _ _ c.before.before.before.drivers-first.ensures in
+    let later = whole-drives a.work.now _ _ _ _ _ c.drivers.ensures in
+    drives-both a.work.now a.env.now a.t _ c.before.before.before.before.before.before.before.before.before.before.word-tag.ensures a.j _ _ _ (omega arith) (omega arith) c.before.before.before.before.before.deeper-i.ensures c.before.before.before.before.before.before.reference-head.ensures c.before.before.reference-rest.ensures _ _ _ first later
 
-pub +drivers-spec : {M : Type 1} → statement M
-+drivers-spec = close μ-drivers λ t. drivers-lts.spec (drivers-claims t)
+pub +drivers_spec : {M : Type 1} → statement M
++drivers_spec = close μ-drivers λ t. drivers-lts.spec (drivers-claims t)
     (drivers-at t)
     drivers.Post
     (λ c κs. search rules)  -- drivers-word-requires

@@ -4,24 +4,24 @@ use Rattle.environments.proofs.lengths.also.Statement.{statement}
 use Rattle.environments.proofs.lengths.also.Tie as tie
 use Rattle.environments.specs.Lengths.{also}
 
-returns : tie.Need-returns
+returns : tie.Need-returns-then-c-length
 unfolding also
-returns c = rw (c.before.before.before2.given.1, eq-eqb _ _ c.if1.true) refl
+returns c = rw (c.before.before.before-1.given.1, eq-eqb _ _ c.if-c-length.true) refl
 
-returns-2 : tie.Need-returns-2
+returns-2 : tie.Need-returns-in-None
 unfolding also
-returns-2 c = rw c.enum_told.given.1 refl
+returns-2 c = rw c.enum_told-1.given.1 refl
 
-returns-3 : tie.Need-returns-3
+returns-3 : tie.Need-returns-else-c-length
 unfolding also
-returns-3 c = rw (c.before.before.before2.given.1, ne_eqb _ _ c.if1.false) refl
+returns-3 c = rw (c.before.before.before-1.given.1, ne_eqb _ _ c.if-c-length.false) refl
 
-returns-4 : tie.Need-returns-4
+returns-4 : tie.Need-returns-in-Differ
 unfolding also
-returns-4 c = rw c.enum-told2.given.1 refl
+returns-4 c = rw c.enum_told-in-Differ-1.given.1 refl
 
-pub also-spec : {M : Type 1} → statement M
-also-spec =
+pub also_spec : {M : Type 1} → statement M
+also_spec =
     tie.close
     (tie.spec
     (λ c. search rules)  -- enum_told

@@ -4,20 +4,20 @@ use Rattle.environments.proofs.lengths.copies.Statement.{statement}
 use Rattle.environments.proofs.lengths.copies.Tie as tie
 use Rattle.environments.specs.LengthLaws.{copies-none, copies-some, copies-differ, whole-drives}
 
-returns : tie.Need-returns
+returns : tie.Need-returns-in-None
 returns c =
-    let a = c.before.before.before.before.before.args in copies-none a.work.now a.env.now a.e _ (whole-drives a.work.now _ _ _ _ _ c.before.before.drivers.ensures) c.enum_told.given.1
+    let a = c.before.before.before.before.before.args in copies-none a.work.now a.env.now a.e _ (whole-drives a.work.now _ _ _ _ _ c.before.before.drivers.ensures) c.enum_told-1.given.1
 
-returns-2 : tie.Need-returns-2
+returns-2 : tie.Need-returns-in-Length
 returns-2 c =
-    let a = c.before.before.before.before.before.before.args in copies-some a.work.now a.env.now a.e _ (whole-drives a.work.now _ _ _ _ _ c.before.before.before.drivers.ensures) _ c.before.c.given.1
+    let a = c.before.before.before.before.before.before.args in copies-some a.work.now a.env.now a.e _ (whole-drives a.work.now _ _ _ _ _ c.before.before.before.drivers.ensures) _ c.before.c-1.given.1
 
-returns-3 : tie.Need-returns-3
+returns-3 : tie.Need-returns-in-Differ
 returns-3 c =
-    let a = c.before.before.before.before.before.args in copies-differ a.work.now a.env.now a.e _ (whole-drives a.work.now _ _ _ _ _ c.before.before.drivers.ensures) c.enum-told2.given.1
+    let a = c.before.before.before.before.before.args in copies-differ a.work.now a.env.now a.e _ (whole-drives a.work.now _ _ _ _ _ c.before.before.drivers.ensures) c.enum_told-in-Differ-1.given.1
 
-pub copies-spec : {M : Type 1} → statement M
-copies-spec =
+pub copies_spec : {M : Type 1} → statement M
+copies_spec =
     tie.close
     (tie.spec
     (λ c. search rules)  -- sub-drivers

@@ -24,7 +24,7 @@ any_below t = and 1 any-kinds.ps (falls 1 any-kinds.ps ◌<◌ μ-any t) any.Pre
 abbrev any-claims : ℕ → any-lts.Claims
 any-claims t = (place-reads.Asked, place-reads.Learnt, any_below t, any.Post)
 
-any-returns : (t : ℕ) → any-lts.Need-returns (any-claims t) (any_at t) any.Post
+any-returns : (t : ℕ) → any-lts.Need-returns-then-n-eq0 (any-claims t) (any_at t) any.Post
 any-returns t c =
     λ z k l. absurd (omega arith)
 
@@ -32,15 +32,15 @@ any-place-requires : (t : ℕ) → any-lts.Need-place-requires (any-claims t) (a
 any-place-requires t c κs =
     (omega (arith, c.before.before.requires.1.2), c.before.before.requires.1.1)
 
-any-mul-if2 : (t : ℕ) → any-lts.Need-overflow-mul-if2 (any-claims t) (any_at t) any.Post
+any-mul-if2 : (t : ℕ) → any-lts.Need-offset_bounds-marks-place (any-claims t) (any_at t) any.Post
 any-mul-if2 t c =
     omega (arith, c.place.ensures, c.before.before.before.requires.1.1, c.before.before.before.requires.1.2)
 
-any-shared-slice-read-if2 : (t : ℕ) → any-lts.Need-shared-slice-read-if2 (any-claims t) (any_at t) any.Post
+any-shared-slice-read-if2 : (t : ℕ) → any-lts.Need-bounds-marks-place (any-claims t) (any_at t) any.Post
 any-shared-slice-read-if2 t c =
     omega (arith, c.before.place.ensures, c.before.before.before.before.requires.1.0, c.before.before.before.before.requires.1.1, c.before.before.before.before.requires.1.2)
 
-any-returns-2 : (t : ℕ) → any-lts.Need-returns-2 (any-claims t) (any_at t) any.Post
+any-returns-2 : (t : ℕ) → any-lts.Need-returns-then-marks-place-eq1 (any-claims t) (any_at t) any.Post
 any-returns-2 t c =
     λ z. absurd (false≢true (sym z))
 
@@ -48,13 +48,13 @@ any-any-requires : (t : ℕ) → any-lts.Need-any-requires (any-claims t) (any_a
 any-any-requires t c κs =
     (omega (arith, c.before.before.before.before.before.requires.0), (c.before.before.before.before.before.requires.1.0, c.before.before.before.before.before.requires.1.1, omega (arith, c.before.before.before.before.before.requires.1.2)))
 
-any-returns-3 : (t : ℕ) → any-lts.Need-returns-3 (any-claims t) (any_at t) any.Post
+any-returns-3 : (t : ℕ) → any-lts.Need-returns (any-claims t) (any_at t) any.Post
 any-returns-3 t c =
     let a = c.before.before.before.before.before.before.args in
-    λ z. unmarked-more a.marks.now a.level a.n _ _ (omega arith) c.before.before.before.place.ensures c.before.if2.false (c.any.ensures z)
+    λ z. unmarked-more a.marks.now a.level a.n _ _ (omega arith) c.before.before.before.place.ensures c.before.if-marks-place-eq1.false (c.any.ensures z)
 
-pub +any-spec : {M : Type 1} → statement M
-+any-spec = close μ-any λ t. any-lts.spec (any-claims t)
+pub +any_spec : {M : Type 1} → statement M
++any_spec = close μ-any λ t. any-lts.spec (any-claims t)
     (any_at t)
     any.Post
     (any-returns t)

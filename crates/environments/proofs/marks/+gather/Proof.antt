@@ -25,19 +25,19 @@ gather-below t = and 3 gather-kinds.ps (falls 3 gather-kinds.ps ◌<◌ μ-gathe
 abbrev gather-claims : ℕ → gather-lts.Claims
 gather-claims t = (place-reads.Asked, place-reads.Learnt, copies-reads.Asked, copies-reads.Learnt, also-reads.Asked, also-reads.Learnt, gather-below t, gather.Post)
 
-gather-returns : (t : ℕ) → gather-lts.Need-returns (gather-claims t) (gather-at t) gather.Post
+gather-returns : (t : ℕ) → gather-lts.Need-returns-then-n-eq0 (gather-claims t) (gather-at t) gather.Post
 gather-returns t c =
-    let a = c.before.before.before.args in gather_none a.work.now a.env.now a.marks.now a.level a.n _ c.if1.true
+    let a = c.before.before.before.args in gather_none a.work.now a.env.now a.marks.now a.level a.n _ c.if-n-eq0.true
 
 gather-place-requires : (t : ℕ) → gather-lts.Need-place-requires (gather-claims t) (gather-at t) gather.Post
 gather-place-requires t c κs =
     (omega (arith, c.before.before.before.requires.1.2), c.before.before.before.requires.1.1)
 
-gather-mul-if2 : (t : ℕ) → gather-lts.Need-overflow-mul-if2 (gather-claims t) (gather-at t) gather.Post
+gather-mul-if2 : (t : ℕ) → gather-lts.Need-offset_bounds-marks-place (gather-claims t) (gather-at t) gather.Post
 gather-mul-if2 t c =
     omega (arith, c.place.ensures, c.before.before.before.before.requires.1.1, c.before.before.before.before.requires.1.2)
 
-gather-shared-slice-read-if2 : (t : ℕ) → gather-lts.Need-shared-slice-read-if2 (gather-claims t) (gather-at t) gather.Post
+gather-shared-slice-read-if2 : (t : ℕ) → gather-lts.Need-bounds-marks-place (gather-claims t) (gather-at t) gather.Post
 gather-shared-slice-read-if2 t c =
     omega (arith, c.before.place.ensures, c.before.before.before.before.before.requires.1.0, c.before.before.before.before.before.requires.1.1, c.before.before.before.before.before.requires.1.2)
 
@@ -45,22 +45,22 @@ gather-gather-requires : (t : ℕ) → gather-lts.Need-gather-requires (gather-c
 gather-gather-requires t c κs =
     (omega (arith, c.before.before.before.before.before.before.before.before.requires.0), (c.before.before.before.before.before.before.before.before.requires.1.0, c.before.before.before.before.before.before.before.before.requires.1.1, omega (arith, c.before.before.before.before.before.before.before.before.requires.1.2)))
 
-gather-returns-2 : (t : ℕ) → gather-lts.Need-returns-2 (gather-claims t) (gather-at t) gather.Post
+gather-returns-2 : (t : ℕ) → gather-lts.Need-returns-then-marks-place-eq1 (gather-claims t) (gather-at t) gather.Post
 gather-returns-2 t c =
     let a = c.before.before.before.before.before.before.before.before.before.args in
-    gather-marked a.work.now a.env.now a.marks.now a.level a.n a.before _ _ (omega arith) c.before.before.before.before.before.place.ensures _ _ _ c.before.before.before.if2.true c.before.before.copies.ensures c.before.also.ensures c.gather.ensures
+    gather-marked a.work.now a.env.now a.marks.now a.level a.n a.before _ _ (omega arith) c.before.before.before.before.before.place.ensures _ _ _ c.before.before.before.if-marks-place-eq1.true c.before.before.copies.ensures c.before.also-more.ensures c.gather.ensures
 
 gather-gather-requires-2 : (t : ℕ) → gather-lts.Need-gather-requires-2 (gather-claims t) (gather-at t) gather.Post
 gather-gather-requires-2 t c κs =
     (omega (arith, c.before.before.before.before.before.before.requires.0), (c.before.before.before.before.before.before.requires.1.0, c.before.before.before.before.before.before.requires.1.1, omega (arith, c.before.before.before.before.before.before.requires.1.2)))
 
-gather-returns-3 : (t : ℕ) → gather-lts.Need-returns-3 (gather-claims t) (gather-at t) gather.Post
+gather-returns-3 : (t : ℕ) → gather-lts.Need-returns (gather-claims t) (gather-at t) gather.Post
 gather-returns-3 t c =
     let a = c.before.before.before.before.before.before.before.args in
-    gather-unmarked a.work.now a.env.now a.marks.now a.level a.n a.before _ _ (omega arith) c.before.before.before.place.ensures _ c.before.if2.false c.gather2.ensures
+    gather-unmarked a.work.now a.env.now a.marks.now a.level a.n a.before _ _ (omega arith) c.before.before.before.place.ensures _ c.before.if-marks-place-eq1.false c.gather-2.ensures
 
-pub +gather-spec : {M : Type 1} → statement M
-+gather-spec = close μ-gather λ t. gather-lts.spec (gather-claims t)
+pub +gather_spec : {M : Type 1} → statement M
++gather_spec = close μ-gather λ t. gather-lts.spec (gather-claims t)
     (gather-at t)
     gather.Post
     (gather-returns t)

@@ -32,69 +32,69 @@ mark-claims t = (word-reads.Asked, word-reads.Learnt, place-reads.Asked, place-r
 mark-place-requires : (t : ℕ) → mark-lts.Need-place-requires (mark-claims t) (mark-at t) mark.Post
 mark-place-requires t c κs =
     let a = c.before.before.before.before.before.before.before.args in
-    let low = variable-low a.work.now a.t _ c.before.before.before.before.word.ensures c.before.before.before.before.before.before.before.requires.1.2 _ _ c.before.before.before.if1.true c.before.before.word2.ensures c.word3.ensures in
+    let low = variable-low a.work.now a.t _ c.before.before.before.before.word-tag.ensures c.before.before.before.before.before.before.before.requires.1.2 _ _ c.before.before.before.if-tag-eq-VARIABLE.true c.before.before.word-d.ensures c.word-k.ensures in
     (low.0, omega (arith, low.1))
 
-mark-mul-marks : (t : ℕ) → mark-lts.Need-overflow-mul-marks (mark-claims t) (mark-at t) mark.Post
+mark-mul-marks : (t : ℕ) → mark-lts.Need-offset_bounds-marks-place (mark-claims t) (mark-at t) mark.Post
 mark-mul-marks t c =
     let a = c.before.before.before.before.before.before.before.before.args in
-    let low = variable-low a.work.now a.t _ c.before.before.before.before.before.word.ensures c.before.before.before.before.before.before.before.before.requires.1.2 _ _ c.before.before.before.before.if1.true c.before.before.before.word2.ensures c.before.word3.ensures in
+    let low = variable-low a.work.now a.t _ c.before.before.before.before.before.word-tag.ensures c.before.before.before.before.before.before.before.before.requires.1.2 _ _ c.before.before.before.before.if-tag-eq-VARIABLE.true c.before.before.before.word-d.ensures c.before.word-k.ensures in
     omega (arith, low.0, low.1, c.place.ensures)
 
-mark-slice-write-marks : (t : ℕ) → mark-lts.Need-slice-write-marks (mark-claims t) (mark-at t) mark.Post
+mark-slice-write-marks : (t : ℕ) → mark-lts.Need-bounds-marks-place (mark-claims t) (mark-at t) mark.Post
 mark-slice-write-marks t c =
     let a = c.before.before.before.before.before.before.before.before.args in
-    let low = variable-low a.work.now a.t _ c.before.before.before.before.before.word.ensures c.before.before.before.before.before.before.before.before.requires.1.2 _ _ c.before.before.before.before.if1.true c.before.before.before.word2.ensures c.before.word3.ensures in
+    let low = variable-low a.work.now a.t _ c.before.before.before.before.before.word-tag.ensures c.before.before.before.before.before.before.before.before.requires.1.2 _ _ c.before.before.before.before.if-tag-eq-VARIABLE.true c.before.before.before.word-d.ensures c.before.word-k.ensures in
     omega (arith, low.0, low.1, c.place.ensures, c.before.before.before.before.before.before.before.before.requires.1.1)
 
-mark-returns : (t : ℕ) → mark-lts.Need-returns (mark-claims t) (mark-at t) mark.Post
+mark-returns : (t : ℕ) → mark-lts.Need-returns-then-j-d (mark-claims t) (mark-at t) mark.Post
 mark-returns t c =
     let a = c.before.before.before.before.before.before.before.before.args in
-    let low = variable-low a.work.now a.t _ c.before.before.before.before.before.word.ensures c.before.before.before.before.before.before.before.before.requires.1.2 _ _ c.before.before.before.before.if1.true c.before.before.before.word2.ensures c.before.word3.ensures in
+    let low = variable-low a.work.now a.t _ c.before.before.before.before.before.word-tag.ensures c.before.before.before.before.before.before.before.before.requires.1.2 _ _ c.before.before.before.before.if-tag-eq-VARIABLE.true c.before.before.before.word-d.ensures c.before.word-k.ensures in
     subst (λ (i : ℕ). Marks a.work.now a.j a.t a.marks.now (set a.marks.now i 1)) (sym c.place.ensures)
-    (marks-one a.work.now a.j a.t a.marks.now _ _ (drivers-one a.work.now a.t _ c.before.before.before.before.before.word.ensures a.j _ _ c.before.before.before.before.if1.true c.before.before.before.word2.ensures c.before.word3.ensures c.before.before.if2.true) c.before.before.before.before.before.before.before.before.requires.1.1 low.0 (omega (arith, low.1)))
+    (marks-one a.work.now a.j a.t a.marks.now _ _ (drivers-one a.work.now a.t _ c.before.before.before.before.before.word-tag.ensures a.j _ _ c.before.before.before.before.if-tag-eq-VARIABLE.true c.before.before.before.word-d.ensures c.before.word-k.ensures c.before.before.if-j-d.true) c.before.before.before.before.before.before.before.before.requires.1.1 low.0 (omega (arith, low.1)))
 
-mark-returns-2 : (t : ℕ) → mark-lts.Need-returns-2 (mark-claims t) (mark-at t) mark.Post
+mark-returns-2 : (t : ℕ) → mark-lts.Need-returns-else-j-d (mark-claims t) (mark-at t) mark.Post
 mark-returns-2 t c =
     let a = c.before.before.before.before.before.before.args in
-    marks-nothing a.work.now a.j a.t a.marks.now (drivers-few a.work.now a.t _ c.before.before.before.word.ensures a.j _ c.before.before.if1.true c.before.word2.ensures c.if2.false)
+    marks-nothing a.work.now a.j a.t a.marks.now (drivers-few a.work.now a.t _ c.before.before.before.word-tag.ensures a.j _ c.before.before.if-tag-eq-VARIABLE.true c.before.word-d.ensures c.if-j-d.false)
 
-mark-returns-3 : (t : ℕ) → mark-lts.Need-returns-3 (mark-claims t) (mark-at t) mark.Post
+mark-returns-3 : (t : ℕ) → mark-lts.Need-returns-then-tag-lt-PAIR (mark-claims t) (mark-at t) mark.Post
 mark-returns-3 t c =
     let a = c.before.before.before.before.before.args in
-    marks-nothing a.work.now a.j a.t a.marks.now (drivers-none a.work.now a.t _ c.before.before.word.ensures a.j c.before.if1.false (λ z. omega arith) (λ z. omega arith))
+    marks-nothing a.work.now a.j a.t a.marks.now (drivers-none a.work.now a.t _ c.before.before.word-tag.ensures a.j c.before.if-tag-eq-VARIABLE.false (λ z. omega arith) (λ z. omega arith))
 
-mark-returns-4 : (t : ℕ) → mark-lts.Need-returns-4 (mark-claims t) (mark-at t) mark.Post
+mark-returns-4 : (t : ℕ) → mark-lts.Need-returns-then-tag-gt-ELLIPSIS (mark-claims t) (mark-at t) mark.Post
 mark-returns-4 t c =
     let a = c.before.before.before.before.before.before.args in
-    marks-nothing a.work.now a.j a.t a.marks.now (drivers-none a.work.now a.t _ c.before.before.before.word.ensures a.j c.before.before.if1.false (λ z. omega arith) (λ z. omega arith))
+    marks-nothing a.work.now a.j a.t a.marks.now (drivers-none a.work.now a.t _ c.before.before.before.word-tag.ensures a.j c.before.before.if-tag-eq-VARIABLE.false (λ z. omega arith) (λ z. omega arith))
 
-mark-deeper-requires : (t : ℕ) → mark-lts.Need-deeper-requires (mark-claims t) (mark-at t) mark.Post
+mark-deeper-requires : (t : ℕ) → mark-lts.Need-deeper-i-requires (mark-claims t) (mark-at t) mark.Post
 mark-deeper-requires t c κs =
     let a = c.before.before.before.before.before.before.before.before.args in
-    let l = tag-falls a.work.now a.t _ c.before.before.before.before.before.word.ensures 3 _ (λ z. omega arith) c.before.reference.ensures in omega (arith, l, c.before.before.before.before.before.before.before.before.requires.1.0)
+    let l = tag-falls a.work.now a.t _ c.before.before.before.before.before.word-tag.ensures 3 _ (λ z. omega arith) c.before.reference-head.ensures in omega (arith, l, c.before.before.before.before.before.before.before.before.requires.1.0)
 
 mark-mark-requires : (t : ℕ) → mark-lts.Need-mark-requires (mark-claims t) (mark-at t) mark.Post
 mark-mark-requires t c κs =
     let a = c.before.before.before.before.before.before.before.before.before.before.args in
-    let l = tag-falls a.work.now a.t _ c.before.before.before.before.before.before.before.word.ensures 3 _ (λ z. omega arith) c.before.before.before.reference.ensures in
-    let p = parts-plain a.work.now a.t _ c.before.before.before.before.before.before.before.word.ensures c.before.before.before.before.before.before.before.before.before.before.requires.1.2 _ _ (omega arith) (omega arith) c.before.before.before.reference.ensures c.before.before.reference2.ensures in
-    (omega (arith, l, c.before.before.before.before.before.before.before.before.before.before.requires.0), (omega (arith, l, c.before.before.before.before.before.before.before.before.before.before.requires.1.0, c.before.deeper.ensures, deeper-most c.before.before.before.before.before.before.before.word.result a.j), c.before.before.before.before.before.before.before.before.before.before.requires.1.1, p.0))
+    let l = tag-falls a.work.now a.t _ c.before.before.before.before.before.before.before.word-tag.ensures 3 _ (λ z. omega arith) c.before.before.before.reference-head.ensures in
+    let p = parts-plain a.work.now a.t _ c.before.before.before.before.before.before.before.word-tag.ensures c.before.before.before.before.before.before.before.before.before.before.requires.1.2 _ _ (omega arith) (omega arith) c.before.before.before.reference-head.ensures c.before.before.reference-rest.ensures in
+    (omega (arith, l, c.before.before.before.before.before.before.before.before.before.before.requires.0), (omega (arith, l, c.before.before.before.before.before.before.before.before.before.before.requires.1.0, c.before.deeper-i.ensures, deeper-most c.before.before.before.before.before.before.before.word-tag.result a.j), c.before.before.before.before.before.before.before.before.before.before.requires.1.1, p.0))
 
 mark-mark-requires-2 : (t : ℕ) → mark-lts.Need-mark-requires-2 (mark-claims t) (mark-at t) mark.Post
 mark-mark-requires-2 t c κs =
     let a = c.before.before.before.before.before.before.before.before.before.before.before.before.before.before.args in
-    let l = tag-falls a.work.now a.t _ c.before.before.before.before.before.before.before.before.before.before.before.word.ensures 2 _ (λ z. omega arith) c.before.before.before.before.before.before.reference2.ensures in
-    let p = parts-plain a.work.now a.t _ c.before.before.before.before.before.before.before.before.before.before.before.word.ensures c.before.before.before.before.before.before.before.before.before.before.before.before.before.before.requires.1.2 _ _ (omega arith) (omega arith) c.before.before.before.before.before.before.before.reference.ensures c.before.before.before.before.before.before.reference2.ensures in
+    let l = tag-falls a.work.now a.t _ c.before.before.before.before.before.before.before.before.before.before.before.word-tag.ensures 2 _ (λ z. omega arith) c.before.before.before.before.before.before.reference-rest.ensures in
+    let p = parts-plain a.work.now a.t _ c.before.before.before.before.before.before.before.before.before.before.before.word-tag.ensures c.before.before.before.before.before.before.before.before.before.before.before.before.before.before.requires.1.2 _ _ (omega arith) (omega arith) c.before.before.before.before.before.before.before.reference-head.ensures c.before.before.before.before.before.before.reference-rest.ensures in
     (omega (arith, l, c.before.before.before.before.before.before.before.before.before.before.before.before.before.before.requires.0), (omega (arith, l, c.before.before.before.before.before.before.before.before.before.before.before.before.before.before.requires.1.0), c.before.before.before.mark.auto.1.1.1.0 ∙ c.before.before.before.before.before.before.before.before.before.before.before.before.before.before.requires.1.1, p.1))
 
-mark-returns-5 : (t : ℕ) → mark-lts.Need-returns-5 (mark-claims t) (mark-at t) mark.Post
+mark-returns-5 : (t : ℕ) → mark-lts.Need-returns (mark-claims t) (mark-at t) mark.Post
 mark-returns-5 t c =
     let a = c.before.before.before.before.before.before.before.before.before.before.before.before.before.before.before.before.before.args in
-    marks-both a.work.now a.j a.t _ _ _ _ _ _ (drivers-both a.work.now a.t _ c.before.before.before.before.before.before.before.before.before.before.before.before.before.before.word.ensures a.j _ _ _ (omega arith) (omega arith) c.before.before.before.before.before.before.before.before.deeper.ensures c.before.before.before.before.before.before.before.before.before.before.reference.ensures c.before.before.before.before.before.before.before.before.before.reference2.ensures) c.before.before.before.before.before.before.mark.ensures c.before.before.mark2.ensures
+    marks-both a.work.now a.j a.t _ _ _ _ _ _ (drivers-both a.work.now a.t _ c.before.before.before.before.before.before.before.before.before.before.before.before.before.before.word-tag.ensures a.j _ _ _ (omega arith) (omega arith) c.before.before.before.before.before.before.before.before.deeper-i.ensures c.before.before.before.before.before.before.before.before.before.before.reference-head.ensures c.before.before.before.before.before.before.before.before.before.reference-rest.ensures) c.before.before.before.before.before.before.mark.ensures c.before.before.mark-2.ensures
 
-pub +mark-spec : {M : Type 1} → statement M
-+mark-spec = close μ-mark λ t. mark-lts.spec (mark-claims t)
+pub +mark_spec : {M : Type 1} → statement M
++mark_spec = close μ-mark λ t. mark-lts.spec (mark-claims t)
     (mark-at t)
     mark.Post
     (λ c κs. search rules)  -- mark-word-requires

@@ -7,51 +7,51 @@ use Rattle.environments.specs.Entries.{table_words}
 use Rattle.environments.specs.Marks.{Keeps}
 use Rattle.environments.specs.MarkLaws.{keeps-more, keeps-skip}
 
-abbrev invariant-loop : tie.invariant-loop
+abbrev invariant-loop : tie.invariant-loop-k
 invariant-loop env marks from to₀ k₀ to k =
     (k ≤ pattern_variables_most) × (length to ≡ table_words) × Keeps marks from k to
 
-abbrev decreases-loop : tie.decreases-loop
+abbrev decreases-loop : tie.decreases-loop-k
 decreases-loop env marks from to₀ k₀ to k =
     pattern_variables_most - k
 
-loop-holds : tie.Need-loop-init invariant-loop decreases-loop
+loop-holds : tie.Need-loop-k-init invariant-loop decreases-loop
 loop-holds c =
-    (omega arith, c.to.given.0.1, λ m l. absurd (omega arith))
+    (omega arith, c.to-1.given.0.1, λ m l. absurd (omega arith))
 
 place-requires : tie.Need-place-requires invariant-loop decreases-loop
 place-requires c κs =
     (omega arith, omega arith)
 
-mul-if1 : tie.Need-overflow-mul-if1 invariant-loop decreases-loop
+mul-if1 : tie.Need-offset_bounds-marks-place invariant-loop decreases-loop
 mul-if1 c =
     omega (arith, c.place.ensures)
 
-shared-slice-read-if1 : tie.Need-shared-slice-read-if1 invariant-loop decreases-loop
+shared-slice-read-if1 : tie.Need-bounds-marks-place invariant-loop decreases-loop
 shared-slice-read-if1 c =
     omega (arith, c.before.place.ensures, c.before.before.before.before.before.before.before.requires)
 
-get-requires : tie.Need-get-requires invariant-loop decreases-loop
+get-requires : tie.Need-get-x-requires invariant-loop decreases-loop
 get-requires c κs =
-    (c.before.before.before.before.before.before.from.given.0, omega arith)
+    (c.before.before.before.before.before.before.from-1.given.0, omega arith)
 
 put-requires : tie.Need-put-requires invariant-loop decreases-loop
 put-requires c κs =
-    (c.before.before.before.before.before.before.loop.invariant.1, omega arith)
+    (c.before.before.before.before.before.before.loop-k.invariant.1, omega arith)
 
-loop-again : tie.Need-loop-preserved invariant-loop decreases-loop
+loop-again : tie.Need-loop-k-preserved invariant-loop decreases-loop
 loop-again c =
     let a = c.before.before.before.before.before.before.before.before.args in
-    let l = c.before.before.before.before.loop in
+    let l = c.before.before.before.before.loop-k in
     ⊎_elim
     (λ w. rw w.6 (omega arith, w.3.kept.0 ∙ l.invariant.1, keeps-more a.marks.now a.env.now l.k _ c.before.before.place.ensures _ l.invariant.2 _ _ w.1.ensures w.3.ensures))
     (λ w. rw w.1 (omega arith, l.invariant.1, keeps-skip a.marks.now a.env.now l.k _ c.before.before.place.ensures _ l.invariant.2 w.0.left))
-    c.if1.branch
+    c.if-marks-place-eq1.branch
 
 returns : tie.Need-returns invariant-loop decreases-loop
 returns c =
     let a = c.before.before.before.before.before.args in
-    let e : c.before.loop.k ≡ pattern_variables_most = omega arith in subst (λ (n : ℕ). Keeps a.marks.now a.env.now n c.before.loop.to) e c.before.loop.invariant.2
+    let e : c.before.loop-k.k ≡ pattern_variables_most = omega arith in subst (λ (n : ℕ). Keeps a.marks.now a.env.now n c.before.loop-k.to) e c.before.loop-k.invariant.2
 
 pub keep_spec : {M : Type 1} → statement M
 keep_spec =

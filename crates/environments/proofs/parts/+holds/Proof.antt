@@ -24,36 +24,36 @@ holds-below t = and 1 holds-kinds.ps (falls 1 holds-kinds.ps ◌<◌ μ-holds t)
 abbrev holds-claims : ℕ → holds-lts.Claims
 holds-claims t = (word-reads.Asked, word-reads.Learnt, reference-reads.Asked, reference-reads.Learnt, holds-below t, holds.Post)
 
-holds-returns : (t : ℕ) → holds-lts.Need-returns (holds-claims t) (holds_at t) holds.Post
+holds-returns : (t : ℕ) → holds-lts.Need-returns-then-tag-eq-VARIABLE (holds-claims t) (holds_at t) holds.Post
 holds-returns t c =
-    let a = c.before.before.before.before.args in holds-variable a.work.now a.p _ c.before.before.word.ensures a.k _ c.before.if1.true c.word2.ensures
+    let a = c.before.before.before.before.args in holds-variable a.work.now a.p _ c.before.before.word-tag.ensures a.k _ c.before.if-tag-eq-VARIABLE.true c.word.ensures
 
-holds-returns-2 : (t : ℕ) → holds-lts.Need-returns-2 (holds-claims t) (holds_at t) holds.Post
+holds-returns-2 : (t : ℕ) → holds-lts.Need-returns-then-tag-lt-PAIR (holds-claims t) (holds_at t) holds.Post
 holds-returns-2 t c =
-    let a = c.before.before.before.before.args in holds-none a.work.now a.p _ c.before.before.word.ensures a.k c.before.if1.false (λ z. omega arith) (λ z. omega arith)
+    let a = c.before.before.before.before.args in holds-none a.work.now a.p _ c.before.before.word-tag.ensures a.k c.before.if-tag-eq-VARIABLE.false (λ z. omega arith) (λ z. omega arith)
 
-holds-returns-3 : (t : ℕ) → holds-lts.Need-returns-3 (holds-claims t) (holds_at t) holds.Post
+holds-returns-3 : (t : ℕ) → holds-lts.Need-returns-then-tag-gt-ELLIPSIS (holds-claims t) (holds_at t) holds.Post
 holds-returns-3 t c =
-    let a = c.before.before.before.before.before.args in holds-none a.work.now a.p _ c.before.before.before.word.ensures a.k c.before.before.if1.false (λ z. omega arith) (λ z. omega arith)
+    let a = c.before.before.before.before.before.args in holds-none a.work.now a.p _ c.before.before.before.word-tag.ensures a.k c.before.before.if-tag-eq-VARIABLE.false (λ z. omega arith) (λ z. omega arith)
 
 holds-holds-requires : (t : ℕ) → holds-lts.Need-holds-requires (holds-claims t) (holds_at t) holds.Post
 holds-holds-requires t c κs =
-    let a = c.before.before.before.before.before.before.args in let l = tag-falls a.work.now a.p _ c.before.before.before.before.word.ensures 3 _ (λ z. omega arith) c.reference.ensures in omega (arith, l)
+    let a = c.before.before.before.before.before.before.args in let l = tag-falls a.work.now a.p _ c.before.before.before.before.word-tag.ensures 3 _ (λ z. omega arith) c.reference-head.ensures in omega (arith, l)
 
-holds-returns-4 : (t : ℕ) → holds-lts.Need-returns-4 (holds-claims t) (holds_at t) holds.Post
+holds-returns-4 : (t : ℕ) → holds-lts.Need-returns-then-holds (holds-claims t) (holds_at t) holds.Post
 holds-returns-4 t c =
-    let a = c.before.before.before.before.before.before.before.before.args in holds-head a.work.now a.p _ c.before.before.before.before.before.before.word.ensures a.k _ _ (omega arith) (omega arith) c.before.before.reference.ensures c.before.holds.ensures c.if4.true
+    let a = c.before.before.before.before.before.before.before.before.args in holds-head a.work.now a.p _ c.before.before.before.before.before.before.word-tag.ensures a.k _ _ (omega arith) (omega arith) c.before.before.reference-head.ensures c.before.holds.ensures c.if-holds.true
 
 holds-holds-requires-2 : (t : ℕ) → holds-lts.Need-holds-requires-2 (holds-claims t) (holds_at t) holds.Post
 holds-holds-requires-2 t c κs =
-    let a = c.before.before.before.before.before.before.before.before.before.args in let l = tag-falls a.work.now a.p _ c.before.before.before.before.before.before.before.word.ensures 2 _ (λ z. omega arith) c.reference2.ensures in omega (arith, l)
+    let a = c.before.before.before.before.before.before.before.before.before.args in let l = tag-falls a.work.now a.p _ c.before.before.before.before.before.before.before.word-tag.ensures 2 _ (λ z. omega arith) c.reference-tail.ensures in omega (arith, l)
 
-holds-returns-5 : (t : ℕ) → holds-lts.Need-returns-5 (holds-claims t) (holds_at t) holds.Post
+holds-returns-5 : (t : ℕ) → holds-lts.Need-returns (holds-claims t) (holds_at t) holds.Post
 holds-returns-5 t c =
-    let a = c.before.before.before.before.before.before.before.before.before.before.args in holds-tail a.work.now a.p _ c.before.before.before.before.before.before.before.before.word.ensures a.k _ _ (omega arith) (omega arith) c.before.before.before.before.reference.ensures c.before.before.before.holds.ensures _ _ c.before.before.if4.false c.before.reference2.ensures c.holds2.ensures
+    let a = c.before.before.before.before.before.before.before.before.before.before.args in holds-tail a.work.now a.p _ c.before.before.before.before.before.before.before.before.word-tag.ensures a.k _ _ (omega arith) (omega arith) c.before.before.before.before.reference-head.ensures c.before.before.before.holds.ensures _ _ c.before.before.if-holds.false c.before.reference-tail.ensures c.holds-2.ensures
 
-pub +holds-spec : {M : Type 1} → statement M
-+holds-spec = close μ-holds λ t. holds-lts.spec (holds-claims t)
+pub +holds_spec : {M : Type 1} → statement M
++holds_spec = close μ-holds λ t. holds-lts.spec (holds-claims t)
     (holds_at t)
     holds.Post
     (λ c κs. search rules)  -- holds-word-requires

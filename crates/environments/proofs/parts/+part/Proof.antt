@@ -29,77 +29,77 @@ part-below t = and 1 part-kinds.ps (falls 1 part-kinds.ps ◌<◌ μ-part t) par
 abbrev part-claims : ℕ → part-lts.Claims
 part-claims t = (word-reads.Asked, word-reads.Learnt, reference-reads.Asked, reference-reads.Learnt, part-holds-reads.Asked, part-holds-reads.Learnt, first_reads.Asked, first_reads.Learnt, rest-reads.Asked, rest-reads.Learnt, after-reads.Asked, after-reads.Learnt, part-below t, part.Post)
 
-abbrev part-Inv-loop : part-lts.invariant-loop
+abbrev part-Inv-loop : part-lts.invariant-loop-head
 part-Inv-loop work p k u at₀ node₀ at node =
     (at ≤ p) × Leads work p k u at node
 
-abbrev part-μ-loop : part-lts.decreases-loop
+abbrev part-μ-loop : part-lts.decreases-loop-head
 part-μ-loop work p k u at₀ node₀ at node =
     at
 
-part-loop-holds : (t : ℕ) → part-lts.Need-loop-init (part-claims t) (part_at t) part.Post part-Inv-loop part-μ-loop
+part-loop-holds : (t : ℕ) → part-lts.Need-loop-head-init (part-claims t) (part_at t) part.Post part-Inv-loop part-μ-loop
 part-loop-holds t c =
     (omega arith, λ r f. f)
 
-part-loop-less : (t : ℕ) → part-lts.Need-loop-smaller (part-claims t) (part_at t) part.Post part-Inv-loop part-μ-loop
+part-loop-less : (t : ℕ) → part-lts.Need-loop-head-smaller-then-part_holds (part-claims t) (part_at t) part.Post part-Inv-loop part-μ-loop
 part-loop-less t c =
     let a = c.before.before.before.before.before.before.before.before.args in
-    let l = c.before.before.before.before.before.before.loop in
-    tag-falls a.work.now l.at _ c.before.before.before.before.before.word.ensures 3 _ (λ z. omega arith) c.before.before.before.reference.ensures
+    let l = c.before.before.before.before.before.before.loop-head in
+    tag-falls a.work.now l.at _ c.before.before.before.before.before.word.ensures 3 _ (λ z. omega arith) c.before.before.before.reference-head.ensures
 
-part-loop-again : (t : ℕ) → part-lts.Need-loop-preserved (part-claims t) (part_at t) part.Post part-Inv-loop part-μ-loop
+part-loop-again : (t : ℕ) → part-lts.Need-loop-head-preserved-then-part_holds (part-claims t) (part_at t) part.Post part-Inv-loop part-μ-loop
 part-loop-again t c =
     let a = c.before.before.before.before.before.before.before.before.args in
-    let l = c.before.before.before.before.before.before.loop in
-    let falls = tag-falls a.work.now l.at _ c.before.before.before.before.before.word.ensures 3 _ (λ z. omega arith) c.before.before.before.reference.ensures in
-    (omega (arith, l.invariant.0, falls), λ r f. l.invariant.1 r (part-head a.work.now l.at _ c.before.before.before.before.before.word.ensures a.k l.node _ _ c.before.before.before.before.if1.true c.before.before.before.reference.ensures c.before.before.part-holds.ensures _ r c.before.if2.true c.first.ensures f))
+    let l = c.before.before.before.before.before.before.loop-head in
+    let falls = tag-falls a.work.now l.at _ c.before.before.before.before.before.word.ensures 3 _ (λ z. omega arith) c.before.before.before.reference-head.ensures in
+    (omega (arith, l.invariant.0, falls), λ r f. l.invariant.1 r (part-head a.work.now l.at _ c.before.before.before.before.before.word.ensures a.k l.node _ _ c.before.before.before.before.loop-head-test.true c.before.before.before.reference-head.ensures c.before.before.part_holds.ensures _ r c.before.if-part_holds.true c.first-node.ensures f))
 
-part-loop-less-2 : (t : ℕ) → part-lts.Need-loop-smaller-2 (part-claims t) (part_at t) part.Post part-Inv-loop part-μ-loop
+part-loop-less-2 : (t : ℕ) → part-lts.Need-loop-head-smaller (part-claims t) (part_at t) part.Post part-Inv-loop part-μ-loop
 part-loop-less-2 t c =
     let a = c.before.before.before.before.before.before.before.before.before.args in
-    let l = c.before.before.before.before.before.before.before.loop in
-    tag-falls a.work.now l.at _ c.before.before.before.before.before.before.word.ensures 2 _ (λ z. omega arith) c.before.reference2.ensures
+    let l = c.before.before.before.before.before.before.before.loop-head in
+    tag-falls a.work.now l.at _ c.before.before.before.before.before.before.word.ensures 2 _ (λ z. omega arith) c.before.reference-at.ensures
 
-part-loop-again-2 : (t : ℕ) → part-lts.Need-loop-preserved-2 (part-claims t) (part_at t) part.Post part-Inv-loop part-μ-loop
+part-loop-again-2 : (t : ℕ) → part-lts.Need-loop-head-preserved (part-claims t) (part_at t) part.Post part-Inv-loop part-μ-loop
 part-loop-again-2 t c =
     let a = c.before.before.before.before.before.before.before.before.before.args in
-    let l = c.before.before.before.before.before.before.before.loop in
-    let falls = tag-falls a.work.now l.at _ c.before.before.before.before.before.before.word.ensures 2 _ (λ z. omega arith) c.before.reference2.ensures in
-    (omega (arith, l.invariant.0, falls), λ r f. l.invariant.1 r (part-tail a.work.now l.at _ c.before.before.before.before.before.before.word.ensures a.k l.node _ _ c.before.before.before.before.before.if1.true c.before.before.before.before.reference.ensures c.before.before.before.part-holds.ensures _ r _ c.before.before.if2.false c.before.reference2.ensures c.rest.ensures f))
+    let l = c.before.before.before.before.before.before.before.loop-head in
+    let falls = tag-falls a.work.now l.at _ c.before.before.before.before.before.before.word.ensures 2 _ (λ z. omega arith) c.before.reference-at.ensures in
+    (omega (arith, l.invariant.0, falls), λ r f. l.invariant.1 r (part-tail a.work.now l.at _ c.before.before.before.before.before.before.word.ensures a.k l.node _ _ c.before.before.before.before.before.loop-head-test.true c.before.before.before.before.reference-head.ensures c.before.before.before.part_holds.ensures _ r _ c.before.before.if-part_holds.false c.before.reference-at.ensures c.rest-node.ensures f))
 
-part-returns : (t : ℕ) → part-lts.Need-returns (part-claims t) (part_at t) part.Post part-Inv-loop part-μ-loop
+part-returns : (t : ℕ) → part-lts.Need-returns-then-tag-eq-VARIABLE (part-claims t) (part_at t) part.Post part-Inv-loop part-μ-loop
 part-returns t c =
     let a = c.before.before.before.before.before.before.args in
-    let l = c.before.before.before.before.loop in
-    l.invariant.1 _ (part-variable a.work.now l.at _ c.before.word2.ensures a.k l.node c.if3.true)
+    let l = c.before.before.before.before.loop-head in
+    l.invariant.1 _ (part-variable a.work.now l.at _ c.before.word-tag.ensures a.k l.node c.if-tag-eq-VARIABLE.true)
 
-part-returns-2 : (t : ℕ) → part-lts.Need-returns-2 (part-claims t) (part_at t) part.Post part-Inv-loop part-μ-loop
+part-returns-2 : (t : ℕ) → part-lts.Need-returns-then-tag-ne-ELLIPSIS (part-claims t) (part_at t) part.Post part-Inv-loop part-μ-loop
 part-returns-2 t c =
     let a = c.before.before.before.before.before.before.before.args in
-    let l = c.before.before.before.before.before.loop in
-    l.invariant.1 _ (part_none a.work.now l.at _ c.before.before.word2.ensures a.k l.node c.before.if3.false (λ z. c.before.before.before.if1.false (c.before.before.before.before.word.ensures ∙ sym c.before.before.word2.ensures ∙ z)) c.if4.true)
+    let l = c.before.before.before.before.before.loop-head in
+    l.invariant.1 _ (part_none a.work.now l.at _ c.before.before.word-tag.ensures a.k l.node c.before.if-tag-eq-VARIABLE.false (λ z. c.before.before.before.loop-head-test.false (c.before.before.before.before.word.ensures ∙ sym c.before.before.word-tag.ensures ∙ z)) c.if-tag-ne-ELLIPSIS.true)
 
-part-returns-3 : (t : ℕ) → part-lts.Need-returns-3 (part-claims t) (part_at t) part.Post part-Inv-loop part-μ-loop
+part-returns-3 : (t : ℕ) → part-lts.Need-returns-then-part_holds-2 (part-claims t) (part_at t) part.Post part-Inv-loop part-μ-loop
 part-returns-3 t c =
     let a = c.before.before.before.before.before.before.before.before.before.before.args in
-    let l = c.before.before.before.before.before.before.before.before.loop in
-    l.invariant.1 _ (part-list a.work.now l.at _ c.before.before.before.before.before.word2.ensures a.k l.node _ _ c.before.before.before.if4.false c.before.before.reference3.ensures c.before.part-holds2.ensures c.if5.true)
+    let l = c.before.before.before.before.before.before.before.before.loop-head in
+    l.invariant.1 _ (part-list a.work.now l.at _ c.before.before.before.before.before.word-tag.ensures a.k l.node _ _ c.before.before.before.if-tag-ne-ELLIPSIS.false c.before.before.reference-element.ensures c.before.part_holds-2.ensures c.if-part_holds-2.true)
 
 part-part-requires : (t : ℕ) → part-lts.Need-part-requires (part-claims t) (part_at t) part.Post part-Inv-loop part-μ-loop
 part-part-requires t c κs =
     let a = c.before.before.before.before.before.before.before.before.before.before.before.before.args in
-    let l = c.before.before.before.before.before.before.before.before.before.before.loop in
-    let falls = tag-falls a.work.now l.at _ c.before.before.before.before.before.before.before.word2.ensures 2 _ (λ z. omega (arith, c.before.before.before.before.before.if4.false)) c.reference4.ensures in
+    let l = c.before.before.before.before.before.before.before.before.before.before.loop-head in
+    let falls = tag-falls a.work.now l.at _ c.before.before.before.before.before.before.before.word-tag.ensures 2 _ (λ z. omega (arith, c.before.before.before.before.before.if-tag-ne-ELLIPSIS.false)) c.reference-rest.ensures in
     omega (arith, l.invariant.0, falls)
 
-part-returns-4 : (t : ℕ) → part-lts.Need-returns-4 (part-claims t) (part_at t) part.Post part-Inv-loop part-μ-loop
+part-returns-4 : (t : ℕ) → part-lts.Need-returns (part-claims t) (part_at t) part.Post part-Inv-loop part-μ-loop
 part-returns-4 t c =
     let a = c.before.before.before.before.before.before.before.before.before.before.before.before.before.args in
-    let l = c.before.before.before.before.before.before.before.before.before.before.before.loop in
-    l.invariant.1 _ (part-after a.work.now l.at _ c.before.before.before.before.before.before.before.before.word2.ensures a.k l.node _ _ c.before.before.before.before.before.before.if4.false c.before.before.before.before.before.reference3.ensures c.before.before.before.before.part-holds2.ensures _ _ _ c.before.before.before.if5.false c.before.reference4.ensures c.before.before.after.ensures c.part.ensures)
+    let l = c.before.before.before.before.before.before.before.before.before.before.before.loop-head in
+    l.invariant.1 _ (part-after a.work.now l.at _ c.before.before.before.before.before.before.before.before.word-tag.ensures a.k l.node _ _ c.before.before.before.before.before.before.if-tag-ne-ELLIPSIS.false c.before.before.before.before.before.reference-element.ensures c.before.before.before.before.part_holds-2.ensures _ _ _ c.before.before.before.if-part_holds-2.false c.before.reference-rest.ensures c.before.before.after-after.ensures c.part.ensures)
 
-pub +part-spec : {M : Type 1} → statement M
-+part-spec = close μ-part λ t. part-lts.spec (part-claims t)
+pub +part_spec : {M : Type 1} → statement M
++part_spec = close μ-part λ t. part-lts.spec (part-claims t)
     (part_at t)
     part.Post
     part-Inv-loop

@@ -8,22 +8,22 @@ word-requires : tie.Need-word-requires
 word-requires c κs =
     search rules
 
-word-requires-2 : tie.Need-word-requires-2
+word-requires-2 : tie.Need-word-requires-then-word-eq-VARIABLE
 word-requires-2 c κs =
     search rules
 
-returns : tie.Need-returns
+returns : tie.Need-returns-then-word-eq-VARIABLE
 returns c =
-    let a = c.before.before.before.before.args in holds-variable a.work.now a.p _ c.before.before.word.ensures a.k _ c.before.if1.true c.word2.ensures
+    let a = c.before.before.before.before.args in holds-variable a.work.now a.p _ c.before.before.word.ensures a.k _ c.before.if-word-eq-VARIABLE.true c.word-then-word-eq-VARIABLE.ensures
 
 holds-requires : tie.Need-holds-requires
 holds-requires c κs =
     search rules
 
-returns-2 : tie.Need-returns-2
+returns-2 : tie.Need-returns
 returns-2 c =
     search rules
 
-pub part-holds-spec : {M : Type 1} → statement M
-part-holds-spec =
+pub part_holds_spec : {M : Type 1} → statement M
+part_holds_spec =
     tie.close (tie.spec word-requires word-requires-2 returns holds-requires returns-2)

@@ -5,37 +5,37 @@ use Rattle.std.proofs.Common.{sym, ◌∙◌, arith, rules}
 use Rattle.arena.specs.ListLaws.{pair-falls}
 use Rattle.environments.specs.ShareLaws.{Left, ahead-begins, left-begins, left-more, left-ends}
 
-abbrev invariant-loop : tie.invariant-loop
+abbrev invariant-loop : tie.invariant-loop-node
 invariant-loop work p list node₀ ahead₀ node ahead =
     Left work p list node ahead
 
-abbrev decreases-loop : tie.decreases-loop
+abbrev decreases-loop : tie.decreases-loop-node
 decreases-loop work p list node₀ ahead₀ node ahead =
     ahead
 
-loop-holds : tie.Need-loop-init invariant-loop decreases-loop
+loop-holds : tie.Need-loop-node-init invariant-loop decreases-loop
 loop-holds c =
     let a = c.before.before.before.args in
-    left-begins a.work.now a.p a.list _ (ahead-begins a.work.now a.p a.list _ _ c.before.word.ensures c.skip.ensures)
+    left-begins a.work.now a.p a.list _ (ahead-begins a.work.now a.p a.list _ _ c.before.word.ensures c.skip-ahead.ensures)
 
-loop-less : tie.Need-loop-smaller invariant-loop decreases-loop
+loop-less : tie.Need-loop-node-smaller invariant-loop decreases-loop
 loop-less c =
-    omega (arith, c.reference2.ensures, pair-falls c.before.before.before.before.before.before.before.before.args.work.now c.before.before.before.before.loop.ahead 1 (sym c.before.before.before.word2.ensures ∙ c.before.before.if1.true))
+    omega (arith, c.reference-ahead.ensures, pair-falls c.before.before.before.before.before.before.before.before.args.work.now c.before.before.before.before.loop-node.ahead 1 (sym c.before.before.before.word-in-loop-node.ensures ∙ c.before.before.loop-node-test.true))
 
-loop-again : tie.Need-loop-preserved invariant-loop decreases-loop
+loop-again : tie.Need-loop-node-preserved invariant-loop decreases-loop
 loop-again c =
     let a = c.before.before.before.before.before.before.before.before.args in
-    let l = c.before.before.before.before.loop in
-    left-more a.work.now a.p a.list l.node l.ahead _ c.before.before.before.word2.ensures l.invariant _ _ c.before.before.if1.true c.before.reference.ensures c.reference2.ensures
+    let l = c.before.before.before.before.loop-node in
+    left-more a.work.now a.p a.list l.node l.ahead _ c.before.before.before.word-in-loop-node.ensures l.invariant _ _ c.before.before.loop-node-test.true c.before.reference-node.ensures c.reference-ahead.ensures
 
 returns : tie.Need-returns invariant-loop decreases-loop
 returns c =
     let a = c.before.before.before.before.before.before.args in
-    let l = c.before.before.loop in
-    left-ends a.work.now a.p a.list l.node l.ahead _ c.before.word2.ensures l.invariant c.if1.false
+    let l = c.before.before.loop-node in
+    left-ends a.work.now a.p a.list l.node l.ahead _ c.before.word-in-loop-node.ensures l.invariant c.loop-node-test.false
 
-pub after-spec : {M : Type 1} → statement M
-after-spec =
+pub after_spec : {M : Type 1} → statement M
+after_spec =
     tie.close
     (tie.spec
     invariant-loop

@@ -4,38 +4,38 @@ use Rattle.environments.proofs.shares.look_ahead.Tie as tie
 use Rattle.std.proofs.Common.{rules}
 use Rattle.environments.specs.ShareLaws.{Skipping, skipping_begins, skipping-ends, skipping-short, skipping-more}
 
-abbrev invariant-loop : tie.invariant-loop
+abbrev invariant-loop : tie.invariant-loop-k
 invariant-loop work p list n node₀ k₀ node k =
     Skipping work list n node k
 
-abbrev decreases-loop : tie.decreases-loop
+abbrev decreases-loop : tie.decreases-loop-k
 decreases-loop work p list n node₀ k₀ node k =
     k
 
-loop-holds : tie.Need-loop-init invariant-loop decreases-loop
+loop-holds : tie.Need-loop-k-init invariant-loop decreases-loop
 loop-holds c =
-    let a = c.before.before.args in skipping_begins a.work.now a.p a.list _ c.word.ensures
+    let a = c.before.before.args in skipping_begins a.work.now a.p a.list _ c.word-n.ensures
 
-returns : tie.Need-returns invariant-loop decreases-loop
+returns : tie.Need-returns-then-word-ne-PAIR invariant-loop decreases-loop
 returns c =
     let a = c.before.before.before.before.before.before.args in
-    let l = c.before.before.before.loop in
-    skipping-short a.work.now a.p a.list _ c.before.before.before.before.word.ensures l.node l.k l.invariant _ c.before.word2.ensures c.before.before.loop-test.true c.if1.true
+    let l = c.before.before.before.loop-k in
+    skipping-short a.work.now a.p a.list _ c.before.before.before.before.word-n.ensures l.node l.k l.invariant _ c.before.word.ensures c.before.before.loop-k-test.true c.if-word-ne-PAIR.true
 
-loop-again : tie.Need-loop-preserved invariant-loop decreases-loop
+loop-again : tie.Need-loop-k-preserved invariant-loop decreases-loop
 loop-again c =
     let a = c.before.before.before.before.before.before.before.args in
-    let l = c.before.before.before.before.loop in
-    skipping-more a.work.now a.p a.list _ c.before.before.before.before.before.word.ensures l.node l.k l.invariant _ c.before.before.word2.ensures c.before.before.before.loop-test.true _ c.before.if1.false c.reference.ensures
+    let l = c.before.before.before.before.loop-k in
+    skipping-more a.work.now a.p a.list _ c.before.before.before.before.before.word-n.ensures l.node l.k l.invariant _ c.before.before.word.ensures c.before.before.before.loop-k-test.true _ c.before.if-word-ne-PAIR.false c.reference-node.ensures
 
-returns-2 : tie.Need-returns-2 invariant-loop decreases-loop
+returns-2 : tie.Need-returns invariant-loop decreases-loop
 returns-2 c =
     let a = c.before.before.before.before.args in
-    let l = c.before.loop in
-    skipping-ends a.work.now a.p a.list _ c.before.before.word.ensures l.node l.k l.invariant c.loop-test.false
+    let l = c.before.loop-k in
+    skipping-ends a.work.now a.p a.list _ c.before.before.word-n.ensures l.node l.k l.invariant c.loop-k-test.false
 
-pub look-ahead-spec : {M : Type 1} → statement M
-look-ahead-spec =
+pub look_ahead_spec : {M : Type 1} → statement M
+look_ahead_spec =
     tie.close
     (tie.spec
     invariant-loop

@@ -8,25 +8,25 @@ use Rattle.arena.proofs.cells.word.Reads as word-reads
 use Rattle.arena.proofs.lists.count.Reads as count-reads
 use Rattle.environments.specs.ShareLaws.{share-none, share-some}
 
-word-requires : tie.Need-word-requires
+word-requires : tie.Need-word-n-requires
 word-requires c κs =
     search rules
 
-count-requires : tie.Need-count-requires
+count-requires : tie.Need-count-c-requires
 count-requires c κs =
     search rules
 
-returns : tie.Need-returns
+returns : tie.Need-returns-then-c-n
 returns c =
-    let a = c.before.before.before.before.args in share-none a.work.now a.p a.list _ _ c.before.before.word.ensures c.before.count.ensures c.if1.true
+    let a = c.before.before.before.before.args in share-none a.work.now a.p a.list _ _ c.before.before.word-n.ensures c.before.count-c.ensures c.if-c-n.true
 
-sub-result : tie.Need-overflow-sub-result
+sub-result : tie.Need-overflow_sub-result
 sub-result c =
     search rules
 
-returns-2 : tie.Need-returns-2
+returns-2 : tie.Need-returns
 returns-2 c =
-    let a = c.before.before.before.before.args in share-some a.work.now a.p a.list _ _ c.before.before.word.ensures c.before.count.ensures
+    let a = c.before.before.before.before.args in share-some a.work.now a.p a.list _ _ c.before.before.word-n.ensures c.before.count-c.ensures
 
-pub share-spec : {M : Type 1} → statement M
-share-spec = tie.close (tie.spec word-requires count-requires returns sub-result returns-2)
+pub share_spec : {M : Type 1} → statement M
+share_spec = tie.close (tie.spec word-requires count-requires returns sub-result returns-2)

@@ -9,29 +9,29 @@ use Rattle.environments.proofs.fill.fill.Reads as fill-reads
 use Rattle.environments.proofs.fill.slots.Reads as slots-reads
 use Rattle.environments.specs.BindingLaws.{bind-small, bind-fillable, bind-words, bound-to}
 
-slots-requires : tie.Need-slots-requires
+slots-requires : tie.Need-slots-width-requires
 slots-requires c κs =
     omega (arith, c.before.before.requires.room.small)
 
-add-t12 : tie.Need-overflow-add-t12
+add-t12 : tie.Need-overflow_add-top
 add-t12 c =
     let at_slots = c.before in
     let at-args = at_slots.before.before.before in
-    let s = bind-small at-args.args.work.now at-args.args.env.now at-args.args.p at-args.args.u at-args.args.top _ at-args.requires at_slots.slots.ensures in omega (arith, s)
+    let s = bind-small at-args.args.work.now at-args.args.env.now at-args.args.p at-args.args.u at-args.args.top _ at-args.requires at_slots.slots-width.ensures in omega (arith, s)
 
-fill-requires : tie.Need-fill-requires
+fill-requires : tie.Need-fill-y-requires
 fill-requires c κs =
     let at_slots = c.before in
     let at-args = at_slots.before.before.before in
-    bind-fillable at-args.args.work.now at-args.args.env.now at-args.args.p at-args.args.u at-args.args.top _ at-args.requires at_slots.slots.ensures
+    bind-fillable at-args.args.work.now at-args.args.env.now at-args.args.p at-args.args.u at-args.args.top _ at-args.requires at_slots.slots-width.ensures
 
 columns-requires : tie.Need-columns-requires
 columns-requires c κs =
     let at_slots = c.before.before.before.before.before.before in
     let at-args = at_slots.before.before.before in
-    bind-words at-args.args.work.now at-args.args.env.now at-args.args.p at-args.args.u at-args.args.top _ at-args.requires at_slots.slots.ensures
+    bind-words at-args.args.work.now at-args.args.env.now at-args.args.p at-args.args.u at-args.args.top _ at-args.requires at_slots.slots-width.ensures
 
-same_length : tie.Need-same-length
+same_length : tie.Need-shape_of-work
 same_length c =
     search rules
 
@@ -40,8 +40,8 @@ returns c =
     let at_fill_lem = c.before.before.before.before.before in
     let at_slots = at_fill_lem.before.before in
     let at-args = at_slots.before.before.before in
-    bound-to at-args.args.work.now at-args.args.env.now at-args.args.p at-args.args.u at-args.args.top _ at-args.requires at_slots.slots.ensures _ _ at_fill_lem.fill.ensures _ _ c.columns.ensures
+    bound-to at-args.args.work.now at-args.args.env.now at-args.args.p at-args.args.u at-args.args.top _ at-args.requires at_slots.slots-width.ensures _ _ at_fill_lem.fill-y.ensures _ _ c.columns.ensures
 
-pub bind-spec : {M : Type 1} → statement M
-bind-spec =
+pub bind_spec : {M : Type 1} → statement M
+bind_spec =
     tie.close (tie.spec slots-requires add-t12 fill-requires columns-requires same_length returns)

@@ -11,33 +11,33 @@ use native.Mathlib.Omega.{arith}
 use Rattle.writer.specs.LaidLaws.{put-done, put_full}
 use Rattle.filing.specs.FileLaws.{header-full, no_byte, term-full, end-never-full, header-never-full, accepted-wrote}
 
-returns : tie.Need-returns
+returns : tie.Need-returns-then-from
 returns c =
-    λ x e. header-full _ _ x _ _ _ c.before.before.before.accepted-line.ensures (put_full _ c.if1.true)
+    λ x e. header-full _ _ x _ _ _ c.before.before.before.accepted_line-from.ensures (put_full _ c.if-from.true)
 
-returns-2 : tie.Need-returns-2
+returns-2 : tie.Need-returns-then-from-out
 returns-2 c =
-    λ x e. no_byte _ _ x _ _ _ c.before.before.before.before.accepted-line.ensures _ (put-done _ c.before.if1.false) c.if2.true
+    λ x e. no_byte _ _ x _ _ _ c.before.before.before.before.accepted_line-from.ensures _ (put-done _ c.before.if-from.false) c.if-from-out.true
 
-returns-3 : tie.Need-returns-3
+returns-3 : tie.Need-returns-then-to
 returns-3 c =
     let at-term-at = c.before.before.before in
     let at-if1 = at-term-at.before.before.before in
-    λ x e. term-full _ _ x _ _ _ at-if1.before.before.before.accepted-line.ensures _ (put-done _ at-if1.if1.false) _ _ (at-term-at.term-at.ensures.1 x e) (put_full _ c.if3.true)
+    λ x e. term-full _ _ x _ _ _ at-if1.before.before.before.accepted_line-from.ensures _ (put-done _ at-if1.if-from.false) _ _ (at-term-at.term_at-to.ensures.1 x e) (put_full _ c.if-to.true)
 
-byte-requires : tie.Need-byte-requires
+byte-requires : tie.Need-byte-end-requires
 byte-requires c κs =
-    omega (arith, c.before.before.before.before.term-at.ensures.0 c.before.if3.false, c.before.before.before.before.term-at.auto)
+    omega (arith, c.before.before.before.before.term_at-to.ensures.0 c.before.if-to.false, c.before.before.before.before.term_at-to.auto)
 
-returns-4 : tie.Need-returns-4
+returns-4 : tie.Need-returns-then-end
 returns-4 c =
     let at_byte = c.before.before.before in
     let at-if3 = at_byte.before.before in
     let at-term-at = at-if3.before.before.before in
     let at-if1 = at-term-at.before.before.before in
-    λ x e. end-never-full _ _ x _ _ _ at-if1.before.before.before.accepted-line.ensures _ (put-done _ at-if1.if1.false) _ _ (at-term-at.term-at.ensures.1 x e) _ (put-done _ at-if3.if3.false) _ _ at_byte.byte.ensures (put_full _ c.if4.true)
+    λ x e. end-never-full _ _ x _ _ _ at-if1.before.before.before.accepted_line-from.ensures _ (put-done _ at-if1.if-from.false) _ _ (at-term-at.term_at-to.ensures.1 x e) _ (put-done _ at-if3.if-to.false) _ _ at_byte.byte-end.ensures (put_full _ c.if-end.true)
 
-returns-5 : tie.Need-returns-5
+returns-5 : tie.Need-returns-then-again
 returns-5 c =
     let at-accepted-line2 = c.before.before.before in
     let at-if4 = at-accepted-line2.before.before in
@@ -45,9 +45,9 @@ returns-5 c =
     let at-if3 = at_byte.before.before in
     let at-term-at = at-if3.before.before.before in
     let at-if1 = at-term-at.before.before.before in
-    λ x e. header-never-full _ _ x _ _ _ at-if1.before.before.before.accepted-line.ensures _ (put-done _ at-if1.if1.false) _ _ (at-term-at.term-at.ensures.1 x e) _ (put-done _ at-if3.if3.false) _ _ at_byte.byte.ensures _ (put-done _ at-if4.if4.false) _ _ at-accepted-line2.accepted-line2.ensures (put_full _ c.if5.true)
+    λ x e. header-never-full _ _ x _ _ _ at-if1.before.before.before.accepted_line-from.ensures _ (put-done _ at-if1.if-from.false) _ _ (at-term-at.term_at-to.ensures.1 x e) _ (put-done _ at-if3.if-to.false) _ _ at_byte.byte-end.ensures _ (put-done _ at-if4.if-end.false) _ _ at-accepted-line2.accepted_line-again.ensures (put_full _ c.if-again.true)
 
-returns-6 : tie.Need-returns-6
+returns-6 : tie.Need-returns
 returns-6 c =
     let at-accepted-line2 = c.before.before.before in
     let at-if4 = at-accepted-line2.before.before in
@@ -55,10 +55,10 @@ returns-6 c =
     let at-if3 = at_byte.before.before in
     let at-term-at = at-if3.before.before.before in
     let at-if1 = at-term-at.before.before.before in
-    λ x e. accepted-wrote _ _ x _ _ _ at-if1.before.before.before.accepted-line.ensures _ (put-done _ at-if1.if1.false) _ _ (at-term-at.term-at.ensures.1 x e) _ (put-done _ at-if3.if3.false) _ _ at_byte.byte.ensures _ (put-done _ at-if4.if4.false) _ _ at-accepted-line2.accepted-line2.ensures _ (put-done _ c.if5.false)
+    λ x e. accepted-wrote _ _ x _ _ _ at-if1.before.before.before.accepted_line-from.ensures _ (put-done _ at-if1.if-from.false) _ _ (at-term-at.term_at-to.ensures.1 x e) _ (put-done _ at-if3.if-to.false) _ _ at_byte.byte-end.ensures _ (put-done _ at-if4.if-end.false) _ _ at-accepted-line2.accepted_line-again.ensures _ (put-done _ c.if-again.false)
 
-pub accepted-spec : {M : Type 1} → statement M
-accepted-spec =
+pub accepted_spec : {M : Type 1} → statement M
+accepted_spec =
     tie.close
     (tie.spec
     (λ c κs. search rules)  -- accepted-line-requires

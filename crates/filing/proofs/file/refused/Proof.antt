@@ -8,24 +8,24 @@ use Rattle.filing.proofs.lines.refused_line.Reads as refused-line-reads
 use Rattle.writer.specs.LaidLaws.{put-done, put_full}
 use Rattle.writer.specs.WroteLaws.{measured-full, laid-never-full, laid-wrote}
 
-returns : tie.Need-returns
+returns : tie.Need-returns-then-length
 returns c =
-    measured-full _ _ _ _ c.before.before.before.refused-line.ensures (put_full _ c.if1.true)
+    measured-full _ _ _ _ c.before.before.before.refused_line-length.ensures (put_full _ c.if-length.true)
 
-returns-2 : tie.Need-returns-2
+returns-2 : tie.Need-returns-then-to
 returns-2 c =
     let at-refused-line2 = c.before.before.before in
     let at-if1 = at-refused-line2.before.before in
-    laid-never-full _ _ _ _ at-if1.before.before.before.refused-line.ensures _ (put-done _ at-if1.if1.false) _ _ at-refused-line2.refused-line2.ensures (put_full _ c.if2.true)
+    laid-never-full _ _ _ _ at-if1.before.before.before.refused_line-length.ensures _ (put-done _ at-if1.if-length.false) _ _ at-refused-line2.refused_line-to.ensures (put_full _ c.if-to.true)
 
-returns-3 : tie.Need-returns-3
+returns-3 : tie.Need-returns
 returns-3 c =
     let at-refused-line2 = c.before.before.before in
     let at-if1 = at-refused-line2.before.before in
-    laid-wrote _ _ _ _ at-if1.before.before.before.refused-line.ensures _ (put-done _ at-if1.if1.false) _ _ at-refused-line2.refused-line2.ensures _ (put-done _ c.if2.false)
+    laid-wrote _ _ _ _ at-if1.before.before.before.refused_line-length.ensures _ (put-done _ at-if1.if-length.false) _ _ at-refused-line2.refused_line-to.ensures _ (put-done _ c.if-to.false)
 
-pub refused-spec : {M : Type 1} → statement M
-refused-spec =
+pub refused_spec : {M : Type 1} → statement M
+refused_spec =
     tie.close
     (tie.spec
     (λ c κs. search rules)  -- refused-line-requires

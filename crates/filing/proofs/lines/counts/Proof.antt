@@ -9,34 +9,34 @@ use Rattle.writer.proofs.bytes.byte.Reads as byte-Reads
 use Rattle.writer.specs.LaidLaws.{place-room, place-full, place-then, left_is}
 use Rattle.filing.specs.Lines.{counts-laid}
 
-returns : tie.Need-returns
+returns : tie.Need-returns-then-a
 returns c =
-    left_is (counts-laid _ _) (place-full c.before.before.before.number.ensures _ c.if1.true)
+    left_is (counts-laid _ _) (place-full c.before.before.before.number-a.ensures _ c.if-a.true)
 
-number-requires-2 : tie.Need-number-requires-2
+number-requires-2 : tie.Need-number-b-requires
 number-requires-2 c κs =
-    place-room c.before.before.before.before.number.ensures c.before.if1.false
+    place-room c.before.before.before.before.number-a.ensures c.before.if-a.false
 
-returns-2 : tie.Need-returns-2
+returns-2 : tie.Need-returns-then-b
 returns-2 c =
     let at-number2 = c.before.before.before in
     let at-if1 = at-number2.before.before in
-    left_is (counts-laid _ _) (place-then at-if1.before.before.before.number.ensures at-if1.if1.false (place-full at-number2.number2.ensures _ c.if2.true))
+    left_is (counts-laid _ _) (place-then at-if1.before.before.before.number-a.ensures at-if1.if-a.false (place-full at-number2.number-b.ensures _ c.if-b.true))
 
 byte-requires : tie.Need-byte-requires
 byte-requires c κs =
-    place-room c.before.before.before.before.number2.ensures c.before.if2.false
+    place-room c.before.before.before.before.number-b.ensures c.before.if-b.false
 
-returns-3 : tie.Need-returns-3
+returns-3 : tie.Need-returns
 returns-3 c =
     let at_byte = c.before.before in
     let at-if2 = at_byte.before.before in
     let at-number2 = at-if2.before.before.before in
     let at-if1 = at-number2.before.before in
-    left_is (counts-laid _ _) (place-then at-if1.before.before.before.number.ensures at-if1.if1.false (place-then at-number2.number2.ensures at-if2.if2.false at_byte.byte.ensures))
+    left_is (counts-laid _ _) (place-then at-if1.before.before.before.number-a.ensures at-if1.if-a.false (place-then at-number2.number-b.ensures at-if2.if-b.false at_byte.byte.ensures))
 
-pub counts-spec : {M : Type 1} → statement M
-counts-spec =
+pub counts_spec : {M : Type 1} → statement M
+counts_spec =
     tie.close
     (tie.spec
     (λ c κs. search rules)  -- number-requires

@@ -20,7 +20,7 @@ numbered-requires : tie.Need-numbered-requires
 numbered-requires c κs =
     search rules
 
-same_length : tie.Need-same-length
+same_length : tie.Need-shape_of-out
 same_length c =
     search rules
 
@@ -28,5 +28,5 @@ returns : tie.Need-returns
 returns c =
     left_is (ap (λ (k : ℕ). 32 ∷ numeral k) c.before.before.before.before.wide.ensures) c.before.before.numbered.ensures
 
-pub number-spec : {M : Type 1} → statement M
-number-spec = tie.close (tie.spec wide-requires numbered-requires same_length returns)
+pub number_spec : {M : Type 1} → statement M
+number_spec = tie.close (tie.spec wide-requires numbered-requires same_length returns)

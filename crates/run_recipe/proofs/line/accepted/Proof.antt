@@ -6,8 +6,8 @@ use Rattle.run_recipe.proofs.line.accepted.Tie as tie
 returns : tie.Need-returns
 returns c = c.before.before.counted.ensures
 
-pub accepted-spec : {M : Type 1} → statement M
-accepted-spec =
+pub accepted_spec : {M : Type 1} → statement M
+accepted_spec =
     tie.close
     (tie.spec
     (λ c. search rules)  -- slice-aggregate-counted

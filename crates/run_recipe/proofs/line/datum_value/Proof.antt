@@ -9,22 +9,22 @@ use Rattle.run_recipe.proofs.line.counted.Reads as counted-reads
 use Rattle.writer.specs.LaidLaws.{place-full, place-room, place-then, left_is}
 use Rattle.run_recipe.specs.Line.{place-laid}
 
-returns : tie.Need-returns
+returns : tie.Need-returns-then-a
 returns c =
-    left_is (place-laid _ _) (place-full c.before.before.before.accepted.ensures _ c.if1.true)
+    left_is (place-laid _ _) (place-full c.before.before.before.accepted-a.ensures _ c.if-a.true)
 
-counted-requires : tie.Need-counted-requires
+counted-requires : tie.Need-shape_of-out
 counted-requires c κs =
-    place-room c.before.before.before.before.before.accepted.ensures c.before.before.if1.false
+    place-room c.before.before.before.before.before.accepted-a.ensures c.before.before.if-a.false
 
 returns-2 : tie.Need-returns-2
 returns-2 c =
     let at-counted = c.before.before in
     let at-if1 = at-counted.before.before.before in
-    left_is (place-laid _ _) (place-then at-if1.before.before.before.accepted.ensures at-if1.if1.false at-counted.counted.ensures)
+    left_is (place-laid _ _) (place-then at-if1.before.before.before.accepted-a.ensures at-if1.if-a.false at-counted.counted.ensures)
 
-pub datum-value-spec : {M : Type 1} → statement M
-datum-value-spec =
+pub datum_value_spec : {M : Type 1} → statement M
+datum_value_spec =
     tie.close
     (tie.spec
     (λ c κs. search rules)  -- accepted-requires

@@ -4,22 +4,22 @@ use Rattle.run_recipe.proofs.line.named.Statement.{statement}
 use Rattle.run_recipe.proofs.line.named.Tie as tie
 use Rattle.writer.specs.LaidLaws.{place-full, place-room, place-then}
 
-returns : tie.Need-returns
+returns : tie.Need-returns-then-a
 returns c =
-    place-full c.before.before.before.accepted.ensures _ c.if1.true
+    place-full c.before.before.before.accepted-a.ensures _ c.if-a.true
 
 copy-requires : tie.Need-copy-requires
 copy-requires c κs =
-    place-room c.before.before.before.before.accepted.ensures c.before.if1.false
+    place-room c.before.before.before.before.accepted-a.ensures c.before.if-a.false
 
-returns-2 : tie.Need-returns-2
+returns-2 : tie.Need-returns
 returns-2 c =
     let at_copy = c.before.before in
     let at-if1 = at_copy.before.before in
-    place-then at-if1.before.before.before.accepted.ensures at-if1.if1.false at_copy.copy.ensures
+    place-then at-if1.before.before.before.accepted-a.ensures at-if1.if-a.false at_copy.copy.ensures
 
-pub named-spec : {M : Type 1} → statement M
-named-spec =
+pub named_spec : {M : Type 1} → statement M
+named_spec =
     tie.close
     (tie.spec
     (λ c κs. search rules)  -- accepted-requires

@@ -12,9 +12,9 @@ use Rattle.runner.specs.Here.{here-two}
 use Rattle.runner.specs.BeginLaws.{spent-application}
 
 -- src/begin.rt:98:34
-add-after : tie.Need-overflow-add-after
+add-after : tie.Need-overflow_add-at
 add-after c =
-    record { fits = omega (arith, here-two _ c.before.before.before.requires.1.2.here, c.before.before.before.well-formed.0) }
+    record { fits = omega (arith, here-two _ c.before.before.before.requires.1.2.here, c.before.before.before.well_formed.0) }
 
 -- src/begin.rt:98:15
 after-requires : tie.Need-after-requires
@@ -22,14 +22,14 @@ after-requires c κs =
     search rules
 
 -- src/begin.rt:100:15
-cast-t11 : tie.Need-overflow-cast-t11
+cast-t11 : tie.Need-overflow_cast-f
 cast-t11 c =
     search rules
 
 -- src/begin.rt:103:23
-add-wait : tie.Need-overflow-add-wait
+add-wait : tie.Need-overflow_add-at-2
 add-wait c =
-    record { fits = omega (arith, here-two _ c.before.before.before.before.before.before.requires.1.2.here, c.before.before.before.before.before.before.well-formed.0) }
+    record { fits = omega (arith, here-two _ c.before.before.before.before.before.before.requires.1.2.here, c.before.before.before.before.before.before.well_formed.0) }
 
 -- src/begin.rt:103:5
 wait-requires : tie.Need-wait-requires
@@ -37,7 +37,7 @@ wait-requires c κs =
     search rules
 
 -- src/begin.rt:84:1
-same_length : tie.Need-same-length
+same_length : tie.Need-shape_of-table
 same_length c =
     search rules
 
@@ -46,7 +46,7 @@ returns : tie.Need-returns
 returns c =
     λ budget whole x. rw (c.before.before.wait.ensures.0, c.before.before.wait.ensures.1) (spent-application c.before.before.before.before.before.before.before.before.before.args.s c.before.before.before.before.before.before.before.before.before.args.at c.before.before.before.before.before.before.before.before.before.args.environment c.before.before.before.before.before.before.before.before.before.args.operands x _ (c.before.before.before.before.before.after.ensures x.is.head x.is.parts.head))
 
-pub application-spec : {M : Type 1} → statement M
-application-spec =
+pub application_spec : {M : Type 1} → statement M
+application_spec =
     tie.close
     (tie.spec add-after after-requires cast-t11 add-wait wait-requires same_length returns)

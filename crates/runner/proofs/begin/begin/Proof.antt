@@ -18,32 +18,32 @@ use native.Mathlib.Omega.{arith}
 use Rattle.runner.specs.BeginLaws.{spent, begin-out, begin-node, spent-variable, spent-operation, spent-integer, spent-boolean, spent-decimal, spent-name, spent-list, spent-lambda, spent-none}
 
 -- src/begin.rt:120:9
-returns : tie.Need-returns
+returns : tie.Need-returns-then-s-budget
 returns c =
-    λ whole b. begin-out c.before.before.before.before.before.args.s c.before.before.before.before.before.args.at c.before.before.before.before.before.args.environment b c.if1.true
+    λ whole b. begin-out c.before.before.before.before.before.args.s c.before.before.before.before.before.args.at c.before.before.before.before.before.args.environment b c.if-s-budget.true
 
 -- src/begin.rt:123:16
-add-opened : tie.Need-overflow-add-opened
+add-opened : tie.Need-overflow_add-t
 add-opened c =
     search rules
 
 -- src/begin.rt:128:18
-mul-opened : tie.Need-overflow-mul-opened
+mul-opened : tie.Need-offset_bounds-words-at
 mul-opened c =
-    record { fits = omega (arith, here-two _ c.before.before.before.before.before.before.requires.1.1.here, c.before.before.before.before.before.before.well-formed.0) }
+    record { fits = omega (arith, here-two _ c.before.before.before.before.before.before.requires.1.1.here, c.before.before.before.before.before.before.well_formed.0) }
 
 -- src/begin.rt:128:18
-sub-opened : tie.Need-overflow-sub-opened
+sub-opened : tie.Need-slice_bounds-opened-count
 sub-opened c =
     omega (arith, here-two _ c.before.before.before.before.before.before.requires.1.1.here)
 
 -- src/begin.rt:128:18
-part-opened-start : tie.Need-slice-bounds-opened-start
+part-opened-start : tie.Need-slice_bounds-opened-start
 part-opened-start c =
     omega (arith, here-two _ c.before.before.before.before.before.before.requires.1.1.here)
 
 -- src/begin.rt:128:18
-part-opened-end : tie.Need-slice-bounds-opened-end
+part-opened-end : tie.Need-slice_bounds-opened-end
 part-opened-end c =
     search rules
 
@@ -53,7 +53,7 @@ opened-requires c κs =
     search rules
 
 -- src/begin.rt:129:24
-enum-known-n : tie.Need-enum-known-n
+enum-known-n : tie.Need-enum_known-n
 enum-known-n c =
     search rules
 
@@ -67,12 +67,12 @@ variable-requires c κs =
         a.budget,
         p.0,
         spent-variable (spent a.s) a.at a.environment _
-            (begin-node a.s a.at a.environment p.1 _ _ c.before.before.before.before.before.before.before.if1.false c.before.before.before.before.opened.ensures c.before.before.n.given.1),
+            (begin-node a.s a.at a.environment p.1 _ _ c.before.before.before.before.before.before.before.if-s-budget.false c.before.before.before.before.opened.ensures c.before.before.n-1.given.1),
       ),
     )
 
 -- src/begin.rt:130:25
-enum-known-p : tie.Need-enum-known-p
+enum-known-p : tie.Need-enum_known-p
 enum-known-p c =
     search rules
 
@@ -86,12 +86,12 @@ operation-requires c κs =
         a.budget,
         p.0,
         spent-operation (spent a.s) a.at a.environment _
-            (begin-node a.s a.at a.environment p.1 _ _ c.before.before.before.before.before.before.before.if1.false c.before.before.before.before.opened.ensures c.before.before.p.given.1),
+            (begin-node a.s a.at a.environment p.1 _ _ c.before.before.before.before.before.before.before.if-s-budget.false c.before.before.before.before.opened.ensures c.before.before.p-1.given.1),
       ),
     )
 
 -- src/begin.rt:131:23
-enum-known-w : tie.Need-enum-known-w
+enum-known-w : tie.Need-enum_known-w
 enum-known-w c =
     search rules
 
@@ -111,22 +111,22 @@ push-requires c κs =
         p.0,
         rw c.value.ensures
             (spent-integer (spent a.s) a.at a.environment _
-            (begin-node a.s a.at a.environment p.1 _ _ c.before.before.before.before.before.before.before.before.if1.false c.before.before.before.before.before.opened.ensures c.before.before.before.w.given.1)),
+            (begin-node a.s a.at a.environment p.1 _ _ c.before.before.before.before.before.before.before.before.if-s-budget.false c.before.before.before.before.before.opened.ensures c.before.before.before.w-1.given.1)),
       ),
     )
 
 -- src/begin.rt:132:23
-enum-known-w-2 : tie.Need-enum-known-w-2
+enum-known-w-2 : tie.Need-enum_known-w-in-Boolean-1
 enum-known-w-2 c =
     search rules
 
 -- src/begin.rt:132:44
-value-requires-2 : tie.Need-value-requires-2
+value-requires-2 : tie.Need-value-requires-in-Boolean
 value-requires-2 c κs =
     search rules
 
 -- src/begin.rt:132:29
-push-requires-2 : tie.Need-push-requires-2
+push-requires-2 : tie.Need-push-requires-in-Boolean
 push-requires-2 c κs =
     let a = c.before.before.before.before.before.before.before.before.before.before.before.before.before.args in
     let p = c.before.before.before.before.before.before.before.before.before.before.before.before.before.requires.1 in (
@@ -134,19 +134,19 @@ push-requires-2 c κs =
       (
         a.budget,
         p.0,
-        rw c.value2.ensures
+        rw c.value-in-Boolean.ensures
             (spent-boolean (spent a.s) a.at a.environment _
-            (begin-node a.s a.at a.environment p.1 _ _ c.before.before.before.before.before.before.before.before.if1.false c.before.before.before.before.before.opened.ensures c.before.before.before.w2.given.1)),
+            (begin-node a.s a.at a.environment p.1 _ _ c.before.before.before.before.before.before.before.before.if-s-budget.false c.before.before.before.before.before.opened.ensures c.before.before.before.w-in-Boolean-1.given.1)),
       ),
     )
 
 -- src/begin.rt:133:32
-enum_told : tie.Need-enum-told
+enum_told : tie.Need-enum_told-1
 enum_told c =
     search rules
 
 -- src/begin.rt:134:31
-enum-told-2 : tie.Need-enum-told-2
+enum-told-2 : tie.Need-enum_told-in-Name
 enum-told-2 c =
     search rules
 
@@ -161,12 +161,12 @@ high-requires c κs =
     search rules
 
 -- src/begin.rt:134:41
-value-requires-3 : tie.Need-value-requires-3
+value-requires-3 : tie.Need-value-requires-in-Name
 value-requires-3 c κs =
     search rules
 
 -- src/begin.rt:134:26
-push-requires-3 : tie.Need-push-requires-3
+push-requires-3 : tie.Need-push-requires-in-Name
 push-requires-3 c κs =
     let a = c.before.before.before.before.before.before.before.before.before.before.before.before.before.before.args in
     let p = c.before.before.before.before.before.before.before.before.before.before.before.before.before.before.requires.1 in (
@@ -174,34 +174,34 @@ push-requires-3 c κs =
       (
         a.budget,
         p.0,
-        rw (c.value3.ensures, c.before.before.low.ensures, c.before.high.ensures)
+        rw (c.value-in-Name.ensures, c.before.before.low.ensures, c.before.high.ensures)
             (spent-name (spent a.s) a.at a.environment _
-            (begin-node a.s a.at a.environment p.1 _ _ c.before.before.before.before.before.before.before.before.before.if1.false c.before.before.before.before.before.before.opened.ensures c.before.before.before.before.enum-told2.given.1)),
+            (begin-node a.s a.at a.environment p.1 _ _ c.before.before.before.before.before.before.before.before.before.if-s-budget.false c.before.before.before.before.before.before.opened.ensures c.before.before.before.before.enum_told-in-Name-1.given.1)),
       ),
     )
 
 -- src/begin.rt:135:31
-enum-told-3 : tie.Need-enum-told-3
+enum-told-3 : tie.Need-enum_told-in-List
 enum-told-3 c =
     search rules
 
 -- src/begin.rt:135:54
-low-requires-2 : tie.Need-low-requires-2
+low-requires-2 : tie.Need-low-requires-in-List
 low-requires-2 c κs =
     search rules
 
 -- src/begin.rt:135:63
-high-requires-2 : tie.Need-high-requires-2
+high-requires-2 : tie.Need-high-requires-in-List
 high-requires-2 c κs =
     search rules
 
 -- src/begin.rt:135:41
-value-requires-4 : tie.Need-value-requires-4
+value-requires-4 : tie.Need-value-requires-in-List
 value-requires-4 c κs =
     search rules
 
 -- src/begin.rt:135:26
-push-requires-4 : tie.Need-push-requires-4
+push-requires-4 : tie.Need-push-requires-in-List
 push-requires-4 c κs =
     let a = c.before.before.before.before.before.before.before.before.before.before.before.before.before.before.args in
     let p = c.before.before.before.before.before.before.before.before.before.before.before.before.before.before.requires.1 in (
@@ -209,14 +209,14 @@ push-requires-4 c κs =
       (
         a.budget,
         p.0,
-        rw (c.value4.ensures, c.before.before.low2.ensures, c.before.high2.ensures)
+        rw (c.value-in-List.ensures, c.before.before.low-in-List.ensures, c.before.high-in-List.ensures)
             (spent-list (spent a.s) a.at a.environment _
-            (begin-node a.s a.at a.environment p.1 _ _ c.before.before.before.before.before.before.before.before.before.if1.false c.before.before.before.before.before.before.opened.ensures c.before.before.before.before.enum-told3.given.1)),
+            (begin-node a.s a.at a.environment p.1 _ _ c.before.before.before.before.before.before.before.before.before.if-s-budget.false c.before.before.before.before.before.before.opened.ensures c.before.before.before.before.enum_told-in-List-1.given.1)),
       ),
     )
 
 -- src/begin.rt:136:39
-enum-told-4 : tie.Need-enum-told-4
+enum-told-4 : tie.Need-enum_told-in-If
 enum-told-4 c =
     search rules
 
@@ -229,32 +229,32 @@ test-requires c κs =
       (
         a.budget,
         p.0,
-        begin-node a.s a.at a.environment p.1 _ _ c.before.before.before.before.before.before.if1.false c.before.before.before.opened.ensures c.before.enum-told4.given.1,
+        begin-node a.s a.at a.environment p.1 _ _ c.before.before.before.before.before.before.if-s-budget.false c.before.before.before.opened.ensures c.before.enum_told-in-If-1.given.1,
       ),
     )
 
 -- src/begin.rt:137:36
-enum-told-5 : tie.Need-enum-told-5
+enum-told-5 : tie.Need-enum_told-in-Lambda
 enum-told-5 c =
     search rules
 
 -- src/begin.rt:137:61
-low-requires-3 : tie.Need-low-requires-3
+low-requires-3 : tie.Need-low-requires-in-Lambda
 low-requires-3 c κs =
     search rules
 
 -- src/begin.rt:137:70
-high-requires-3 : tie.Need-high-requires-3
+high-requires-3 : tie.Need-high-requires-in-Lambda
 high-requires-3 c κs =
     search rules
 
 -- src/begin.rt:137:46
-value-requires-5 : tie.Need-value-requires-5
+value-requires-5 : tie.Need-value-requires-in-Lambda
 value-requires-5 c κs =
     search rules
 
 -- src/begin.rt:137:31
-push-requires-5 : tie.Need-push-requires-5
+push-requires-5 : tie.Need-push-requires-in-Lambda
 push-requires-5 c κs =
     let a = c.before.before.before.before.before.before.before.before.before.before.before.before.before.before.args in
     let p = c.before.before.before.before.before.before.before.before.before.before.before.before.before.before.requires.1 in (
@@ -262,14 +262,14 @@ push-requires-5 c κs =
       (
         a.budget,
         p.0,
-        rw (c.value5.ensures, c.before.before.low3.ensures, c.before.high3.ensures)
+        rw (c.value-in-Lambda.ensures, c.before.before.low-in-Lambda.ensures, c.before.high-in-Lambda.ensures)
             (spent-lambda (spent a.s) a.at a.environment _ _
-            (begin-node a.s a.at a.environment p.1 _ _ c.before.before.before.before.before.before.before.before.before.if1.false c.before.before.before.before.before.before.opened.ensures c.before.before.before.before.enum-told5.given.1)),
+            (begin-node a.s a.at a.environment p.1 _ _ c.before.before.before.before.before.before.before.before.before.if-s-budget.false c.before.before.before.before.before.before.opened.ensures c.before.before.before.before.enum_told-in-Lambda-1.given.1)),
       ),
     )
 
 -- src/begin.rt:138:27
-enum-known-n-2 : tie.Need-enum-known-n-2
+enum-known-n-2 : tie.Need-enum_known-n-in-Application-1
 enum-known-n-2 c =
     search rules
 
@@ -282,161 +282,161 @@ application-requires c κs =
       (
         a.budget,
         p.0,
-        begin-node a.s a.at a.environment p.1 _ _ c.before.before.before.before.before.before.before.if1.false c.before.before.before.before.opened.ensures c.before.before.n2.given.1,
+        begin-node a.s a.at a.environment p.1 _ _ c.before.before.before.before.before.before.before.if-s-budget.false c.before.before.before.before.opened.ensures c.before.before.n-in-Application-1.given.1,
       ),
     )
 
 -- src/begin.rt:139:23
-enum-told-6 : tie.Need-enum-told-6
+enum-told-6 : tie.Need-enum_told-in-None
 enum-told-6 c =
     search rules
 
 -- src/begin.rt:107:1
-same_length : tie.Need-same-length
+same_length : tie.Need-shape_of-table-in-Variable
 same_length c =
     search rules
 
 -- src/begin.rt:107:1
-returns-2 : tie.Need-returns-2
+returns-2 : tie.Need-returns-in-Variable
 returns-2 c =
     λ whole b. let a = c.before.before.before.before.before.before.before.before.before.before.before.before.before.before.before.args in
     let x = c.before.before.variable.ensures a.words.now a.budget whole
     (spent-variable (spent a.s) a.at a.environment _
-    (begin-node a.s a.at a.environment b _ _ c.before.before.before.before.before.before.before.before.before.before.if1.false c.before.before.before.before.before.before.before.opened.ensures c.before.before.before.before.before.n.given.1)) in
-    (x.0, omega (arith, x.1, c.before.before.before.before.before.before.before.before.before.before.if1.false))
+    (begin-node a.s a.at a.environment b _ _ c.before.before.before.before.before.before.before.before.before.before.if-s-budget.false c.before.before.before.before.before.before.before.opened.ensures c.before.before.before.before.before.n-1.given.1)) in
+    (x.0, omega (arith, x.1, c.before.before.before.before.before.before.before.before.before.before.if-s-budget.false))
 
 -- src/begin.rt:107:1
-same-length-2 : tie.Need-same-length-2
+same-length-2 : tie.Need-shape_of-table-in-Operation
 same-length-2 c =
     search rules
 
 -- src/begin.rt:107:1
-returns-3 : tie.Need-returns-3
+returns-3 : tie.Need-returns-in-Operation
 returns-3 c =
     λ whole b. let a = c.before.before.before.before.before.before.before.before.before.before.before.before.before.before.before.args in
     let x = c.before.before.operation.ensures a.words.now a.budget whole
     (spent-operation (spent a.s) a.at a.environment _
-    (begin-node a.s a.at a.environment b _ _ c.before.before.before.before.before.before.before.before.before.before.if1.false c.before.before.before.before.before.before.before.opened.ensures c.before.before.before.before.before.p.given.1)) in
-    (x.0, omega (arith, x.1, c.before.before.before.before.before.before.before.before.before.before.if1.false))
+    (begin-node a.s a.at a.environment b _ _ c.before.before.before.before.before.before.before.before.before.before.if-s-budget.false c.before.before.before.before.before.before.before.opened.ensures c.before.before.before.before.before.p-1.given.1)) in
+    (x.0, omega (arith, x.1, c.before.before.before.before.before.before.before.before.before.before.if-s-budget.false))
 
 -- src/begin.rt:107:1
-same-length-3 : tie.Need-same-length-3
+same-length-3 : tie.Need-shape_of-table-in-Integer
 same-length-3 c =
     search rules
 
 -- src/begin.rt:107:1
-returns-4 : tie.Need-returns-4
+returns-4 : tie.Need-returns-in-Integer
 returns-4 c =
     λ whole b. let a = c.before.before.before.before.before.before.before.before.before.before.before.before.before.before.before.before.args in
     let x = c.before.before.push.ensures a.words.now a.budget whole
     (rw c.before.before.before.value.ensures
     (spent-integer (spent a.s) a.at a.environment _
-    (begin-node a.s a.at a.environment b _ _ c.before.before.before.before.before.before.before.before.before.before.before.if1.false c.before.before.before.before.before.before.before.before.opened.ensures c.before.before.before.before.before.before.w.given.1))) in
-    (x.0, omega (arith, x.1, c.before.before.before.before.before.before.before.before.before.before.before.if1.false))
+    (begin-node a.s a.at a.environment b _ _ c.before.before.before.before.before.before.before.before.before.before.before.if-s-budget.false c.before.before.before.before.before.before.before.before.opened.ensures c.before.before.before.before.before.before.w-1.given.1))) in
+    (x.0, omega (arith, x.1, c.before.before.before.before.before.before.before.before.before.before.before.if-s-budget.false))
 
 -- src/begin.rt:107:1
-same-length-4 : tie.Need-same-length-4
+same-length-4 : tie.Need-shape_of-table-in-Boolean
 same-length-4 c =
     search rules
 
 -- src/begin.rt:107:1
-returns-5 : tie.Need-returns-5
+returns-5 : tie.Need-returns-in-Boolean
 returns-5 c =
     λ whole b. let a = c.before.before.before.before.before.before.before.before.before.before.before.before.before.before.before.before.args in
-    let x = c.before.before.push2.ensures a.words.now a.budget whole
-    (rw c.before.before.before.value2.ensures
+    let x = c.before.before.push-in-Boolean.ensures a.words.now a.budget whole
+    (rw c.before.before.before.value-in-Boolean.ensures
     (spent-boolean (spent a.s) a.at a.environment _
-    (begin-node a.s a.at a.environment b _ _ c.before.before.before.before.before.before.before.before.before.before.before.if1.false c.before.before.before.before.before.before.before.before.opened.ensures c.before.before.before.before.before.before.w2.given.1))) in
-    (x.0, omega (arith, x.1, c.before.before.before.before.before.before.before.before.before.before.before.if1.false))
+    (begin-node a.s a.at a.environment b _ _ c.before.before.before.before.before.before.before.before.before.before.before.if-s-budget.false c.before.before.before.before.before.before.before.before.opened.ensures c.before.before.before.before.before.before.w-in-Boolean-1.given.1))) in
+    (x.0, omega (arith, x.1, c.before.before.before.before.before.before.before.before.before.before.before.if-s-budget.false))
 
 -- src/begin.rt:107:1
-returns-6 : tie.Need-returns-6
+returns-6 : tie.Need-returns-in-Decimal
 returns-6 c =
     λ whole b. let a = c.before.before.before.before.before.before.before.before.before.before.args in
     let x = spent-decimal (spent a.s) a.at a.environment _ _
-    (begin-node a.s a.at a.environment b _ _ c.before.before.before.before.before.if1.false c.before.before.opened.ensures c.enum_told.given.1) in
-    (x.0, omega (arith, c.before.before.before.before.before.if1.false))
+    (begin-node a.s a.at a.environment b _ _ c.before.before.before.before.before.if-s-budget.false c.before.before.opened.ensures c.enum_told-1.given.1) in
+    (x.0, omega (arith, c.before.before.before.before.before.if-s-budget.false))
 
 -- src/begin.rt:107:1
-same-length-5 : tie.Need-same-length-5
+same-length-5 : tie.Need-shape_of-table-in-Name
 same-length-5 c =
     search rules
 
 -- src/begin.rt:107:1
-returns-7 : tie.Need-returns-7
+returns-7 : tie.Need-returns-in-Name
 returns-7 c =
     λ whole b. let a = c.before.before.before.before.before.before.before.before.before.before.before.before.before.before.before.before.before.args in
-    let x = c.before.before.push3.ensures a.words.now a.budget whole
-    (rw (c.before.before.before.value3.ensures, c.before.before.before.before.before.low.ensures, c.before.before.before.before.high.ensures)
+    let x = c.before.before.push-in-Name.ensures a.words.now a.budget whole
+    (rw (c.before.before.before.value-in-Name.ensures, c.before.before.before.before.before.low.ensures, c.before.before.before.before.high.ensures)
     (spent-name (spent a.s) a.at a.environment _
-    (begin-node a.s a.at a.environment b _ _ c.before.before.before.before.before.before.before.before.before.before.before.before.if1.false c.before.before.before.before.before.before.before.before.before.opened.ensures c.before.before.before.before.before.before.before.enum-told2.given.1))) in
-    (x.0, omega (arith, x.1, c.before.before.before.before.before.before.before.before.before.before.before.before.if1.false))
+    (begin-node a.s a.at a.environment b _ _ c.before.before.before.before.before.before.before.before.before.before.before.before.if-s-budget.false c.before.before.before.before.before.before.before.before.before.opened.ensures c.before.before.before.before.before.before.before.enum_told-in-Name-1.given.1))) in
+    (x.0, omega (arith, x.1, c.before.before.before.before.before.before.before.before.before.before.before.before.if-s-budget.false))
 
 -- src/begin.rt:107:1
-same-length-6 : tie.Need-same-length-6
+same-length-6 : tie.Need-shape_of-table-in-List
 same-length-6 c =
     search rules
 
 -- src/begin.rt:107:1
-returns-8 : tie.Need-returns-8
+returns-8 : tie.Need-returns-in-List
 returns-8 c =
     λ whole b. let a = c.before.before.before.before.before.before.before.before.before.before.before.before.before.before.before.before.before.args in
-    let x = c.before.before.push4.ensures a.words.now a.budget whole
-    (rw (c.before.before.before.value4.ensures, c.before.before.before.before.before.low2.ensures, c.before.before.before.before.high2.ensures)
+    let x = c.before.before.push-in-List.ensures a.words.now a.budget whole
+    (rw (c.before.before.before.value-in-List.ensures, c.before.before.before.before.before.low-in-List.ensures, c.before.before.before.before.high-in-List.ensures)
     (spent-list (spent a.s) a.at a.environment _
-    (begin-node a.s a.at a.environment b _ _ c.before.before.before.before.before.before.before.before.before.before.before.before.if1.false c.before.before.before.before.before.before.before.before.before.opened.ensures c.before.before.before.before.before.before.before.enum-told3.given.1))) in
-    (x.0, omega (arith, x.1, c.before.before.before.before.before.before.before.before.before.before.before.before.if1.false))
+    (begin-node a.s a.at a.environment b _ _ c.before.before.before.before.before.before.before.before.before.before.before.before.if-s-budget.false c.before.before.before.before.before.before.before.before.before.opened.ensures c.before.before.before.before.before.before.before.enum_told-in-List-1.given.1))) in
+    (x.0, omega (arith, x.1, c.before.before.before.before.before.before.before.before.before.before.before.before.if-s-budget.false))
 
 -- src/begin.rt:107:1
-same-length-7 : tie.Need-same-length-7
+same-length-7 : tie.Need-shape_of-table-in-If
 same-length-7 c =
     search rules
 
 -- src/begin.rt:107:1
-returns-9 : tie.Need-returns-9
+returns-9 : tie.Need-returns-in-If
 returns-9 c =
     λ whole b. let a = c.before.before.before.before.before.before.before.before.before.before.before.before.before.before.args in
     let x = c.before.before.test.ensures a.budget whole
-    (begin-node a.s a.at a.environment b _ _ c.before.before.before.before.before.before.before.before.before.if1.false c.before.before.before.before.before.before.opened.ensures c.before.before.before.before.enum-told4.given.1) in
-    (x.0, omega (arith, x.1, c.before.before.before.before.before.before.before.before.before.if1.false))
+    (begin-node a.s a.at a.environment b _ _ c.before.before.before.before.before.before.before.before.before.if-s-budget.false c.before.before.before.before.before.before.opened.ensures c.before.before.before.before.enum_told-in-If-1.given.1) in
+    (x.0, omega (arith, x.1, c.before.before.before.before.before.before.before.before.before.if-s-budget.false))
 
 -- src/begin.rt:107:1
-same-length-8 : tie.Need-same-length-8
+same-length-8 : tie.Need-shape_of-table-in-Lambda
 same-length-8 c =
     search rules
 
 -- src/begin.rt:107:1
-returns-10 : tie.Need-returns-10
+returns-10 : tie.Need-returns-in-Lambda
 returns-10 c =
     λ whole b. let a = c.before.before.before.before.before.before.before.before.before.before.before.before.before.before.before.before.before.args in
-    let x = c.before.before.push5.ensures a.words.now a.budget whole
-    (rw (c.before.before.before.value5.ensures, c.before.before.before.before.before.low3.ensures, c.before.before.before.before.high3.ensures)
+    let x = c.before.before.push-in-Lambda.ensures a.words.now a.budget whole
+    (rw (c.before.before.before.value-in-Lambda.ensures, c.before.before.before.before.before.low-in-Lambda.ensures, c.before.before.before.before.high-in-Lambda.ensures)
     (spent-lambda (spent a.s) a.at a.environment _ _
-    (begin-node a.s a.at a.environment b _ _ c.before.before.before.before.before.before.before.before.before.before.before.before.if1.false c.before.before.before.before.before.before.before.before.before.opened.ensures c.before.before.before.before.before.before.before.enum-told5.given.1))) in
-    (x.0, omega (arith, x.1, c.before.before.before.before.before.before.before.before.before.before.before.before.if1.false))
+    (begin-node a.s a.at a.environment b _ _ c.before.before.before.before.before.before.before.before.before.before.before.before.if-s-budget.false c.before.before.before.before.before.before.before.before.before.opened.ensures c.before.before.before.before.before.before.before.enum_told-in-Lambda-1.given.1))) in
+    (x.0, omega (arith, x.1, c.before.before.before.before.before.before.before.before.before.before.before.before.if-s-budget.false))
 
 -- src/begin.rt:107:1
-same-length-9 : tie.Need-same-length-9
+same-length-9 : tie.Need-shape_of-table-in-Application
 same-length-9 c =
     search rules
 
 -- src/begin.rt:107:1
-returns-11 : tie.Need-returns-11
+returns-11 : tie.Need-returns-in-Application
 returns-11 c =
     λ whole b. let a = c.before.before.before.before.before.before.before.before.before.before.before.before.before.before.before.args in
     let x = c.before.before.application.ensures a.budget whole
-    (begin-node a.s a.at a.environment b _ _ c.before.before.before.before.before.before.before.before.before.before.if1.false c.before.before.before.before.before.before.before.opened.ensures c.before.before.before.before.before.n2.given.1) in
-    (x.0, omega (arith, x.1, c.before.before.before.before.before.before.before.before.before.before.if1.false))
+    (begin-node a.s a.at a.environment b _ _ c.before.before.before.before.before.before.before.before.before.before.if-s-budget.false c.before.before.before.before.before.before.before.opened.ensures c.before.before.before.before.before.n-in-Application-1.given.1) in
+    (x.0, omega (arith, x.1, c.before.before.before.before.before.before.before.before.before.before.if-s-budget.false))
 
 -- src/begin.rt:107:1
-returns-12 : tie.Need-returns-12
+returns-12 : tie.Need-returns-in-None
 returns-12 c =
     λ whole b. let a = c.before.before.before.before.before.before.before.before.before.before.args in
     absurd (spent-none (spent a.s) a.at a.environment
-    (begin-node a.s a.at a.environment b _ _ c.before.before.before.before.before.if1.false c.before.before.opened.ensures c.enum-told6.given.1))
+    (begin-node a.s a.at a.environment b _ _ c.before.before.before.before.before.if-s-budget.false c.before.before.opened.ensures c.enum_told-in-None-1.given.1))
 
-pub begin-spec : {M : Type 1} → statement M
-begin-spec =
+pub begin_spec : {M : Type 1} → statement M
+begin_spec =
     tie.close
     (tie.spec
     returns

@@ -12,9 +12,9 @@ use Rattle.runner.specs.Here.{here-two}
 use Rattle.runner.specs.BeginLaws.{spent-if}
 
 -- src/begin.rt:75:34
-add-after : tie.Need-overflow-add-after
+add-after : tie.Need-overflow_add-at
 add-after c =
-    record { fits = omega (arith, here-two _ c.before.before.before.requires.1.2.here, c.before.before.before.well-formed.0) }
+    record { fits = omega (arith, here-two _ c.before.before.before.requires.1.2.here, c.before.before.before.well_formed.0) }
 
 -- src/begin.rt:75:15
 after-requires : tie.Need-after-requires
@@ -22,9 +22,9 @@ after-requires c κs =
     search rules
 
 -- src/begin.rt:80:23
-add-wait : tie.Need-overflow-add-wait
+add-wait : tie.Need-overflow_add-at-2
 add-wait c =
-    record { fits = omega (arith, here-two _ c.before.before.before.before.before.requires.1.2.here, c.before.before.before.before.before.well-formed.0) }
+    record { fits = omega (arith, here-two _ c.before.before.before.before.before.requires.1.2.here, c.before.before.before.before.before.well_formed.0) }
 
 -- src/begin.rt:80:5
 wait-requires : tie.Need-wait-requires
@@ -32,7 +32,7 @@ wait-requires c κs =
     search rules
 
 -- src/begin.rt:62:1
-same_length : tie.Need-same-length
+same_length : tie.Need-shape_of-table
 same_length c =
     search rules
 
@@ -41,6 +41,6 @@ returns : tie.Need-returns
 returns c =
     λ budget whole x. rw (c.before.before.wait.ensures.0, c.before.before.wait.ensures.1) (spent-if c.before.before.before.before.before.before.before.before.args.s c.before.before.before.before.before.before.before.before.args.at c.before.before.before.before.before.before.before.before.args.environment x _ (c.before.before.before.before.after.ensures x.is.test x.is.branches.test))
 
-pub test-spec : {M : Type 1} → statement M
-test-spec =
+pub test_spec : {M : Type 1} → statement M
+test_spec =
     tie.close (tie.spec add-after after-requires add-wait wait-requires same_length returns)

@@ -18,25 +18,25 @@ find-requires c κs =
     let p = c.before.before.requires in seeks-bound c.before.before.args.s c.before.before.args.n c.before.before.args.environment p.1.2
 
 -- src/begin.rt:55:22
-enum-known-v : tie.Need-enum-known-v
+enum-known-v : tie.Need-enum_known-v
 enum-known-v c =
     search rules
 
 -- src/begin.rt:56:9
-enum_told : tie.Need-enum-told
+enum_told : tie.Need-enum_told-1
 enum_told c =
     search rules
 
 -- src/begin.rt:56:9
-same_length : tie.Need-same-length
+same_length : tie.Need-shape_of-table-in_default
 same_length c =
     search rules
 
 -- src/begin.rt:56:9
-returns : tie.Need-returns
+returns : tie.Need-returns-in_default
 returns c =
     λ ws budget whole k. seeks-none c.before.before.before.before.before.args.s c.before.before.before.before.before.args.n c.before.before.before.before.before.args.environment k
-    (subst (λ (r : Found). FoundIs ws c.before.before.before.before.before.args.table.now c.before.before.before.before.before.args.environment (S.find c.before.before.before.before.before.args.n k.environment) r) c.enum_told.given.1 (c.before.before.find.ensures ws k.environment k.bound))
+    (subst (λ (r : Found). FoundIs ws c.before.before.before.before.before.args.table.now c.before.before.before.before.before.args.environment (S.find c.before.before.before.before.before.args.n k.environment) r) c.enum_told-1.given.1 (c.before.before.find.ensures ws k.environment k.bound))
 
 -- src/begin.rt:58:5
 push-requires : tie.Need-push-requires
@@ -47,23 +47,23 @@ push-requires c κs =
         p.1.0,
         p.1.1,
         seeks-found c.before.before.before.before.before.before.before.args.s c.before.before.before.before.before.before.before.args.n c.before.before.before.before.before.before.before.args.environment p.1.2 _
-            (subst (λ (r : Found). FoundIs p.0 c.before.before.before.before.before.before.before.args.table.now c.before.before.before.before.before.before.before.args.environment (S.find c.before.before.before.before.before.before.before.args.n p.1.2.environment) r) c.before.before.v.given.1 (c.before.before.before.before.find.ensures p.0 p.1.2.environment p.1.2.bound)),
+            (subst (λ (r : Found). FoundIs p.0 c.before.before.before.before.before.before.before.args.table.now c.before.before.before.before.before.before.before.args.environment (S.find c.before.before.before.before.before.before.before.args.n p.1.2.environment) r) c.before.before.v-1.given.1 (c.before.before.before.before.find.ensures p.0 p.1.2.environment p.1.2.bound)),
       ),
     )
 
 -- src/begin.rt:51:1
-same-length-2 : tie.Need-same-length-2
+same-length-2 : tie.Need-shape_of-table
 same-length-2 c =
     search rules
 
 -- src/begin.rt:51:1
-returns-2 : tie.Need-returns-2
+returns-2 : tie.Need-returns
 returns-2 c =
     λ ws budget whole k. c.before.before.push.ensures ws budget whole (seeks-found c.before.before.before.before.before.before.before.before.before.before.args.s c.before.before.before.before.before.before.before.before.before.before.args.n c.before.before.before.before.before.before.before.before.before.before.args.environment k _
-    (subst (λ (r : Found). FoundIs ws c.before.before.before.before.before.before.before.before.before.before.args.table.now c.before.before.before.before.before.before.before.before.before.before.args.environment (S.find c.before.before.before.before.before.before.before.before.before.before.args.n k.environment) r) c.before.before.before.before.before.v.given.1 (c.before.before.before.before.before.before.before.find.ensures ws k.environment k.bound)))
+    (subst (λ (r : Found). FoundIs ws c.before.before.before.before.before.before.before.before.before.before.args.table.now c.before.before.before.before.before.before.before.before.before.before.args.environment (S.find c.before.before.before.before.before.before.before.before.before.before.args.n k.environment) r) c.before.before.before.before.before.v-1.given.1 (c.before.before.before.before.before.before.before.find.ensures ws k.environment k.bound)))
 
-pub variable-spec : {M : Type 1} → statement M
-variable-spec =
+pub variable_spec : {M : Type 1} → statement M
+variable_spec =
     tie.close
     (tie.spec
     find-requires

@@ -12,17 +12,17 @@ use Rattle.runner.specs.declared.rows.Value as R
 use Rattle.runner.specs.ComeLaws.{head-other}
 
 -- src/come.rt:138:13
-sub-n : tie.Need-overflow-sub-n
+sub-n : tie.Need-overflow_sub-n
 sub-n c =
     search rules
 
 -- src/come.rt:138:13
-sub-n-2 : tie.Need-overflow-sub-n-2
+sub-n-2 : tie.Need-overflow_sub-n-2
 sub-n-2 c =
     search rules
 
 -- src/come.rt:139:9
-value-at-requires : tie.Need-value-at-requires
+value-at-requires : tie.Need-value_at-head-requires
 value-at-requires c κs =
     search rules
 
@@ -32,43 +32,43 @@ call-requires c κs =
     search rules
 
 -- src/come.rt:141:9
-same_length : tie.Need-same-length
+same_length : tie.Need-shape_of-table-then-head-eq-CLOSURE
 same_length c =
     search rules
 
 -- src/come.rt:141:9
-returns : tie.Need-returns
+returns : tie.Need-returns-then-head-eq-CLOSURE
 returns c =
     search rules
 
 -- src/come.rt:144:9
 operation-requires : tie.Need-operation-requires
 operation-requires c κs =
-    let p = c.before.before.before.before.before.before.before.before.before.before.requires in (c.before.before.before.before.before.value-at.ensures, c.before.if2.true, (c.before.before.before.before.before.before.before.before.before.before.args.words.now, p))
+    let p = c.before.before.before.before.before.before.before.before.before.before.requires in (c.before.before.before.before.before.value_at-head.ensures, c.before.if-head-eq-OPERATION.true, (c.before.before.before.before.before.before.before.before.before.before.args.words.now, p))
 
 -- src/come.rt:144:9
-same-length-2 : tie.Need-same-length-2
+same-length-2 : tie.Need-shape_of-table-then-head-eq-OPERATION
 same-length-2 c =
     search rules
 
 -- src/come.rt:144:9
-returns-2 : tie.Need-returns-2
+returns-2 : tie.Need-returns-then-head-eq-OPERATION
 returns-2 c =
     λ budget whole x. c.before.before.operation.ensures c.before.before.before.before.before.before.before.before.before.before.before.before.before.args.words.now budget whole x
 
 -- src/come.rt:134:1
-same-length-3 : tie.Need-same-length-3
+same-length-3 : tie.Need-shape_of-table
 same-length-3 c =
     search rules
 
 -- src/come.rt:134:1
-returns-3 : tie.Need-returns-3
+returns-3 : tie.Need-returns
 returns-3 c =
     λ budget whole x. head-other c.before.before.before.before.before.before.before.before.before.args.s c.before.before.before.before.before.before.before.before.before.args.base _ x
-    (λ e. c.before.before.if1.false (ap (λ (v : R.Value). v.kind) c.before.before.before.before.value-at.ensures ∙ e)) (λ e. c.if2.false (ap (λ (v : R.Value). v.kind) c.before.before.before.before.value-at.ensures ∙ e))
+    (λ e. c.before.before.if-head-eq-CLOSURE.false (ap (λ (v : R.Value). v.kind) c.before.before.before.before.value_at-head.ensures ∙ e)) (λ e. c.if-head-eq-OPERATION.false (ap (λ (v : R.Value). v.kind) c.before.before.before.before.value_at-head.ensures ∙ e))
 
-pub apply-spec : {M : Type 1} → statement M
-apply-spec =
+pub apply_spec : {M : Type 1} → statement M
+apply_spec =
     tie.close
     (tie.spec
     sub-n

@@ -11,17 +11,17 @@ use mathlib.Core.Path.{◌≡◌, sym, ◌∙◌}
 use Rattle.runner.specs.ComeLaws.{testing-yes, testing-no}
 
 -- src/come.rt:48:15
-sub-top : tie.Need-overflow-sub-top
+sub-top : tie.Need-overflow_sub-top
 sub-top c =
     search rules
 
 -- src/come.rt:52:17
-sub-t8 : tie.Need-overflow-sub-t8
+sub-t8 : tie.Need-overflow_sub-popped
 sub-t8 c =
     search rules
 
 -- src/come.rt:55:14
-value-at-requires : tie.Need-value-at-requires
+value-at-requires : tie.Need-value_at-requires
 value-at-requires c κs =
     search rules
 
@@ -31,10 +31,10 @@ holds-requires c κs =
     search rules
 
 -- src/come.rt:56:9
-returns : tie.Need-returns
+returns : tie.Need-returns-then-holds
 returns c =
     λ budget whole x. testing-yes c.before.before.before.before.before.before.before.before.args.s c.before.before.before.before.before.before.before.before.args.f x
-    (sym c.if1.true ∙ c.before.holds.ensures c.before.before.before.before.before.before.before.before.args.words.now c.before.before.before.before.before.before.before.before.args.table.now c.before.before.before.before.before.before.before.before.args.s.cells x.value (rw c.before.before.value-at.ensures x.is.is))
+    (sym c.if-holds.true ∙ c.before.holds.ensures c.before.before.before.before.before.before.before.before.args.words.now c.before.before.before.before.before.before.before.before.args.table.now c.before.before.before.before.before.before.before.before.args.s.cells x.value (rw c.before.before.value_at.ensures x.is.is))
 
 -- src/come.rt:58:26
 after-requires : tie.Need-after-requires
@@ -42,13 +42,13 @@ after-requires c κs =
     search rules
 
 -- src/come.rt:44:1
-returns-2 : tie.Need-returns-2
+returns-2 : tie.Need-returns
 returns-2 c =
     λ budget whole x. testing-no c.before.before.before.before.before.before.before.before.before.args.s c.before.before.before.before.before.before.before.before.before.args.f x
-    (sym c.before.if1.false ∙ c.before.before.holds.ensures c.before.before.before.before.before.before.before.before.before.args.words.now c.before.before.before.before.before.before.before.before.before.args.table.now c.before.before.before.before.before.before.before.before.before.args.s.cells x.value (rw c.before.before.before.value-at.ensures x.is.is))
+    (sym c.before.if-holds.false ∙ c.before.before.holds.ensures c.before.before.before.before.before.before.before.before.before.args.words.now c.before.before.before.before.before.before.before.before.before.args.table.now c.before.before.before.before.before.before.before.before.before.args.s.cells x.value (rw c.before.before.before.value_at.ensures x.is.is))
     _ (c.after.ensures x.yes x.here)
 
-pub branch-spec : {M : Type 1} → statement M
-branch-spec =
+pub branch_spec : {M : Type 1} → statement M
+branch_spec =
     tie.close
     (tie.spec sub-top sub-t8 value-at-requires holds-requires returns after-requires returns-2)

@@ -14,87 +14,87 @@ use Rattle.runner.specs.declared.rows.Frame.{Frame}
 use Rattle.runner.specs.ComeLaws.{come-test, come-part, come-last}
 
 -- src/come.rt:154:29
-sub-frame-at : tie.Need-overflow-sub-frame-at
+sub-frame-at : tie.Need-overflow_sub-s
 sub-frame-at c =
     search rules
 
 -- src/come.rt:154:9
-frame-at-requires : tie.Need-frame-at-requires
+frame-at-requires : tie.Need-frame_at-f-requires
 frame-at-requires c κs =
     search rules
 
 -- src/come.rt:156:9
-branch-requires : tie.Need-branch-requires
+branch-requires : tie.Need-branch-words-requires
 branch-requires c κs =
-    let a = c.before.before.before.before.before.before.before.before.before.args in let p = c.before.before.before.before.before.before.before.before.before.requires in let e = c.before.before.before.frame_at.ensures in
-    (p.0, (p.2.0, p.2.1, rw e (come-test a.s p.2.2 p.1 (sym (ap (λ (f : Frame). f.what) e) ∙ c.before.if1.true))))
+    let a = c.before.before.before.before.before.before.before.before.before.args in let p = c.before.before.before.before.before.before.before.before.before.requires in let e = c.before.before.before.frame_at-f.ensures in
+    (p.0, (p.2.0, p.2.1, rw e (come-test a.s p.2.2 p.1 (sym (ap (λ (f : Frame). f.what) e) ∙ c.before.if-f-eq-TEST.true))))
 
 -- src/come.rt:156:9
-same_length : tie.Need-same-length
+same_length : tie.Need-shape_of-table-then-f-eq-TEST
 same_length c =
     search rules
 
 -- src/come.rt:156:9
-returns : tie.Need-returns
+returns : tie.Need-returns-then-f-eq-TEST
 returns c =
-    λ budget whole x. let a = c.before.before.before.before.before.before.before.before.before.before.args in let p = c.before.before.before.before.before.before.before.before.before.before.requires in let e = c.before.before.before.before.frame_at.ensures in
-    c.branch.ensures budget whole (rw e (come-test a.s x p.1 (sym (ap (λ (f : Frame). f.what) e) ∙ c.before.before.if1.true)))
+    λ budget whole x. let a = c.before.before.before.before.before.before.before.before.before.before.args in let p = c.before.before.before.before.before.before.before.before.before.before.requires in let e = c.before.before.before.before.frame_at-f.ensures in
+    c.branch-words.ensures budget whole (rw e (come-test a.s x p.1 (sym (ap (λ (f : Frame). f.what) e) ∙ c.before.before.if-f-eq-TEST.true)))
 
 -- src/come.rt:159:9
 part-requires : tie.Need-part-requires
 part-requires c κs =
-    let a = c.before.before.before.before.before.before.before.before.before.before.before.args in let p = c.before.before.before.before.before.before.before.before.before.before.before.requires in let e = c.before.before.before.before.before.frame_at.ensures in (
+    let a = c.before.before.before.before.before.before.before.before.before.before.before.args in let p = c.before.before.before.before.before.before.before.before.before.before.before.requires in let e = c.before.before.before.before.before.frame_at-f.ensures in (
       p.0,
-      c.before.if2.true,
+      c.before.if-f-gt0.true,
       (
         p.2.0,
         p.2.1,
-        rw e (come-part a.s p.2.2 p.1 (λ i. c.before.before.before.if1.false (ap (λ (f : Frame). f.what) e ∙ i))
-            (subst (λ (f : Frame). 0 < f.left) e c.before.if2.true)),
+        rw e (come-part a.s p.2.2 p.1 (λ i. c.before.before.before.if-f-eq-TEST.false (ap (λ (f : Frame). f.what) e ∙ i))
+            (subst (λ (f : Frame). 0 < f.left) e c.before.if-f-gt0.true)),
       ),
     )
 
 -- src/come.rt:159:9
-same-length-2 : tie.Need-same-length-2
+same-length-2 : tie.Need-shape_of-table-then-f-gt0
 same-length-2 c =
     search rules
 
 -- src/come.rt:159:9
-returns-2 : tie.Need-returns-2
+returns-2 : tie.Need-returns-then-f-gt0
 returns-2 c =
-    λ budget whole x. let a = c.before.before.before.before.before.before.before.before.before.before.before.before.before.before.args in let p = c.before.before.before.before.before.before.before.before.before.before.before.before.before.before.requires in let e = c.before.before.before.before.before.before.before.before.frame_at.ensures in
-    c.before.before.part.ensures budget whole (rw e (come-part a.s x p.1 (λ i. c.before.before.before.before.before.before.if1.false (ap (λ (f : Frame). f.what) e ∙ i))
-    (subst (λ (f : Frame). 0 < f.left) e c.before.before.before.before.if2.true)))
+    λ budget whole x. let a = c.before.before.before.before.before.before.before.before.before.before.before.before.before.before.args in let p = c.before.before.before.before.before.before.before.before.before.before.before.before.before.before.requires in let e = c.before.before.before.before.before.before.before.before.frame_at-f.ensures in
+    c.before.before.part.ensures budget whole (rw e (come-part a.s x p.1 (λ i. c.before.before.before.before.before.before.if-f-eq-TEST.false (ap (λ (f : Frame). f.what) e ∙ i))
+    (subst (λ (f : Frame). 0 < f.left) e c.before.before.before.before.if-f-gt0.true)))
 
 -- src/come.rt:161:28
-cast_apply : tie.Need-overflow-cast-apply
+cast_apply : tie.Need-overflow_cast-f
 cast_apply c =
     search rules
 
 -- src/come.rt:161:5
 apply-requires : tie.Need-apply-requires
 apply-requires c κs =
-    let a = c.before.before.before.before.before.before.before.before.before.before.before.before.args in let p = c.before.before.before.before.before.before.before.before.before.before.before.before.requires in let e = c.before.before.before.before.before.before.frame_at.ensures in (
+    let a = c.before.before.before.before.before.before.before.before.before.before.before.before.args in let p = c.before.before.before.before.before.before.before.before.before.before.before.before.requires in let e = c.before.before.before.before.before.before.frame_at-f.ensures in (
       p.2.0,
       p.2.1,
-      rw e (come-last a.s p.2.2 p.1 (λ i. c.before.before.before.before.if1.false (ap (λ (f : Frame). f.what) e ∙ i))
-          (subst (λ (f : Frame). f.left ≤ 0) e c.before.before.if2.false)),
+      rw e (come-last a.s p.2.2 p.1 (λ i. c.before.before.before.before.if-f-eq-TEST.false (ap (λ (f : Frame). f.what) e ∙ i))
+          (subst (λ (f : Frame). f.left ≤ 0) e c.before.before.if-f-gt0.false)),
     )
 
 -- src/come.rt:150:1
-same-length-3 : tie.Need-same-length-3
+same-length-3 : tie.Need-shape_of-table
 same-length-3 c =
     search rules
 
 -- src/come.rt:150:1
-returns-3 : tie.Need-returns-3
+returns-3 : tie.Need-returns
 returns-3 c =
-    λ budget whole x. let a = c.before.before.before.before.before.before.before.before.before.before.before.before.before.before.before.args in let p = c.before.before.before.before.before.before.before.before.before.before.before.before.before.before.before.requires in let e = c.before.before.before.before.before.before.before.before.before.frame_at.ensures in
-    c.before.before.apply.ensures budget whole (rw e (come-last a.s x p.1 (λ i. c.before.before.before.before.before.before.before.if1.false (ap (λ (f : Frame). f.what) e ∙ i))
-    (subst (λ (f : Frame). f.left ≤ 0) e c.before.before.before.before.before.if2.false)))
+    λ budget whole x. let a = c.before.before.before.before.before.before.before.before.before.before.before.before.before.before.before.args in let p = c.before.before.before.before.before.before.before.before.before.before.before.before.before.before.before.requires in let e = c.before.before.before.before.before.before.before.before.before.frame_at-f.ensures in
+    c.before.before.apply.ensures budget whole (rw e (come-last a.s x p.1 (λ i. c.before.before.before.before.before.before.before.if-f-eq-TEST.false (ap (λ (f : Frame). f.what) e ∙ i))
+    (subst (λ (f : Frame). f.left ≤ 0) e c.before.before.before.before.before.if-f-gt0.false)))
 
-pub come-spec : {M : Type 1} → statement M
-come-spec =
+pub come_spec : {M : Type 1} → statement M
+come_spec =
     tie.close
     (tie.spec
     sub-frame-at

@@ -6,14 +6,14 @@ use Rattle.runner.proofs.come.holds.Lts as lts
 use Rattle.runner.specs.ComeLaws.{holds-boolean, holds-other}
 
 -- src/come.rt:38:9
-returns : tie.Need-returns
+returns : tie.Need-returns-then-v-eq-BOOLEAN
 returns c =
-    λ ws t top x i. holds-boolean c.before.if1.true i
+    λ ws t top x i. holds-boolean c.before.if-v-eq-BOOLEAN.true i
 
 -- src/come.rt:34:1
-returns-2 : tie.Need-returns-2
+returns-2 : tie.Need-returns
 returns-2 c =
-    λ ws t top x i. holds-other c.if1.false i
+    λ ws t top x i. holds-other c.if-v-eq-BOOLEAN.false i
 
-pub holds-spec : {M : Type 1} → statement M
-holds-spec = tie.close (tie.spec returns returns-2)
+pub holds_spec : {M : Type 1} → statement M
+holds_spec = tie.close (tie.spec returns returns-2)

@@ -11,52 +11,52 @@ use native.Mathlib.Omega.{arith}
 use Rattle.runner.specs.ComeLaws.{place_of, operation-number, operation-first, operation-second, made-value, made-ground}
 
 -- src/come.rt:109:9
-returns : tie.Need-returns
+returns : tie.Need-returns-then-n-ne2
 returns c =
     λ ws budget whole x. let a = c.before.before.args in let p = c.before.before.requires in
-    operation-number a.s a.base a.n x a.head p.0 p.1 c.if1.true
+    operation-number a.s a.base a.n x a.head p.0 p.1 c.if-n-ne2.true
 
 -- src/come.rt:111:29
-add-value-at : tie.Need-overflow-add-value-at
+add-value-at : tie.Need-overflow_add-base
 add-value-at c =
     search rules
 
 -- src/come.rt:111:9
-value-at-requires : tie.Need-value-at-requires
+value-at-requires : tie.Need-value_at-x-requires
 value-at-requires c κs =
     search rules
 
 -- src/come.rt:113:9
-same_length : tie.Need-same-length
+same_length : tie.Need-shape_of-table-then-x-ne-NUMBER
 same_length c =
     search rules
 
 -- src/come.rt:113:9
-returns-2 : tie.Need-returns-2
+returns-2 : tie.Need-returns-then-x-ne-NUMBER
 returns-2 c =
     λ ws budget whole x. let a = c.before.before.before.before.before.before.args in let p = c.before.before.before.before.before.before.requires in
-    operation-first a.s a.base a.n x a.head p.0 p.1 c.before.before.before.before.if1.false _ c.before.before.value-at.ensures c.if2.true
+    operation-first a.s a.base a.n x a.head p.0 p.1 c.before.before.before.before.if-n-ne2.false _ c.before.before.value_at-x.ensures c.if-x-ne-NUMBER.true
 
 -- src/come.rt:115:29
-add-value-at-2 : tie.Need-overflow-add-value-at-2
+add-value-at-2 : tie.Need-overflow_add-base-2
 add-value-at-2 c =
     search rules
 
 -- src/come.rt:115:9
-value-at-requires-2 : tie.Need-value-at-requires-2
+value-at-requires-2 : tie.Need-value_at-y-requires
 value-at-requires-2 c κs =
-    let p = c.before.before.before.before.before.before.before.requires in let x = p.2.1.2 in omega (arith, x.rows, x.room.rows, x.room.within, x.room.lent, c.before.before.before.before.before.if1.false)
+    let p = c.before.before.before.before.before.before.before.requires in let x = p.2.1.2 in omega (arith, x.rows, x.room.rows, x.room.within, x.room.lent, c.before.before.before.before.before.if-n-ne2.false)
 
 -- src/come.rt:117:9
-same-length-2 : tie.Need-same-length-2
+same-length-2 : tie.Need-shape_of-table-then-y-ne-NUMBER
 same-length-2 c =
     search rules
 
 -- src/come.rt:117:9
-returns-3 : tie.Need-returns-3
+returns-3 : tie.Need-returns-then-y-ne-NUMBER
 returns-3 c =
     λ ws budget whole x. let a = c.before.before.before.before.before.before.before.before.before.before.args in let p = c.before.before.before.before.before.before.before.before.before.before.requires in
-    operation-second a.s a.base a.n x a.head p.0 p.1 c.before.before.before.before.before.before.before.before.if1.false _ c.before.before.before.before.before.before.value-at.ensures c.before.before.before.before.if2.false _ c.before.before.value-at2.ensures c.if3.true
+    operation-second a.s a.base a.n x a.head p.0 p.1 c.before.before.before.before.before.before.before.before.if-n-ne2.false _ c.before.before.before.before.before.before.value_at-x.ensures c.before.before.before.before.if-x-ne-NUMBER.false _ c.before.before.value_at-y.ensures c.if-y-ne-NUMBER.true
 
 -- src/come.rt:119:11
 operate-requires : tie.Need-operate-requires
@@ -64,12 +64,12 @@ operate-requires c κs =
     let a = c.before.before.before.before.before.before.before.before.before.before.args in let p = c.before.before.before.before.before.before.before.before.before.before.requires in (place_of a.s a.base a.n p.2.1.2 a.head p.0 p.1).1
 
 -- src/come.rt:120:21
-enum-known-v : tie.Need-enum-known-v
+enum-known-v : tie.Need-enum_known-v
 enum-known-v c =
     search rules
 
 -- src/come.rt:124:25
-sub-t19 : tie.Need-overflow-sub-t19
+sub-t19 : tie.Need-overflow_sub-popped
 sub-t19 c =
     let p = c.before.before.before.before.before.before.before.before.before.before.before.before.before.before.before.requires in let x = p.2.1.2 in omega (arith, x.framed)
 
@@ -81,43 +81,43 @@ push-requires c κs =
       (
         q.1.0,
         q.1.1,
-        made-value a.s a.base a.n q.1.2 a.head p.0 p.1 c.before.before.before.before.before.before.before.before.before.before.before.before.before.before.if1.false _ c.before.before.before.before.before.before.before.before.before.before.before.before.value-at.ensures c.before.before.before.before.before.before.before.before.before.before.if2.false
-            _ c.before.before.before.before.before.before.before.before.value-at2.ensures c.before.before.before.before.before.before.if3.false _ c.before.before.before.before.before.operate.ensures _ c.before.before.before.v.given.1,
+        made-value a.s a.base a.n q.1.2 a.head p.0 p.1 c.before.before.before.before.before.before.before.before.before.before.before.before.before.before.if-n-ne2.false _ c.before.before.before.before.before.before.before.before.before.before.before.before.value_at-x.ensures c.before.before.before.before.before.before.before.before.before.before.if-x-ne-NUMBER.false
+            _ c.before.before.before.before.before.before.before.before.value_at-y.ensures c.before.before.before.before.before.before.if-y-ne-NUMBER.false _ c.before.before.before.before.before.operate.ensures _ c.before.before.before.v-1.given.1,
       ),
     )
 
 -- src/come.rt:129:22
-enum-known-g : tie.Need-enum-known-g
+enum-known-g : tie.Need-enum_known-g
 enum-known-g c =
     search rules
 
 -- src/come.rt:104:1
-same-length-3 : tie.Need-same-length-3
+same-length-3 : tie.Need-shape_of-table-in-Value
 same-length-3 c =
     search rules
 
 -- src/come.rt:104:1
-returns-4 : tie.Need-returns-4
+returns-4 : tie.Need-returns-in-Value
 returns-4 c =
     λ ws budget whole x. let a = c.before.before.before.before.before.before.before.before.before.before.before.before.before.before.before.before.before.before.before.args in let p = c.before.before.before.before.before.before.before.before.before.before.before.before.before.before.before.before.before.before.before.requires in
-    let y = c.before.before.push.ensures ws budget whole (made-value a.s a.base a.n x a.head p.0 p.1 c.before.before.before.before.before.before.before.before.before.before.before.before.before.before.before.before.before.if1.false _ c.before.before.before.before.before.before.before.before.before.before.before.before.before.before.before.value-at.ensures c.before.before.before.before.before.before.before.before.before.before.before.before.before.if2.false
-    _ c.before.before.before.before.before.before.before.before.before.before.before.value-at2.ensures c.before.before.before.before.before.before.before.before.before.if3.false _ c.before.before.before.before.before.before.before.before.operate.ensures _ c.before.before.before.before.before.before.v.given.1) in
+    let y = c.before.before.push.ensures ws budget whole (made-value a.s a.base a.n x a.head p.0 p.1 c.before.before.before.before.before.before.before.before.before.before.before.before.before.before.before.before.before.if-n-ne2.false _ c.before.before.before.before.before.before.before.before.before.before.before.before.before.before.before.value_at-x.ensures c.before.before.before.before.before.before.before.before.before.before.before.before.before.if-x-ne-NUMBER.false
+    _ c.before.before.before.before.before.before.before.before.before.before.before.value_at-y.ensures c.before.before.before.before.before.before.before.before.before.if-y-ne-NUMBER.false _ c.before.before.before.before.before.before.before.before.operate.ensures _ c.before.before.before.before.before.before.v-1.given.1) in
     (y.0, omega (arith, y.1, x.framed))
 
 -- src/come.rt:104:1
-same-length-4 : tie.Need-same-length-4
+same-length-4 : tie.Need-shape_of-table-in-Ground
 same-length-4 c =
     search rules
 
 -- src/come.rt:104:1
-returns-5 : tie.Need-returns-5
+returns-5 : tie.Need-returns-in-Ground
 returns-5 c =
     λ ws budget whole x. let a = c.before.before.before.before.before.before.before.before.before.before.before.before.before.before.args in let p = c.before.before.before.before.before.before.before.before.before.before.before.before.before.before.requires in
-    made-ground a.s a.base a.n x a.head p.0 p.1 c.before.before.before.before.before.before.before.before.before.before.before.before.if1.false _ c.before.before.before.before.before.before.before.before.before.before.value-at.ensures c.before.before.before.before.before.before.before.before.if2.false
-    _ c.before.before.before.before.before.before.value-at2.ensures c.before.before.before.before.if3.false _ c.before.before.before.operate.ensures _ c.before.g.given.1
+    made-ground a.s a.base a.n x a.head p.0 p.1 c.before.before.before.before.before.before.before.before.before.before.before.before.if-n-ne2.false _ c.before.before.before.before.before.before.before.before.before.before.value_at-x.ensures c.before.before.before.before.before.before.before.before.if-x-ne-NUMBER.false
+    _ c.before.before.before.before.before.before.value_at-y.ensures c.before.before.before.before.if-y-ne-NUMBER.false _ c.before.before.before.operate.ensures _ c.before.g-1.given.1
 
-pub operation-spec : {M : Type 1} → statement M
-operation-spec =
+pub operation_spec : {M : Type 1} → statement M
+operation_spec =
     tie.close
     (tie.spec
     returns

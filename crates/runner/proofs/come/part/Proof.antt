@@ -14,30 +14,30 @@ after-requires c κs =
     search rules
 
 -- src/come.rt:69:15
-sub-t8 : tie.Need-overflow-sub-t8
+sub-t8 : tie.Need-overflow_sub-waiting
 sub-t8 c =
     search rules
 
 -- src/come.rt:73:22
-sub-put-frame : tie.Need-overflow-sub-put-frame
+sub-put-frame : tie.Need-overflow_sub-s
 sub-put-frame c =
     search rules
 
 -- src/come.rt:73:5
-put-frame-requires : tie.Need-put-frame-requires
+put-frame-requires : tie.Need-put_frame-requires
 put-frame-requires c κs =
     search rules
 
 -- src/come.rt:62:1
-same_length : tie.Need-same-length
+same_length : tie.Need-shape_of-table
 same_length c =
     search rules
 
 -- src/come.rt:62:1
 returns : tie.Need-returns
 returns c =
-    λ budget whole x. rw c.before.before.put-frame.ensures (parting-begins c.before.before.before.before.before.before.before.before.before.before.args.s c.before.before.before.before.before.before.before.before.before.before.args.f x _ (c.before.before.before.before.before.before.after.ensures x.first x.parts.one))
+    λ budget whole x. rw c.before.before.put_frame.ensures (parting-begins c.before.before.before.before.before.before.before.before.before.before.args.s c.before.before.before.before.before.before.before.before.before.before.args.f x _ (c.before.before.before.before.before.before.after.ensures x.first x.parts.one))
 
-pub part-spec : {M : Type 1} → statement M
-part-spec =
+pub part_spec : {M : Type 1} → statement M
+part_spec =
     tie.close (tie.spec after-requires sub-t8 sub-put-frame put-frame-requires same_length returns)

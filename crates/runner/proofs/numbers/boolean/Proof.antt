@@ -5,13 +5,13 @@ use mathlib.Core.Path.{refl, ap}
 use Rattle.evaluation.specs.Evaluate.{boolean_v}
 use Rattle.runner.specs.Rows.{boolean_i}
 
-returns : tie.Need-returns
+returns : tie.Need-returns-then-b
 returns c =
-    λ ws t top. boolean_i refl (ap boolean_v c.if1.true)
+    λ ws t top. boolean_i refl (ap boolean_v c.if-b.true)
 
-returns-2 : tie.Need-returns-2
+returns-2 : tie.Need-returns
 returns-2 c =
-    λ ws t top. boolean_i refl (ap boolean_v c.if1.false)
+    λ ws t top. boolean_i refl (ap boolean_v c.if-b.false)
 
-pub boolean-spec : {M : Type 1} → statement M
-boolean-spec = tie.close (tie.spec returns returns-2)
+pub boolean_spec : {M : Type 1} → statement M
+boolean_spec = tie.close (tie.spec returns returns-2)

@@ -4,16 +4,16 @@ use Rattle.runner.proofs.numbers.lowered.Statement.{statement}
 use Rattle.runner.proofs.numbers.lowered.Tie as tie
 use Rattle.runner.specs.NumberLaws.{lowered-low, lowered-high}
 
-returns : tie.Need-returns
+returns : tie.Need-returns-then-n-lt-HALF
 returns c =
-    lowered-low c.before.args.n c.if1.true
+    lowered-low c.before.args.n c.if-n-lt-HALF.true
 
-returns-2 : tie.Need-returns-2
+returns-2 : tie.Need-returns-else-n-lt-HALF
 returns-2 c =
-    lowered-high c.before.args.n c.if1.false c.before.requires
+    lowered-high c.before.args.n c.if-n-lt-HALF.false c.before.requires
 
-pub lowered-spec : {M : Type 1} → statement M
-lowered-spec = tie.close
+pub lowered_spec : {M : Type 1} → statement M
+lowered_spec = tie.close
     (tie.spec
     (λ c. search rules)  -- add-result
     (λ c. search rules)  -- cast-result

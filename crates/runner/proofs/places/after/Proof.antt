@@ -8,14 +8,14 @@ use Rattle.runner.proofs.places.skip.Reads as skip-reads
 use Rattle.words.proofs.casts.word.Reads as word-reads
 use mathlib.Core.Path.{◌∙◌}
 
-returns : tie.Need-returns
+returns : tie.Need-returns-then-end-ne0
 returns c =
     let at-word = c.before in
     let at-args = at-word.before.before.before.before.before in
-    rw at-word.word.ensures (at-args.requires.0.known at-args.args.at (λ z. c.if2.true (at-word.word.ensures ∙ z)))
+    rw at-word.word-end.ensures (at-args.requires.0.known at-args.args.at (λ z. c.if-end-ne0.true (at-word.word-end.ensures ∙ z)))
 
-pub after-spec : {M : Type 1} → statement M
-after-spec =
+pub after_spec : {M : Type 1} → statement M
+after_spec =
     tie.close
     (tie.spec
     (λ c. search rules)  -- mul-word

@@ -10,69 +10,69 @@ use Prim.Native.Nat.{◌-◌}
 use lib.ListN.{length}
 use Rattle.runner.specs.Due.{Going, going_start, going_end, going-inside, going-sizes, going-inner}
 
-abbrev invariant-loop : tie.invariant-loop
+abbrev invariant-loop : tie.invariant-loop-due
 invariant-loop words place at₀ due₀ at due =
     Going words place at due
 
-abbrev decreases-loop : tie.decreases-loop
+abbrev decreases-loop : tie.decreases-loop-due
 decreases-loop words place at₀ due₀ at due =
     length words - at
 
-loop-holds : tie.Need-loop-init invariant-loop decreases-loop
+loop-holds : tie.Need-loop-due-init invariant-loop decreases-loop
 loop-holds c =
     going_start _ c.before.requires
 
-mul-shape-at : tie.Need-overflow-mul-shape-at invariant-loop decreases-loop
+mul-shape-at : tie.Need-offset_bounds-words-at invariant-loop decreases-loop
 mul-shape-at c =
-    record { fits = omega (arith, going-inside c.loop-test.true c.before.loop.invariant, c.before.before.before.well-formed.0) }
+    record { fits = omega (arith, going-inside c.loop-due-test.true c.before.loop-due.invariant, c.before.before.before.well_formed.0) }
 
-sub-shape-at : tie.Need-overflow-sub-shape-at invariant-loop decreases-loop
+sub-shape-at : tie.Need-slice_bounds-shape_at-count invariant-loop decreases-loop
 sub-shape-at c =
-    omega (arith, going-inside c.loop-test.true c.before.loop.invariant)
+    omega (arith, going-inside c.loop-due-test.true c.before.loop-due.invariant)
 
-part-shape-at-start : tie.Need-slice-bounds-shape-at-start invariant-loop decreases-loop
+part-shape-at-start : tie.Need-slice_bounds-shape_at-start invariant-loop decreases-loop
 part-shape-at-start c =
-    omega (arith, going-inside c.loop-test.true c.before.loop.invariant)
+    omega (arith, going-inside c.loop-due-test.true c.before.loop-due.invariant)
 
-add_at : tie.Need-overflow-add-at invariant-loop decreases-loop
+add_at : tie.Need-overflow_add-at invariant-loop decreases-loop
 add_at c =
     let at-shape-at = c.before in
     let at-loop-test = at-shape-at.before.before in
     let at-loop = at-loop-test.before in
-    let z = going-sizes at-loop-test.loop-test.true at-loop.loop.invariant at-shape-at.shape_at.result at-shape-at.shape_at.ensures in
-    record { fits = omega (arith, z.1, at-loop.before.before.well-formed.0) }
+    let z = going-sizes at-loop-test.loop-due-test.true at-loop.loop-due.invariant at-shape-at.shape_at-n.result at-shape-at.shape_at-n.ensures in
+    record { fits = omega (arith, z.1, at-loop.before.before.well_formed.0) }
 
-sub-due : tie.Need-overflow-sub-due invariant-loop decreases-loop
+sub-due : tie.Need-overflow_sub-due invariant-loop decreases-loop
 sub-due c =
-    omega (arith, c.before.before.before.loop-test.true)
+    omega (arith, c.before.before.before.loop-due-test.true)
 
-add-due : tie.Need-overflow-add-due invariant-loop decreases-loop
+add-due : tie.Need-overflow_add-due invariant-loop decreases-loop
 add-due c =
     let at-shape-at = c.before.before in
     let at-loop-test = at-shape-at.before.before in
     let at-loop = at-loop-test.before in
-    let z = going-sizes at-loop-test.loop-test.true at-loop.loop.invariant at-shape-at.shape_at.result at-shape-at.shape_at.ensures in
-    record { fits = omega (arith, z.2, at-loop.before.before.well-formed.0) }
+    let z = going-sizes at-loop-test.loop-due-test.true at-loop.loop-due.invariant at-shape-at.shape_at-n.result at-shape-at.shape_at-n.ensures in
+    record { fits = omega (arith, z.2, at-loop.before.before.well_formed.0) }
 
-loop-less : tie.Need-loop-smaller invariant-loop decreases-loop
+loop-less : tie.Need-loop-due-smaller invariant-loop decreases-loop
 loop-less c =
     let at-shape-at = c.before.before in
     let at-loop-test = at-shape-at.before.before in
-    let z = going-sizes at-loop-test.loop-test.true at-loop-test.before.loop.invariant at-shape-at.shape_at.result at-shape-at.shape_at.ensures in
+    let z = going-sizes at-loop-test.loop-due-test.true at-loop-test.before.loop-due.invariant at-shape-at.shape_at-n.result at-shape-at.shape_at-n.ensures in
     omega (arith, z.0, z.1)
 
-loop-again : tie.Need-loop-preserved invariant-loop decreases-loop
+loop-again : tie.Need-loop-due-preserved invariant-loop decreases-loop
 loop-again c =
     let at-shape-at = c.before.before in
     let at-loop-test = at-shape-at.before.before in
-    going-inner at-loop-test.loop-test.true at-loop-test.before.loop.invariant at-shape-at.shape_at.result at-shape-at.shape_at.ensures
+    going-inner at-loop-test.loop-due-test.true at-loop-test.before.loop-due.invariant at-shape-at.shape_at-n.result at-shape-at.shape_at-n.ensures
 
 returns : tie.Need-returns invariant-loop decreases-loop
 returns c =
-    going_end (omega (arith, c.loop-test.false)) c.before.loop.invariant
+    going_end (omega (arith, c.loop-due-test.false)) c.before.loop-due.invariant
 
-pub skip-spec : {M : Type 1} → statement M
-skip-spec =
+pub skip_spec : {M : Type 1} → statement M
+skip_spec =
     tie.close
     (tie.spec
     invariant-loop

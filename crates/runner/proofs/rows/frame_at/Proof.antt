@@ -10,8 +10,8 @@ returns c =
     let args' = at_place.before.before.before.before.before.args in
     frame-read args'.table.now args'.row at_place.place.result at_place.place.ensures
 
-pub frame-at-spec : {M : Type 1} → statement M
-frame-at-spec =
+pub frame_at_spec : {M : Type 1} → statement M
+frame_at_spec =
     tie.close
     (tie.spec
     (λ c. search rules)  -- mul-at

@@ -11,8 +11,8 @@ returns : tie.Need-returns
 returns c =
     stored-six c.args.table.now (16 * c.args.row + 10) _ _ _ _ _ _
 
-pub put-cell-spec : {M : Type 1} → statement M
-put-cell-spec =
+pub put_cell_spec : {M : Type 1} → statement M
+put_cell_spec =
     tie.close
     (tie.spec
     (λ c. search rules)  -- mul-at

@@ -11,8 +11,8 @@ returns : tie.Need-returns
 returns c =
     rw (c.before.low.ensures, c.high.ensures) (stored-six c.before.before.before.args.table.now (16 * c.before.before.before.args.row + 4) _ _ _ _ _ _)
 
-pub put-frame-spec : {M : Type 1} → statement M
-put-frame-spec =
+pub put_frame_spec : {M : Type 1} → statement M
+put_frame_spec =
     tie.close
     (tie.spec
     (λ c. search rules)  -- mul-at

@@ -11,8 +11,8 @@ returns : tie.Need-returns
 returns c =
     stored-four c.args.table.now (16 * c.args.row) _ _ _ _
 
-pub put-value-spec : {M : Type 1} → statement M
-put-value-spec =
+pub put_value_spec : {M : Type 1} → statement M
+put_value_spec =
     tie.close
     (tie.spec
     (λ c. search rules)  -- mul-at

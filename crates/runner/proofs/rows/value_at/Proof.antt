@@ -8,8 +8,8 @@ returns : tie.Need-returns
 returns c =
     value_read c.before.before.before.before.args.table.now c.before.before.before.before.args.row
 
-pub value-at-spec : {M : Type 1} → statement M
-value-at-spec =
+pub value_at_spec : {M : Type 1} → statement M
+value_at_spec =
     tie.close
     (tie.spec
     (λ c. search rules)  -- mul-at

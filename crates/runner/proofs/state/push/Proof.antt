@@ -8,24 +8,24 @@ use Rattle.runner.proofs.rows.put_value.Reads as put-value-reads
 use Rattle.runner.specs.BeginLaws.{pushed}
 
 -- src/state.rt:34:5
-put-value-requires : tie.Need-put-value-requires
+put-value-requires : tie.Need-put_value-requires
 put-value-requires c κs =
     search rules
 
 -- src/state.rt:37:17
-add-t7 : tie.Need-overflow-add-t7
+add-t7 : tie.Need-overflow_add-result
 add-t7 c =
     search rules
 
 -- src/state.rt:30:1
-same_length : tie.Need-same-length
+same_length : tie.Need-shape_of-table
 same_length c =
     search rules
 
 -- src/state.rt:30:1
 returns : tie.Need-returns
 returns c =
-    λ ws budget whole g. rw c.before.before.before.put-value.ensures (pushed c.before.before.before.before.before.before.args.s c.before.before.before.before.before.before.args.v g)
+    λ ws budget whole g. rw c.before.before.before.put_value.ensures (pushed c.before.before.before.before.before.before.args.s c.before.before.before.before.before.before.args.v g)
 
 pub push_spec : {M : Type 1} → statement M
 push_spec = tie.close (tie.spec put-value-requires add-t7 same_length returns)

@@ -10,61 +10,61 @@ use native.Mathlib.Omega.{arith}
 use borrow.Author.Rules.{rules}
 use mathlib.Core.Path.{refl, sym, ◌∙◌}
 
-copy-tree-requires : tie.Need-copy-tree-requires
+copy-tree-requires : tie.Need-copy_tree-requires
 copy-tree-requires c κs =
-    let a = c.before.before.before.before.before.before.before.before.before.before.args in variable-waits a.work.now a.top a.fuel a.env.now a.w a.t _ c.before.before.before.before.before.before.before.word.ensures c.before.before.before.before.before.before.before.before.before.before.requires.0 _ _ _ c.before.before.before.before.before.before.if1.true c.before.before.before.before.word2.ensures c.before.before.word3.ensures c.before.taken.ensures
+    let a = c.before.before.before.before.before.before.before.before.before.before.args in variable-waits a.work.now a.top a.fuel a.env.now a.w a.t _ c.before.before.before.before.before.before.before.word-tag.ensures c.before.before.before.before.before.before.before.before.before.before.requires.0 _ _ _ c.before.before.before.before.before.before.if-tag-eq-VARIABLE.true c.before.before.before.before.word-k.ensures c.before.before.word-d.ensures c.before.taken-node.ensures
 
-same_length : tie.Need-same-length
+same_length : tie.Need-shape_of-work-then-tag-eq-VARIABLE
 same_length c =
-    c.before.before.copy-tree.auto.0
+    c.before.before.copy_tree.auto.0
 
-returns : tie.Need-returns
+returns : tie.Need-returns-then-tag-eq-VARIABLE
 returns c =
-    let a = c.before.before.before.before.before.before.before.before.before.before.before.before.before.args in made-variable a.work.now a.top a.fuel a.env.now a.w a.t _ c.before.before.before.before.before.before.before.before.before.before.word.ensures c.before.before.before.before.before.before.before.before.before.before.before.before.before.requires.0 _ _ _ c.before.before.before.before.before.before.before.before.before.if1.true c.before.before.before.before.before.before.before.word2.ensures c.before.before.before.before.before.word3.ensures c.before.before.before.before.taken.ensures c.before.before.copy-tree.new.0 (built_of c.before.before.copy-tree.result) c.before.before.copy-tree.ensures
+    let a = c.before.before.before.before.before.before.before.before.before.before.before.before.before.args in made-variable a.work.now a.top a.fuel a.env.now a.w a.t _ c.before.before.before.before.before.before.before.before.before.before.word-tag.ensures c.before.before.before.before.before.before.before.before.before.before.before.before.before.requires.0 _ _ _ c.before.before.before.before.before.before.before.before.before.if-tag-eq-VARIABLE.true c.before.before.before.before.before.before.before.word-k.ensures c.before.before.before.before.before.word-d.ensures c.before.before.before.before.taken-node.ensures c.before.before.copy_tree.new.0 (built_of c.before.before.copy_tree.result) c.before.before.copy_tree.ensures
 
-returns-2 : tie.Need-returns-2
+returns-2 : tie.Need-returns-then-fuel-eq0
 unfolding built_of
 returns-2 c =
-    let a = c.before.before.before.before.before.args in made_none a.work.now a.top a.fuel a.env.now a.w a.t _ c.before.before.word.ensures c.before.before.before.before.before.requires.0 c.if2.true
+    let a = c.before.before.before.before.before.args in made_none a.work.now a.top a.fuel a.env.now a.w a.t _ c.before.before.word-tag.ensures c.before.before.before.before.before.requires.0 c.if-fuel-eq0.true
 
-copy-name-requires : tie.Need-copy-name-requires
+copy-name-requires : tie.Need-copy_name-requires
 copy-name-requires c κs =
-    let a = c.before.before.before.before.before.before.before.before.before.before.before.args in (room-node a.work.now a.top a.fuel c.before.before.before.before.before.before.if2.false c.before.before.before.before.before.before.before.before.before.before.before.requires.0.room, omega (arith, c.before.before.before.reference.ensures, reference_at-most a.work.now a.t 3, c.before.before.before.before.before.before.before.before.before.before.before.requires.0.template-below), omega (arith, c.before.reference2.ensures, reference_at-most a.work.now a.t 2, c.before.before.before.before.before.before.before.before.before.before.before.requires.0.template-below))
+    let a = c.before.before.before.before.before.before.before.before.before.before.before.args in (room-node a.work.now a.top a.fuel c.before.before.before.before.before.before.if-fuel-eq0.false c.before.before.before.before.before.before.before.before.before.before.before.requires.0.room, omega (arith, c.before.before.before.reference-node.ensures, reference_at-most a.work.now a.t 3, c.before.before.before.before.before.before.before.before.before.before.before.requires.0.template-below), omega (arith, c.before.reference-wrap.ensures, reference_at-most a.work.now a.t 2, c.before.before.before.before.before.before.before.before.before.before.before.requires.0.template-below))
 
-same-length-3 : tie.Need-same-length-3
+same-length-3 : tie.Need-shape_of-work-then-tag-eq-NAME
 same-length-3 c =
     c.before.before.before.copy_name.auto.0
 
-returns-3 : tie.Need-returns-3
+returns-3 : tie.Need-returns-then-tag-eq-NAME
 returns-3 c =
-    let a = c.before.before.before.before.before.before.before.before.before.before.before.before.before.before.before.args in made-packed a.work.now _ a.top a.fuel a.env.now a.w a.t _ _ _ c.before.before.before.before.before.before.before.before.before.before.before.before.before.before.before.requires.0 c.pair.ensures (made-insert a.work.now a.top a.fuel a.env.now a.w a.t _ c.before.before.before.before.before.before.before.before.before.before.before.before.word.ensures c.before.before.before.before.before.before.before.before.before.before.before.before.before.before.before.requires.0 _ c.before.before.before.before.before.before.before.before.before.before.if2.false refl _ _ _ _ c.before.before.before.before.before.before.before.before.before.if3.true c.before.before.before.before.before.before.before.reference.ensures c.before.before.before.before.before.reference2.ensures c.before.before.before.copy_name.ensures)
+    let a = c.before.before.before.before.before.before.before.before.before.before.before.before.before.before.before.args in made-packed a.work.now _ a.top a.fuel a.env.now a.w a.t _ _ _ c.before.before.before.before.before.before.before.before.before.before.before.before.before.before.before.requires.0 c.pair.ensures (made-insert a.work.now a.top a.fuel a.env.now a.w a.t _ c.before.before.before.before.before.before.before.before.before.before.before.before.word-tag.ensures c.before.before.before.before.before.before.before.before.before.before.before.before.before.before.before.requires.0 _ c.before.before.before.before.before.before.before.before.before.before.if-fuel-eq0.false refl _ _ _ _ c.before.before.before.before.before.before.before.before.before.if-tag-eq-NAME.true c.before.before.before.before.before.before.before.reference-node.ensures c.before.before.before.before.before.reference-wrap.ensures c.before.before.before.copy_name.ensures)
 
-put-constant-requires : tie.Need-put-constant-requires
+put-constant-requires : tie.Need-put_constant-requires
 put-constant-requires c κs =
-    let a = c.before.before.before.before.before.before.before.before.before.before.before.before.before.before.args in let k = kind-plain a.work.now a.top a.fuel a.env.now a.w a.t _ c.before.before.before.before.before.before.before.before.before.before.before.word.ensures c.before.before.before.before.before.before.before.before.before.before.before.before.before.before.requires.0 _ c.before.before.before.before.before.before.before.if4.true c.before.before.before.before.before.word4.ensures in (room-less _ _ (room-node a.work.now a.top a.fuel c.before.before.before.before.before.before.before.before.before.if2.false c.before.before.before.before.before.before.before.before.before.before.before.before.before.before.requires.0.room), k.0, k.1, k.2)
+    let a = c.before.before.before.before.before.before.before.before.before.before.before.before.before.before.args in let k = kind-plain a.work.now a.top a.fuel a.env.now a.w a.t _ c.before.before.before.before.before.before.before.before.before.before.before.word-tag.ensures c.before.before.before.before.before.before.before.before.before.before.before.before.before.before.requires.0 _ c.before.before.before.before.before.before.before.if-tag-eq-CONSTANT.true c.before.before.before.before.before.word-kind.ensures in (room-less _ _ (room-node a.work.now a.top a.fuel c.before.before.before.before.before.before.before.before.before.if-fuel-eq0.false c.before.before.before.before.before.before.before.before.before.before.before.before.before.before.requires.0.room), k.0, k.1, k.2)
 
-same-length-4 : tie.Need-same-length-4
+same-length-4 : tie.Need-shape_of-work-then-tag-eq-CONSTANT
 same-length-4 c =
-    c.before.before.before.put-constant.auto.0
+    c.before.before.before.put_constant.auto.0
 
-returns-4 : tie.Need-returns-4
+returns-4 : tie.Need-returns-then-tag-eq-CONSTANT
 returns-4 c =
-    let a = c.before.before.before.before.before.before.before.before.before.before.before.before.before.before.before.before.before.before.args in made-packed a.work.now _ a.top a.fuel a.env.now a.w a.t _ _ _ c.before.before.before.before.before.before.before.before.before.before.before.before.before.before.before.before.before.before.requires.0 c.pair2.ensures (made-constant a.work.now a.top a.fuel a.env.now a.w a.t _ c.before.before.before.before.before.before.before.before.before.before.before.before.before.before.before.word.ensures c.before.before.before.before.before.before.before.before.before.before.before.before.before.before.before.before.before.before.requires.0 _ c.before.before.before.before.before.before.before.before.before.before.before.before.before.if2.false refl _ _ _ _ _ c.before.before.before.before.before.before.before.before.before.before.before.if4.true c.before.before.before.before.before.before.before.before.before.word4.ensures c.before.before.before.before.before.before.before.word5.ensures c.before.before.before.before.before.word6.ensures c.before.before.before.put-constant.ensures)
+    let a = c.before.before.before.before.before.before.before.before.before.before.before.before.before.before.before.before.before.before.args in made-packed a.work.now _ a.top a.fuel a.env.now a.w a.t _ _ _ c.before.before.before.before.before.before.before.before.before.before.before.before.before.before.before.before.before.before.requires.0 c.pair-then-tag-eq-CONSTANT.ensures (made-constant a.work.now a.top a.fuel a.env.now a.w a.t _ c.before.before.before.before.before.before.before.before.before.before.before.before.before.before.before.word-tag.ensures c.before.before.before.before.before.before.before.before.before.before.before.before.before.before.before.before.before.before.requires.0 _ c.before.before.before.before.before.before.before.before.before.before.before.before.before.if-fuel-eq0.false refl _ _ _ _ _ c.before.before.before.before.before.before.before.before.before.before.before.if-tag-eq-CONSTANT.true c.before.before.before.before.before.before.before.before.before.word-kind.ensures c.before.before.before.before.before.before.before.word-a.ensures c.before.before.before.before.before.word-b.ensures c.before.before.before.put_constant.ensures)
 
-put-empty-requires : tie.Need-put-empty-requires
+put-empty-requires : tie.Need-put_empty-requires
 put-empty-requires c κs =
-    let a = c.before.before.before.before.before.before.before.before.args in room-less _ _ (room-node a.work.now a.top a.fuel c.before.before.before.if2.false c.before.before.before.before.before.before.before.before.requires.0.room)
+    let a = c.before.before.before.before.before.before.before.before.args in room-less _ _ (room-node a.work.now a.top a.fuel c.before.before.before.if-fuel-eq0.false c.before.before.before.before.before.before.before.before.requires.0.room)
 
-same-length-5 : tie.Need-same-length-5
+same-length-5 : tie.Need-shape_of-work
 same-length-5 c =
-    c.before.before.before.put-empty.auto.0
+    c.before.before.before.put_empty.auto.0
 
-returns-5 : tie.Need-returns-5
+returns-5 : tie.Need-returns
 returns-5 c =
-    let a = c.before.before.before.before.before.before.before.before.before.before.before.before.args in made-packed a.work.now _ a.top a.fuel a.env.now a.w a.t _ _ _ c.before.before.before.before.before.before.before.before.before.before.before.before.requires.0 c.pair3.ensures (made-empty a.work.now a.top a.fuel a.env.now a.w a.t _ c.before.before.before.before.before.before.before.before.before.word.ensures c.before.before.before.before.before.before.before.before.before.before.before.before.requires.0 _ c.before.before.before.before.before.before.before.if2.false refl _ _ c.before.before.before.before.before.before.before.before.if1.false c.before.before.before.before.before.before.if3.false c.before.before.before.before.before.if4.false (λ z. c.before.before.before.before.before.before.before.before.before.before.before.before.requires.1 (sym c.before.before.before.before.before.before.before.before.before.word.ensures ∙ z)) (λ z. c.before.before.before.before.before.before.before.before.before.before.before.before.requires.2 (sym c.before.before.before.before.before.before.before.before.before.word.ensures ∙ z)) c.before.before.before.put-empty.ensures)
+    let a = c.before.before.before.before.before.before.before.before.before.before.before.before.args in made-packed a.work.now _ a.top a.fuel a.env.now a.w a.t _ _ _ c.before.before.before.before.before.before.before.before.before.before.before.before.requires.0 c.pair-2.ensures (made-empty a.work.now a.top a.fuel a.env.now a.w a.t _ c.before.before.before.before.before.before.before.before.before.word-tag.ensures c.before.before.before.before.before.before.before.before.before.before.before.before.requires.0 _ c.before.before.before.before.before.before.before.if-fuel-eq0.false refl _ _ c.before.before.before.before.before.before.before.before.if-tag-eq-VARIABLE.false c.before.before.before.before.before.before.if-tag-eq-NAME.false c.before.before.before.before.before.if-tag-eq-CONSTANT.false (λ z. c.before.before.before.before.before.before.before.before.before.before.before.before.requires.1 (sym c.before.before.before.before.before.before.before.before.before.word-tag.ensures ∙ z)) (λ z. c.before.before.before.before.before.before.before.before.before.before.before.before.requires.2 (sym c.before.before.before.before.before.before.before.before.before.word-tag.ensures ∙ z)) c.before.before.before.put_empty.ensures)
 
-pub build-leaf-spec : {M : Type 1} → statement M
-build-leaf-spec =
+pub build_leaf_spec : {M : Type 1} → statement M
+build_leaf_spec =
     tie.close
     (tie.spec
     (λ c κs. search rules)  -- word-requires

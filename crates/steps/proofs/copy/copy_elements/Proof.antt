@@ -10,62 +10,62 @@ use native.Mathlib.Omega.{arith}
 use borrow.Author.Rules.{rules}
 use mathlib.Core.Path.{sym, ◌∙◌}
 
-abbrev invariant-loop : tie.invariant-loop
+abbrev invariant-loop : tie.invariant-loop-k
 invariant-loop work₀ top fuel list w c at₀ node₀ left₀ k₀ work at node left k =
     Going work₀ work top fuel list w c k at node left
 
-abbrev decreases-loop : tie.decreases-loop
+abbrev decreases-loop : tie.decreases-loop-k
 decreases-loop work₀ top fuel list w c at₀ node₀ left₀ k₀ work at node left k =
     c - k
 
-loop-holds : tie.Need-loop-init invariant-loop decreases-loop
+loop-holds : tie.Need-loop-k-init invariant-loop decreases-loop
 loop-holds c =
     let a = c.before.args in going-begins a.work.now a.top a.fuel a.list a.w a.c c.before.requires
 
-same_length : tie.Need-same-length invariant-loop decreases-loop
+same_length : tie.Need-shape_of-work-then-left-eq0 invariant-loop decreases-loop
 same_length c =
-    c.before.before.loop.invariant.long
+    c.before.before.loop-k.invariant.long
 
-returns : tie.Need-returns invariant-loop decreases-loop
+returns : tie.Need-returns-then-left-eq0 invariant-loop decreases-loop
 unfolding built_of
 returns c =
-    let a = c.before.before.before.before.args in elements-none a.work.now a.top a.fuel a.list a.w a.c c.before.before.before.before.requires _ _ _ _ _ c.before.before.loop.invariant c.before.loop-test.true c.if1.true
+    let a = c.before.before.before.before.args in elements-none a.work.now a.top a.fuel a.list a.w a.c c.before.before.before.before.requires _ _ _ _ _ c.before.before.loop-k.invariant c.before.loop-k-test.true c.if-left-eq0.true
 
-copy-part-requires : tie.Need-copy-part-requires invariant-loop decreases-loop
+copy-part-requires : tie.Need-copy_part-requires invariant-loop decreases-loop
 copy-part-requires c κs =
-    let a = c.before.before.before.before.before.before.before.args in element-waits a.work.now a.top a.fuel a.list a.w a.c c.before.before.before.before.before.before.before.requires _ _ _ _ _ c.before.before.before.before.before.loop.invariant c.before.before.before.before.loop-test.true c.before.before.before.if1.false _ c.before.first.ensures
+    let a = c.before.before.before.before.before.before.before.args in element-waits a.work.now a.top a.fuel a.list a.w a.c c.before.before.before.before.before.before.before.requires _ _ _ _ _ c.before.before.before.before.before.loop-k.invariant c.before.before.before.before.loop-k-test.true c.before.before.before.if-left-eq0.false _ c.before.first-first.ensures
 
-same-length-2 : tie.Need-same-length-2 invariant-loop decreases-loop
+same-length-2 : tie.Need-shape_of-work-in_default invariant-loop decreases-loop
 same-length-2 c =
-    c.before.before.before.before.before.copy-part.auto.0 ∙ c.before.before.before.before.before.before.before.before.before.before.before.loop.invariant.long
+    c.before.before.before.before.before.copy_part.auto.0 ∙ c.before.before.before.before.before.before.before.before.before.before.before.loop-k.invariant.long
 
-returns-2 : tie.Need-returns-2 invariant-loop decreases-loop
+returns-2 : tie.Need-returns-in_default invariant-loop decreases-loop
 unfolding built_of
 returns-2 c =
-    let a = c.before.before.before.before.before.before.before.before.before.before.before.before.before.args in element-costly a.work.now a.top a.fuel a.list a.w a.c c.before.before.before.before.before.before.before.before.before.before.before.before.before.requires _ _ _ _ _ c.before.before.before.before.before.before.before.before.before.before.before.loop.invariant c.before.before.before.before.before.before.before.before.before.before.loop-test.true c.before.before.before.before.before.before.before.before.before.if1.false _ c.before.before.before.before.before.before.before.first.ensures _ (unpaid-at (tree_at c.before.before.before.before.before.before.before.before.before.before.before.loop.work c.before.before.before.before.before.before.before.first.result a.w) c.before.before.before.before.before.before.before.before.before.before.before.loop.work c.before.before.before.before.before.copy-part.new.0 c.before.before.before.before.before.before.before.before.before.before.before.loop.at (c.before.before.before.before.before.before.before.before.before.before.before.loop.left - 1) _ (sym c.before.before.parts.ensures ∙ c.enum_told.given.1) c.before.before.before.before.before.copy-part.ensures)
+    let a = c.before.before.before.before.before.before.before.before.before.before.before.before.before.args in element-costly a.work.now a.top a.fuel a.list a.w a.c c.before.before.before.before.before.before.before.before.before.before.before.before.before.requires _ _ _ _ _ c.before.before.before.before.before.before.before.before.before.before.before.loop-k.invariant c.before.before.before.before.before.before.before.before.before.before.loop-k-test.true c.before.before.before.before.before.before.before.before.before.if-left-eq0.false _ c.before.before.before.before.before.before.before.first-first.ensures _ (unpaid-at (tree_at c.before.before.before.before.before.before.before.before.before.before.before.loop-k.work c.before.before.before.before.before.before.before.first-first.result a.w) c.before.before.before.before.before.before.before.before.before.before.before.loop-k.work c.before.before.before.before.before.copy_part.new.0 c.before.before.before.before.before.before.before.before.before.before.before.loop-k.at (c.before.before.before.before.before.before.before.before.before.before.before.loop-k.left - 1) _ (sym c.before.before.parts.ensures ∙ c.enum_told-1.given.1) c.before.before.before.before.before.copy_part.ensures)
 
-put-pair-requires : tie.Need-put-pair-requires invariant-loop decreases-loop
+put-pair-requires : tie.Need-put_pair-at-requires invariant-loop decreases-loop
 put-pair-requires c κs =
-    let a = c.before.before.before.before.before.before.before.before.before.before.before.before.before.before.before.before.before.args in let b = paid-at (tree_at c.before.before.before.before.before.before.before.before.before.before.before.before.before.before.before.loop.work c.before.before.before.before.before.before.before.before.before.before.before.first.result a.w) c.before.before.before.before.before.before.before.before.before.before.before.before.before.before.before.loop.work c.before.before.before.before.before.before.before.before.before.copy-part.new.0 c.before.before.before.before.before.before.before.before.before.before.before.before.before.before.before.loop.at (c.before.before.before.before.before.before.before.before.before.before.before.before.before.before.before.loop.left - 1) _ _ _ (sym c.before.before.before.before.before.before.parts.ensures ∙ c.before.before.before.before.head.given.1) c.before.before.before.before.before.before.before.before.before.copy-part.ensures in (element-room a.work.now a.top a.fuel a.list a.w a.c c.before.before.before.before.before.before.before.before.before.before.before.before.before.before.before.before.before.requires _ _ _ _ _ c.before.before.before.before.before.before.before.before.before.before.before.before.before.before.before.loop.invariant c.before.before.before.before.before.before.before.before.before.before.before.before.before.before.loop-test.true c.before.before.before.before.before.before.before.before.before.before.before.before.before.if1.false _ c.before.before.before.before.before.before.before.before.before.before.before.first.ensures _ _ _ b c.before.before.before.before.before.before.before.before.before.copy-part.auto.0, omega arith, b.above)
+    let a = c.before.before.before.before.before.before.before.before.before.before.before.before.before.before.before.before.before.args in let b = paid-at (tree_at c.before.before.before.before.before.before.before.before.before.before.before.before.before.before.before.loop-k.work c.before.before.before.before.before.before.before.before.before.before.before.first-first.result a.w) c.before.before.before.before.before.before.before.before.before.before.before.before.before.before.before.loop-k.work c.before.before.before.before.before.before.before.before.before.copy_part.new.0 c.before.before.before.before.before.before.before.before.before.before.before.before.before.before.before.loop-k.at (c.before.before.before.before.before.before.before.before.before.before.before.before.before.before.before.loop-k.left - 1) _ _ _ (sym c.before.before.before.before.before.before.parts.ensures ∙ c.before.before.before.before.head-1.given.1) c.before.before.before.before.before.before.before.before.before.copy_part.ensures in (element-room a.work.now a.top a.fuel a.list a.w a.c c.before.before.before.before.before.before.before.before.before.before.before.before.before.before.before.before.before.requires _ _ _ _ _ c.before.before.before.before.before.before.before.before.before.before.before.before.before.before.before.loop-k.invariant c.before.before.before.before.before.before.before.before.before.before.before.before.before.before.loop-k-test.true c.before.before.before.before.before.before.before.before.before.before.before.before.before.if-left-eq0.false _ c.before.before.before.before.before.before.before.before.before.before.before.first-first.ensures _ _ _ b c.before.before.before.before.before.before.before.before.before.copy_part.auto.0, omega arith, b.above)
 
-loop-less : tie.Need-loop-smaller invariant-loop decreases-loop
+loop-less : tie.Need-loop-k-smaller invariant-loop decreases-loop
 loop-less c =
-    omega (arith, c.before.before.before.before.before.before.before.before.before.before.before.before.before.before.before.before.before.loop-test.true)
+    omega (arith, c.before.before.before.before.before.before.before.before.before.before.before.before.before.before.before.before.before.loop-k-test.true)
 
-loop-again : tie.Need-loop-preserved invariant-loop decreases-loop
+loop-again : tie.Need-loop-k-preserved invariant-loop decreases-loop
 loop-again c =
-    let a = c.before.before.before.before.before.before.before.before.before.before.before.before.before.before.before.before.before.before.before.before.args in going_more a.work.now a.top a.fuel a.list a.w a.c c.before.before.before.before.before.before.before.before.before.before.before.before.before.before.before.before.before.before.before.before.requires _ _ _ _ _ c.before.before.before.before.before.before.before.before.before.before.before.before.before.before.before.before.before.before.loop.invariant c.before.before.before.before.before.before.before.before.before.before.before.before.before.before.before.before.before.loop-test.true c.before.before.before.before.before.before.before.before.before.before.before.before.before.before.before.before.if1.false _ c.before.before.before.before.before.before.before.before.before.before.before.before.before.before.first.ensures _ _ _ (paid-at (tree_at c.before.before.before.before.before.before.before.before.before.before.before.before.before.before.before.before.before.before.loop.work c.before.before.before.before.before.before.before.before.before.before.before.before.before.before.first.result a.w) c.before.before.before.before.before.before.before.before.before.before.before.before.before.before.before.before.before.before.loop.work c.before.before.before.before.before.before.before.before.before.before.before.before.copy-part.new.0 c.before.before.before.before.before.before.before.before.before.before.before.before.before.before.before.before.before.before.loop.at (c.before.before.before.before.before.before.before.before.before.before.before.before.before.before.before.before.before.before.loop.left - 1) _ _ _ (sym c.before.before.before.before.before.before.before.before.before.parts.ensures ∙ c.before.before.before.before.before.before.before.head.given.1) c.before.before.before.before.before.before.before.before.before.before.before.before.copy-part.ensures) c.before.before.before.before.before.before.before.before.before.before.before.before.copy-part.auto.0 _ c.before.before.before.before.rest.ensures _ _ c.before.before.put-pair.ensures c.before.before.put-pair.auto.0
+    let a = c.before.before.before.before.before.before.before.before.before.before.before.before.before.before.before.before.before.before.before.before.args in going_more a.work.now a.top a.fuel a.list a.w a.c c.before.before.before.before.before.before.before.before.before.before.before.before.before.before.before.before.before.before.before.before.requires _ _ _ _ _ c.before.before.before.before.before.before.before.before.before.before.before.before.before.before.before.before.before.before.loop-k.invariant c.before.before.before.before.before.before.before.before.before.before.before.before.before.before.before.before.before.loop-k-test.true c.before.before.before.before.before.before.before.before.before.before.before.before.before.before.before.before.if-left-eq0.false _ c.before.before.before.before.before.before.before.before.before.before.before.before.before.before.first-first.ensures _ _ _ (paid-at (tree_at c.before.before.before.before.before.before.before.before.before.before.before.before.before.before.before.before.before.before.loop-k.work c.before.before.before.before.before.before.before.before.before.before.before.before.before.before.first-first.result a.w) c.before.before.before.before.before.before.before.before.before.before.before.before.before.before.before.before.before.before.loop-k.work c.before.before.before.before.before.before.before.before.before.before.before.before.copy_part.new.0 c.before.before.before.before.before.before.before.before.before.before.before.before.before.before.before.before.before.before.loop-k.at (c.before.before.before.before.before.before.before.before.before.before.before.before.before.before.before.before.before.before.loop-k.left - 1) _ _ _ (sym c.before.before.before.before.before.before.before.before.before.parts.ensures ∙ c.before.before.before.before.before.before.before.head-1.given.1) c.before.before.before.before.before.before.before.before.before.before.before.before.copy_part.ensures) c.before.before.before.before.before.before.before.before.before.before.before.before.copy_part.auto.0 _ c.before.before.before.before.rest-node.ensures _ _ c.before.before.put_pair-at.ensures c.before.before.put_pair-at.auto.0
 
-same-length-3 : tie.Need-same-length-3 invariant-loop decreases-loop
+same-length-3 : tie.Need-shape_of-work invariant-loop decreases-loop
 same-length-3 c =
-    c.before.before.loop.invariant.long
+    c.before.before.loop-k.invariant.long
 
-returns-3 : tie.Need-returns-3 invariant-loop decreases-loop
+returns-3 : tie.Need-returns invariant-loop decreases-loop
 returns-3 c =
-    let a = c.before.before.before.before.args in elements-packed a.work.now a.top a.fuel a.list a.w a.c c.before.before.before.before.requires _ _ _ _ c.pair.ensures (going-ends a.work.now a.top a.fuel a.list a.w a.c c.before.before.before.before.requires _ _ _ _ _ c.before.before.loop.invariant (omega (arith, c.before.loop-test.false)))
+    let a = c.before.before.before.before.args in elements-packed a.work.now a.top a.fuel a.list a.w a.c c.before.before.before.before.requires _ _ _ _ c.pair.ensures (going-ends a.work.now a.top a.fuel a.list a.w a.c c.before.before.before.before.requires _ _ _ _ _ c.before.before.loop-k.invariant (omega (arith, c.before.loop-k-test.false)))
 
-pub copy-elements-spec : {M : Type 1} → statement M
-copy-elements-spec =
+pub copy_elements_spec : {M : Type 1} → statement M
+copy_elements_spec =
     tie.close
     (tie.spec
     invariant-loop

@@ -6,40 +6,40 @@ use Rattle.steps.specs.CopyLaws.{Reversing, reversing-begins, reversing-asks, re
 use native.Mathlib.Omega.{arith}
 use borrow.Author.Rules.{rules}
 
-abbrev invariant-loop : tie.invariant-loop
+abbrev invariant-loop : tie.invariant-loop-k
 invariant-loop work₀ top list tail c at₀ node₀ rest₀ k₀ work at node rest k =
     Reversing work₀ work top list tail c k at node rest
 
-abbrev decreases-loop : tie.decreases-loop
+abbrev decreases-loop : tie.decreases-loop-k
 decreases-loop work₀ top list tail c at₀ node₀ rest₀ k₀ work at node rest k =
     c - k
 
-loop-holds : tie.Need-loop-init invariant-loop decreases-loop
+loop-holds : tie.Need-loop-k-init invariant-loop decreases-loop
 loop-holds c =
     let a = c.before.args in reversing-begins a.work.now a.top a.list a.tail a.c c.before.requires.0 c.before.requires.1 c.before.requires.2
 
-put-pair-requires : tie.Need-put-pair-requires invariant-loop decreases-loop
+put-pair-requires : tie.Need-put_pair-at-requires invariant-loop decreases-loop
 put-pair-requires c κs =
-    let a = c.before.before.before.before.before.before.args in reversing-asks a.work.now a.top a.list a.tail a.c c.before.before.before.before.before.before.requires.0 c.before.before.before.before.before.before.requires.1 c.before.before.before.before.before.before.requires.2 _ _ _ _ _ c.before.before.before.before.loop.invariant c.before.before.before.loop-test.true _ c.before.first.ensures
+    let a = c.before.before.before.before.before.before.args in reversing-asks a.work.now a.top a.list a.tail a.c c.before.before.before.before.before.before.requires.0 c.before.before.before.before.before.before.requires.1 c.before.before.before.before.before.before.requires.2 _ _ _ _ _ c.before.before.before.before.loop-k.invariant c.before.before.before.loop-k-test.true _ c.before.first-first.ensures
 
-loop-less : tie.Need-loop-smaller invariant-loop decreases-loop
+loop-less : tie.Need-loop-k-smaller invariant-loop decreases-loop
 loop-less c =
-    omega (arith, c.before.before.before.before.before.before.before.before.loop-test.true)
+    omega (arith, c.before.before.before.before.before.before.before.before.loop-k-test.true)
 
-loop-again : tie.Need-loop-preserved invariant-loop decreases-loop
+loop-again : tie.Need-loop-k-preserved invariant-loop decreases-loop
 loop-again c =
-    let a = c.before.before.before.before.before.before.before.before.before.before.before.args in reversing-more a.work.now a.top a.list a.tail a.c c.before.before.before.before.before.before.before.before.before.before.before.requires.0 c.before.before.before.before.before.before.before.before.before.before.before.requires.1 c.before.before.before.before.before.before.before.before.before.before.before.requires.2 _ _ _ _ _ c.before.before.before.before.before.before.before.before.before.loop.invariant c.before.before.before.before.before.before.before.before.loop-test.true _ c.before.before.before.before.before.before.first.ensures _ _ c.before.before.before.before.put-pair.ensures c.before.before.before.before.put-pair.auto.0 _ c.rest.ensures
+    let a = c.before.before.before.before.before.before.before.before.before.before.before.args in reversing-more a.work.now a.top a.list a.tail a.c c.before.before.before.before.before.before.before.before.before.before.before.requires.0 c.before.before.before.before.before.before.before.before.before.before.before.requires.1 c.before.before.before.before.before.before.before.before.before.before.before.requires.2 _ _ _ _ _ c.before.before.before.before.before.before.before.before.before.loop-k.invariant c.before.before.before.before.before.before.before.before.loop-k-test.true _ c.before.before.before.before.before.before.first-first.ensures _ _ c.before.before.before.before.put_pair-at.ensures c.before.before.before.before.put_pair-at.auto.0 _ c.rest-node.ensures
 
-same_length : tie.Need-same-length invariant-loop decreases-loop
+same_length : tie.Need-shape_of-work invariant-loop decreases-loop
 same_length c =
-    c.before.loop.invariant.long
+    c.before.loop-k.invariant.long
 
 returns : tie.Need-returns invariant-loop decreases-loop
 returns c =
-    let a = c.before.before.before.args in reversing-ends a.work.now a.top a.list a.tail a.c c.before.before.before.requires.0 c.before.before.before.requires.1 c.before.before.before.requires.2 _ _ _ _ _ c.before.loop.invariant (omega (arith, c.loop-test.false))
+    let a = c.before.before.before.args in reversing-ends a.work.now a.top a.list a.tail a.c c.before.before.before.requires.0 c.before.before.before.requires.1 c.before.before.before.requires.2 _ _ _ _ _ c.before.loop-k.invariant (omega (arith, c.loop-k-test.false))
 
-pub put-reversed-spec : {M : Type 1} → statement M
-put-reversed-spec =
+pub put_reversed_spec : {M : Type 1} → statement M
+put_reversed_spec =
     tie.close
     (tie.spec
     invariant-loop

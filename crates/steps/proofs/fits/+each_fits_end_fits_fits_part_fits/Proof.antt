@@ -86,121 +86,121 @@ fits-claims t = (word-reads.Asked, word-reads.Learnt, reference-reads.Asked, ref
 abbrev part-fits-claims : ℕ → part-fits-lts.Claims
 part-fits-claims t = (word-reads.Asked, word-reads.Learnt, fits_below t, fits.Post)
 
-abbrev each-fits-Inv-loop : each-fits-lts.invariant-loop
+abbrev each-fits-Inv-loop : each-fits-lts.invariant-loop-first
 each-fits-Inv-loop work p list w behind element node₀ ahead₀ node ahead =
     Matched work p list w node ahead
 
-abbrev each-fits-μ-loop : each-fits-lts.decreases-loop
+abbrev each-fits-μ-loop : each-fits-lts.decreases-loop-first
 each-fits-μ-loop work p list w behind element node₀ ahead₀ node ahead =
     ahead
 
-each-fits-returns : (t : ℕ) → each-fits-lts.Need-returns (each-fits-claims t) (each-fits-at t) each_fits.Post each-fits-Inv-loop each-fits-μ-loop
+each-fits-returns : (t : ℕ) → each-fits-lts.Need-returns-in_default (each-fits-claims t) (each-fits-at t) each_fits.Post each-fits-Inv-loop each-fits-μ-loop
 each-fits-returns t c =
     let a = c.before.before.before.before.args in
-    each-short a.work.now a.p a.list a.w c.before.before.before.before.requires.1 (subst (λ r. LooksAhead a.work.now a.p a.list r) c.enum_told.given.1 c.before.before.look-ahead.ensures)
+    each-short a.work.now a.p a.list a.w c.before.before.before.before.requires.1 (subst (λ r. LooksAhead a.work.now a.p a.list r) c.enum_told-1.given.1 c.before.before.look_ahead.ensures)
 
-each-fits-loop-holds : (t : ℕ) → each-fits-lts.Need-loop-init (each-fits-claims t) (each-fits-at t) each_fits.Post each-fits-Inv-loop each-fits-μ-loop
+each-fits-loop-holds : (t : ℕ) → each-fits-lts.Need-loop-first-init (each-fits-claims t) (each-fits-at t) each_fits.Post each-fits-Inv-loop each-fits-μ-loop
 each-fits-loop-holds t c =
     let a = c.before.before.before.before.before.before.args in
-    each-begins a.work.now a.p a.list a.w c.before.before.before.before.before.before.requires.1 _ (subst (λ r. LooksAhead a.work.now a.p a.list r) c.before.before.behind.given.1 c.before.before.before.before.look-ahead.ensures)
+    each-begins a.work.now a.p a.list a.w c.before.before.before.before.before.before.requires.1 _ (subst (λ r. LooksAhead a.work.now a.p a.list r) c.before.before.behind-1.given.1 c.before.before.before.before.look_ahead.ensures)
 
-each-fits-part-fits-requires : (t : ℕ) → each-fits-lts.Need-part-fits-requires (each-fits-claims t) (each-fits-at t) each_fits.Post each-fits-Inv-loop each-fits-μ-loop
+each-fits-part-fits-requires : (t : ℕ) → each-fits-lts.Need-part_fits-requires (each-fits-claims t) (each-fits-at t) each_fits.Post each-fits-Inv-loop each-fits-μ-loop
 each-fits-part-fits-requires t c κs =
     let a = c.before.before.before.before.before.before.before.before.before.before.args in
     let pre = c.before.before.before.before.before.before.before.before.before.before.requires in
-    let l = tag-falls a.work.now a.p 7 (sym pre.1) 3 _ (λ z. omega arith) c.before.before.before.before.reference.ensures in
+    let l = tag-falls a.work.now a.p 7 (sym pre.1) 3 _ (λ z. omega arith) c.before.before.before.before.reference-element.ensures in
     omega (arith, l, pre.0)
 
-each-fits-returns-2 : (t : ℕ) → each-fits-lts.Need-returns-2 (each-fits-claims t) (each-fits-at t) each_fits.Post each-fits-Inv-loop each-fits-μ-loop
+each-fits-returns-2 : (t : ℕ) → each-fits-lts.Need-returns-then-not-part_fits (each-fits-claims t) (each-fits-at t) each_fits.Post each-fits-Inv-loop each-fits-μ-loop
 each-fits-returns-2 t c =
     let a = c.before.before.before.before.before.before.before.before.before.before.before.before.args in
-    let reference = c.before.before.before.before.before.before.reference in
-    let loop = c.before.before.before.before.before.loop in
+    let reference = c.before.before.before.before.before.before.reference-element in
+    let loop = c.before.before.before.before.before.loop-first in
     let word = c.before.before.before.before.word in
-    let if1 = c.before.before.before.if1 in
-    each-no a.work.now a.p a.list a.w loop.node loop.ahead _ word.ensures loop.invariant _ _ _ if1.true reference.ensures c.before.before.reference2.ensures c.before.part-fits.ensures _ refl (not-true _ c.if2.true)
+    let if1 = c.before.before.before.loop-first-test in
+    each-no a.work.now a.p a.list a.w loop.node loop.ahead _ word.ensures loop.invariant _ _ _ if1.true reference.ensures c.before.before.reference-first.ensures c.before.part_fits.ensures _ refl (not-true _ c.if-not-part_fits.true)
 
-each-fits-loop-less : (t : ℕ) → each-fits-lts.Need-loop-smaller (each-fits-claims t) (each-fits-at t) each_fits.Post each-fits-Inv-loop each-fits-μ-loop
+each-fits-loop-less : (t : ℕ) → each-fits-lts.Need-loop-first-smaller (each-fits-claims t) (each-fits-at t) each_fits.Post each-fits-Inv-loop each-fits-μ-loop
 each-fits-loop-less t c =
     let a = c.before.before.before.before.before.before.before.before.before.before.before.before.before.before.args in
-    let loop = c.before.before.before.before.before.before.before.loop in
+    let loop = c.before.before.before.before.before.before.before.loop-first in
     let word = c.before.before.before.before.before.before.word in
-    let if1 = c.before.before.before.before.before.if1 in
-    omega (arith, c.reference4.ensures, pair-falls a.work.now loop.ahead 1 (sym word.ensures ∙ if1.true))
+    let if1 = c.before.before.before.before.before.loop-first-test in
+    omega (arith, c.reference-ahead.ensures, pair-falls a.work.now loop.ahead 1 (sym word.ensures ∙ if1.true))
 
-each-fits-loop-again : (t : ℕ) → each-fits-lts.Need-loop-preserved (each-fits-claims t) (each-fits-at t) each_fits.Post each-fits-Inv-loop each-fits-μ-loop
+each-fits-loop-again : (t : ℕ) → each-fits-lts.Need-loop-first-preserved (each-fits-claims t) (each-fits-at t) each_fits.Post each-fits-Inv-loop each-fits-μ-loop
 each-fits-loop-again t c =
     let a = c.before.before.before.before.before.before.before.before.before.before.before.before.before.before.args in
-    let reference = c.before.before.before.before.before.before.before.before.reference in
-    let loop = c.before.before.before.before.before.before.before.loop in
+    let reference = c.before.before.before.before.before.before.before.before.reference-element in
+    let loop = c.before.before.before.before.before.before.before.loop-first in
     let word = c.before.before.before.before.before.before.word in
-    let if1 = c.before.before.before.before.before.if1 in
-    let reference2 = c.before.before.before.before.reference2 in
-    let part-fits = c.before.before.before.part-fits in
-    let if2 = c.before.before.if2 in
-    each_more a.work.now a.p a.list a.w loop.node loop.ahead _ word.ensures loop.invariant _ _ _ if1.true reference.ensures reference2.ensures part-fits.ensures _ c.before.reference3.ensures _ (not-false _ if2.false) c.reference4.ensures
+    let if1 = c.before.before.before.before.before.loop-first-test in
+    let reference2 = c.before.before.before.before.reference-first in
+    let part-fits = c.before.before.before.part_fits in
+    let if2 = c.before.before.if-not-part_fits in
+    each_more a.work.now a.p a.list a.w loop.node loop.ahead _ word.ensures loop.invariant _ _ _ if1.true reference.ensures reference2.ensures part-fits.ensures _ c.before.reference-node.ensures _ (not-false _ if2.false) c.reference-ahead.ensures
 
 each-fits-fits-requires : (t : ℕ) → each-fits-lts.Need-fits-requires (each-fits-claims t) (each-fits-at t) each_fits.Post each-fits-Inv-loop each-fits-μ-loop
 each-fits-fits-requires t c κs =
     let a = c.before.before.before.before.before.before.before.before.before.before.args in
     let pre = c.before.before.before.before.before.before.before.before.before.before.requires in
-    let l = tag-falls a.work.now a.p 7 (sym pre.1) 2 _ (λ z. omega arith) c.reference5.ensures in
+    let l = tag-falls a.work.now a.p 7 (sym pre.1) 2 _ (λ z. omega arith) c.reference-rest.ensures in
     (omega (arith, l, pre.0), tt)
 
-each-fits-returns-3 : (t : ℕ) → each-fits-lts.Need-returns-3 (each-fits-claims t) (each-fits-at t) each_fits.Post each-fits-Inv-loop each-fits-μ-loop
+each-fits-returns-3 : (t : ℕ) → each-fits-lts.Need-returns (each-fits-claims t) (each-fits-at t) each_fits.Post each-fits-Inv-loop each-fits-μ-loop
 each-fits-returns-3 t c =
     let a = c.before.before.before.before.before.before.before.before.before.before.before.args in
-    let loop = c.before.before.before.before.loop in
+    let loop = c.before.before.before.before.loop-first in
     let word = c.before.before.before.word in
-    let if1 = c.before.before.if1 in
-    each-ends a.work.now a.p a.list a.w loop.node loop.ahead _ word.ensures loop.invariant _ _ if1.false c.before.reference5.ensures c.fits2.ensures
+    let if1 = c.before.before.loop-first-test in
+    each-ends a.work.now a.p a.list a.w loop.node loop.ahead _ word.ensures loop.invariant _ _ if1.false c.before.reference-rest.ensures c.fits2.ensures
 
-end-fits-returns : (t : ℕ) → end-fits-lts.Need-returns (end-fits-claims t) (end-fits-at t) end_fits.Post
+end-fits-returns : (t : ℕ) → end-fits-lts.Need-returns-then-tag-eq-VARIABLE (end-fits-claims t) (end-fits-at t) end_fits.Post
 end-fits-returns t c =
     let a = c.before.before.before.args in
-    let word = c.before.word in
-    fits-variable a.work.now a.p _ word.ensures a.u a.w c.if1.true
+    let word = c.before.word-tag in
+    fits-variable a.work.now a.p _ word.ensures a.u a.w c.if-tag-eq-VARIABLE.true
 
-end-fits-returns-2 : (t : ℕ) → end-fits-lts.Need-returns-2 (end-fits-claims t) (end-fits-at t) end_fits.Post
+end-fits-returns-2 : (t : ℕ) → end-fits-lts.Need-returns-then-tag-eq-NAME (end-fits-claims t) (end-fits-at t) end_fits.Post
 end-fits-returns-2 t c =
     let a = c.before.before.before.before.before.args in
-    let word = c.before.before.before.word in
-    let if2 = c.before.if2 in
-    let literal-fits = c.literal-fits in
+    let word = c.before.before.before.word-tag in
+    let if2 = c.before.if-tag-eq-NAME in
+    let literal-fits = c.literal_fits in
     fits-literal a.work.now a.p _ word.ensures a.u a.w _ if2.true literal-fits.ensures
 
-end-fits-returns-3 : (t : ℕ) → end-fits-lts.Need-returns-3 (end-fits-claims t) (end-fits-at t) end_fits.Post
+end-fits-returns-3 : (t : ℕ) → end-fits-lts.Need-returns-then-tag-eq-WILDCARD (end-fits-claims t) (end-fits-at t) end_fits.Post
 end-fits-returns-3 t c =
     let a = c.before.before.before.before.before.args in
-    let word = c.before.before.before.word in
-    fits-wildcard a.work.now a.p _ word.ensures a.u a.w c.if3.true
+    let word = c.before.before.before.word-tag in
+    fits-wildcard a.work.now a.p _ word.ensures a.u a.w c.if-tag-eq-WILDCARD.true
 
-end-fits-returns-4 : (t : ℕ) → end-fits-lts.Need-returns-4 (end-fits-claims t) (end-fits-at t) end_fits.Post
+end-fits-returns-4 : (t : ℕ) → end-fits-lts.Need-returns-then-tag-eq-CONSTANT (end-fits-claims t) (end-fits-at t) end_fits.Post
 end-fits-returns-4 t c =
     let a = c.before.before.before.before.before.before.before.args in
-    let word = c.before.before.before.before.before.word in
-    let if4 = c.before.if4 in
-    fits-constant a.work.now a.p _ word.ensures a.u a.w _ if4.true c.constant-fits.ensures
+    let word = c.before.before.before.before.before.word-tag in
+    let if4 = c.before.if-tag-eq-CONSTANT in
+    fits-constant a.work.now a.p _ word.ensures a.u a.w _ if4.true c.constant_fits.ensures
 
-end-fits-each-fits-requires : (t : ℕ) → end-fits-lts.Need-each-fits-requires (end-fits-claims t) (end-fits-at t) end_fits.Post
+end-fits-each-fits-requires : (t : ℕ) → end-fits-lts.Need-each_fits-requires (end-fits-claims t) (end-fits-at t) end_fits.Post
 end-fits-each-fits-requires t c κs =
-    (omega (arith, c.before.before.before.before.before.before.before.requires.0), sym c.before.before.before.before.before.word.ensures ∙ c.if5.true)
+    (omega (arith, c.before.before.before.before.before.before.before.requires.0), sym c.before.before.before.before.before.word-tag.ensures ∙ c.if-tag-eq-ELLIPSIS.true)
 
-end-fits-returns-5 : (t : ℕ) → end-fits-lts.Need-returns-5 (end-fits-claims t) (end-fits-at t) end_fits.Post
+end-fits-returns-5 : (t : ℕ) → end-fits-lts.Need-returns-then-tag-eq-ELLIPSIS (end-fits-claims t) (end-fits-at t) end_fits.Post
 end-fits-returns-5 t c =
     c.each_fits.ensures
 
-end-fits-returns-6 : (t : ℕ) → end-fits-lts.Need-returns-6 (end-fits-claims t) (end-fits-at t) end_fits.Post
+end-fits-returns-6 : (t : ℕ) → end-fits-lts.Need-returns (end-fits-claims t) (end-fits-at t) end_fits.Post
 end-fits-returns-6 t c =
     let a = c.before.before.before.before.before.before.before.before.args in
     let pre = c.before.before.before.before.before.before.before.before.requires in
-    let word = c.before.before.before.before.before.before.word in
-    let if1 = c.before.before.before.before.before.if1 in
-    let if2 = c.before.before.before.before.if2 in
-    let if3 = c.before.before.before.if3 in
-    let if4 = c.before.before.if4 in
-    let if5 = c.before.if5 in
-    fits-empty a.work.now a.p _ word.ensures a.u a.w _ c.word2.ensures if1.false if2.false if3.false if4.false pre.1 if5.false
+    let word = c.before.before.before.before.before.before.word-tag in
+    let if1 = c.before.before.before.before.before.if-tag-eq-VARIABLE in
+    let if2 = c.before.before.before.before.if-tag-eq-NAME in
+    let if3 = c.before.before.before.if-tag-eq-WILDCARD in
+    let if4 = c.before.before.if-tag-eq-CONSTANT in
+    let if5 = c.before.if-tag-eq-ELLIPSIS in
+    fits-empty a.work.now a.p _ word.ensures a.u a.w _ c.word.ensures if1.false if2.false if3.false if4.false pre.1 if5.false
 
 abbrev fits-Inv-loop : fits-lts.invariant-loop
 fits-Inv-loop work p u w at₀ node₀ at node =
@@ -282,24 +282,24 @@ fits-returns-3 t c =
     let end_fits = c.end_fits in
     along-ends a.work.now a.p a.u a.w loop.at loop.node loop.invariant _ end_fits.ensures
 
-part-fits-returns : (t : ℕ) → part-fits-lts.Need-returns (part-fits-claims t) (part-fits-at t) part-fits.Post
+part-fits-returns : (t : ℕ) → part-fits-lts.Need-returns-then-word-eq-VARIABLE (part-fits-claims t) (part-fits-at t) part-fits.Post
 part-fits-returns t c =
     let a = c.before.before.before.args in
     let word = c.before.word in
-    fits-variable a.work.now a.p _ word.ensures a.u a.w c.if1.true
+    fits-variable a.work.now a.p _ word.ensures a.u a.w c.if-word-eq-VARIABLE.true
 
 part-fits-fits-requires : (t : ℕ) → part-fits-lts.Need-fits-requires (part-fits-claims t) (part-fits-at t) part-fits.Post
 part-fits-fits-requires t c κs =
     let pre = c.before.before.before.requires in
     (omega arith, pre.1)
 
-part-fits-returns-2 : (t : ℕ) → part-fits-lts.Need-returns-2 (part-fits-claims t) (part-fits-at t) part-fits.Post
+part-fits-returns-2 : (t : ℕ) → part-fits-lts.Need-returns (part-fits-claims t) (part-fits-at t) part-fits.Post
 part-fits-returns-2 t c =
     let fits2 = c.fits2 in
     fits2.ensures
 
-pub +each-fits-end-fits-fits-part-fits-spec : {M : Type 1} → statement M
-+each-fits-end-fits-fits-part-fits-spec =
+pub +each_fits_end_fits_fits_part_fits_spec : {M : Type 1} → statement M
++each_fits_end_fits_fits_part_fits_spec =
     close μ-each-fits μ-end-fits μ-fits μ-part-fits (λ t. each-fits-lts.spec (each-fits-claims t)
     (each-fits-at t)
     each_fits.Post

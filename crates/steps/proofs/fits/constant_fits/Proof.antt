@@ -7,24 +7,24 @@ use Rattle.datum.proofs.constants.matches.Reads as matches-reads
 use Rattle.steps.specs.FitLaws.{constant-no, constant-matches}
 use mathlib.Core.Logic.{inl, inr}
 
-returns : tie.Need-returns
+returns : tie.Need-returns-then-kind-eq-EMPTY
 returns c =
-    let a = c.before.before.before.args in constant-no a.work.now a.p a.u _ c.before.word.ensures (inl c.if1.true)
+    let a = c.before.before.before.args in constant-no a.work.now a.p a.u _ c.before.word-kind.ensures (inl c.if-kind-eq-EMPTY.true)
 
-returns-2 : tie.Need-returns-2
+returns-2 : tie.Need-returns-then-kind-eq-NAME
 returns-2 c =
-    let a = c.before.before.before.before.args in constant-no a.work.now a.p a.u _ c.before.before.word.ensures (inr (inl c.if2.true))
+    let a = c.before.before.before.before.args in constant-no a.work.now a.p a.u _ c.before.before.word-kind.ensures (inr (inl c.if-kind-eq-NAME.true))
 
-returns-3 : tie.Need-returns-3
+returns-3 : tie.Need-returns-then-kind-eq-PAIR
 returns-3 c =
-    let a = c.before.before.before.before.before.args in constant-no a.work.now a.p a.u _ c.before.before.before.word.ensures (inr (inr c.if3.true))
+    let a = c.before.before.before.before.before.args in constant-no a.work.now a.p a.u _ c.before.before.before.word-kind.ensures (inr (inr c.if-kind-eq-PAIR.true))
 
-returns-4 : tie.Need-returns-4
+returns-4 : tie.Need-returns
 returns-4 c =
-    let a = c.before.before.before.before.before.before.before.before.before.before.before.args in constant-matches a.work.now a.p a.u _ c.before.before.before.before.before.before.before.before.before.word.ensures c.before.before.before.before.before.before.before.before.if1.false c.before.before.before.before.before.before.before.if2.false c.before.before.before.before.before.before.if3.false _ _ _ _ _ c.before.before.before.before.before.word2.ensures c.before.before.before.before.word3.ensures c.before.before.before.word4.ensures c.before.before.word5.ensures c.before.word6.ensures _ c.matches.ensures
+    let a = c.before.before.before.before.before.before.before.before.before.before.before.args in constant-matches a.work.now a.p a.u _ c.before.before.before.before.before.before.before.before.before.word-kind.ensures c.before.before.before.before.before.before.before.before.if-kind-eq-EMPTY.false c.before.before.before.before.before.before.before.if-kind-eq-NAME.false c.before.before.before.before.before.before.if-kind-eq-PAIR.false _ _ _ _ _ c.before.before.before.before.before.word.ensures c.before.before.before.before.word-2.ensures c.before.before.before.word-3.ensures c.before.before.word-4.ensures c.before.word-5.ensures _ c.matches.ensures
 
-pub constant-fits-spec : {M : Type 1} → statement M
-constant-fits-spec =
+pub constant_fits_spec : {M : Type 1} → statement M
+constant_fits_spec =
     tie.close
     (tie.spec
     (λ c κs. search rules)  -- word-requires

@@ -7,24 +7,24 @@ use Rattle.steps.specs.FitLaws.{literal-no-name, literal-name}
 word-requires : tie.Need-word-requires
 word-requires c κs = search rules
 
-returns : tie.Need-returns
+returns : tie.Need-returns-then-word-ne-NAME
 returns c =
-    let a = c.before.before.before.args in literal-no-name a.work.now a.u a.w _ c.before.word.ensures a.p c.if1.true
+    let a = c.before.before.before.args in literal-no-name a.work.now a.u a.w _ c.before.word.ensures a.p c.if-word-ne-NAME.true
 
-word-requires-2 : tie.Need-word-requires-2
+word-requires-2 : tie.Need-word-number-requires
 word-requires-2 c κs = search rules
 
-word-requires-3 : tie.Need-word-requires-3
+word-requires-3 : tie.Need-word-binding-requires
 word-requires-3 c κs = search rules
 
 agrees-requires : tie.Need-agrees-requires
 agrees-requires c κs = search rules
 
-returns-2 : tie.Need-returns-2
+returns-2 : tie.Need-returns
 returns-2 c =
-    let a = c.before.before.before.before.before.before.args in literal-name a.work.now a.u a.w _ c.before.before.before.before.word.ensures a.p _ _ _ c.before.before.before.if1.false c.before.before.word2.ensures c.before.word3.ensures c.agrees.ensures
+    let a = c.before.before.before.before.before.before.args in literal-name a.work.now a.u a.w _ c.before.before.before.before.word.ensures a.p _ _ _ c.before.before.before.if-word-ne-NAME.false c.before.before.word-number.ensures c.before.word-binding.ensures c.agrees.ensures
 
-pub literal-fits-spec : {M : Type 1} → statement M
-literal-fits-spec =
+pub literal_fits_spec : {M : Type 1} → statement M
+literal_fits_spec =
     tie.close
     (tie.spec word-requires returns word-requires-2 word-requires-3 agrees-requires returns-2)

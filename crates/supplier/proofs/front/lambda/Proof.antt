@@ -6,28 +6,28 @@ use mathlib.Core.Path.{sym, subst, ◌∙◌}
 use Rattle.supplier.specs.Told.{Fronted}
 use Rattle.supplier.specs.ToldLaws.{lambda-three, front-lambda, front-names}
 
-sub-names : tie.Need-overflow-sub-names
+sub-names : tie.Need-overflow_sub-names
 sub-names c =
     omega (arith, lambda-three _ _ _ c.before.requires)
 
-add-of : tie.Need-overflow-add-of
+add-of : tie.Need-overflow_add-wide
 add-of c =
-    omega (arith, c.wide2.ensures, c.before.before.before.before.well-formed.0)
+    omega (arith, c.wide-then-wide-names.ensures, c.before.before.before.before.well_formed.0)
 
-returns : tie.Need-returns
+returns : tie.Need-returns-then-wide-names
 returns c =
-    subst (Fronted _) (sym c.of.ensures) (front-lambda _ _ _ c.before.before.before.before.before.requires (omega (arith, c.before.before.if1.true, c.before.before.before.wide.ensures)) _ (omega (arith, c.before.wide2.ensures)))
+    subst (Fronted _) (sym c.of.ensures) (front-lambda _ _ _ c.before.before.before.before.before.requires (omega (arith, c.before.before.if-wide-names.true, c.before.before.before.wide.ensures)) _ (omega (arith, c.before.wide-then-wide-names.ensures)))
 
-cast-of : tie.Need-overflow-cast-of
+cast-of : tie.Need-overflow_cast-names
 cast-of c =
-    omega (arith, c.before.wide.ensures, c.if1.false, c.before.before.before.well-formed)
+    omega (arith, c.before.wide.ensures, c.if-wide-names.false, c.before.before.before.well_formed)
 
-returns-2 : tie.Need-returns-2
+returns-2 : tie.Need-returns
 returns-2 c =
-    subst (Fronted _) (sym c.of2.ensures) (front-names _ _ _ c.before.before.before.before.requires (omega (arith, c.before.if1.false, c.before.before.wide.ensures)))
+    subst (Fronted _) (sym c.of-2.ensures) (front-names _ _ _ c.before.before.before.before.requires (omega (arith, c.before.if-wide-names.false, c.before.before.wide.ensures)))
 
-pub lambda-spec : {M : Type 1} → statement M
-lambda-spec =
+pub lambda_spec : {M : Type 1} → statement M
+lambda_spec =
     tie.close
     (tie.spec
     sub-names

@@ -7,8 +7,8 @@ returns : tie.Need-returns
 returns c =
     told-lost _ _ c.requires
 
-pub lost-spec : {M : Type 1} → statement M
-lost-spec =
+pub lost_spec : {M : Type 1} → statement M
+lost_spec =
     tie.close
     (tie.spec
     returns)

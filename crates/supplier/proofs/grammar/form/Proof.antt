@@ -11,21 +11,21 @@ kind-requires : tie.Need-kind-requires
 kind-requires c κs =
     held_in _ _ c.before.requires
 
-returns : tie.Need-returns
+returns : tie.Need-returns-then-kind-ne-NAME
 returns c =
-    form-other _ _ _ c.before.kind.ensures c.if1.true
+    form-other _ _ _ c.before.kind.ensures c.if-kind-ne-NAME.true
 
-head-requires : tie.Need-head-requires
+head-requires : tie.Need-head-n-requires
 head-requires c κs =
     held_in _ _ c.before.before.before.requires
 
-returns-2 : tie.Need-returns-2
+returns-2 : tie.Need-returns-then-n-lt3
 returns-2 c =
-    form-low _ _ _ c.before.before.before.kind.ensures c.before.before.if1.false _ c.before.head.ensures c.if2.true
+    form-low _ _ _ c.before.before.before.kind.ensures c.before.before.if-kind-ne-NAME.false _ c.before.head-n.ensures c.if-n-lt3.true
 
-returns-3 : tie.Need-returns-3
+returns-3 : tie.Need-returns
 returns-3 c =
-    form-high _ _ _ c.before.before.before.kind.ensures c.before.before.if1.false _ c.before.head.ensures c.if2.false
+    form-high _ _ _ c.before.before.before.kind.ensures c.before.before.if-kind-ne-NAME.false _ c.before.head-n.ensures c.if-n-lt3.false
 
-pub form-spec : {M : Type 1} → statement M
-form-spec = tie.close (tie.spec kind-requires returns head-requires returns-2 returns-3)
+pub form_spec : {M : Type 1} → statement M
+form_spec = tie.close (tie.spec kind-requires returns head-requires returns-2 returns-3)

@@ -7,64 +7,64 @@ use Prim.Native.Nat.{◌-◌}
 use lib.ListN.{length}
 use Rattle.supplier.specs.FormalsLaws.{Taking, taking-start, taking-in, taking-pair, taking-head-in, taking-small, taking-none, taking-twice, taking-next, taking-many, taking-end, formals-low, passing-other, passing-not}
 
-abbrev invariant-loop : tie.invariant-loop
+abbrev invariant-loop : tie.invariant-loop-i
 invariant-loop items i scope₀ top first j₀ n₀ scope j n =
     Taking items i scope₀ top first scope j n
 
-abbrev decreases-loop : tie.decreases-loop
+abbrev decreases-loop : tie.decreases-loop-i
 decreases-loop items i scope₀ top first j₀ n₀ scope j n =
     length items - j
 
-loop-holds : tie.Need-loop-init invariant-loop decreases-loop
+loop-holds : tie.Need-loop-i-init invariant-loop decreases-loop
 loop-holds c =
     let at-args = c.before.before in
     taking-start at-args.args.items.now at-args.args.i at-args.args.scope.now at-args.args.top at-args.args.first at-args.requires.0
 
 kind-requires : tie.Need-kind-requires invariant-loop decreases-loop
 kind-requires c κs =
-    taking-in _ _ _ _ _ _ _ _ c.loop.invariant
+    taking-in _ _ _ _ _ _ _ _ c.loop-i.invariant
 
-same_length : tie.Need-same-length invariant-loop decreases-loop
+same_length : tie.Need-shape_of-scope-then-n-eq-FORMALS invariant-loop decreases-loop
 same_length c =
-    c.before.before.before.loop.invariant.sized
+    c.before.before.before.loop-i.invariant.sized
 
-returns : tie.Need-returns invariant-loop decreases-loop
+returns : tie.Need-returns-then-n-eq-FORMALS invariant-loop decreases-loop
 returns c =
-    (taking-many _ _ _ _ _ _ _ _ c.before.before.before.loop.invariant (sym c.before.before.kind.ensures ∙ c.before.if1.true) c.if2.true, c.before.before.before.loop.invariant.kept)
+    (taking-many _ _ _ _ _ _ _ _ c.before.before.before.loop-i.invariant (sym c.before.before.kind.ensures ∙ c.before.loop-i-test.true) c.if-n-eq-FORMALS.true, c.before.before.before.loop-i.invariant.kept)
 
-head-requires : tie.Need-head-requires invariant-loop decreases-loop
+head-requires : tie.Need-head-at-requires invariant-loop decreases-loop
 head-requires c κs =
-    taking-in _ _ _ _ _ _ _ _ c.before.before.before.loop.invariant
+    taking-in _ _ _ _ _ _ _ _ c.before.before.before.loop-i.invariant
 
-kind-requires-2 : tie.Need-kind-requires-2 invariant-loop decreases-loop
+kind-requires-2 : tie.Need-kind-requires-in-loop-i invariant-loop decreases-loop
 kind-requires-2 c κs =
-    taking-head-in _ _ _ _ _ _ _ _ c.before.before.before.before.loop.invariant (sym c.before.before.before.kind.ensures ∙ c.before.before.if1.true) _ c.head.ensures
+    taking-head-in _ _ _ _ _ _ _ _ c.before.before.before.before.loop-i.invariant (sym c.before.before.before.kind.ensures ∙ c.before.before.loop-i-test.true) _ c.head-at.ensures
 
-same-length-2 : tie.Need-same-length-2 invariant-loop decreases-loop
+same-length-2 : tie.Need-shape_of-scope-then-kind-ne-NAME invariant-loop decreases-loop
 same-length-2 c =
-    c.before.before.before.before.before.before.loop.invariant.sized
+    c.before.before.before.before.before.before.loop-i.invariant.sized
 
-returns-2 : tie.Need-returns-2 invariant-loop decreases-loop
+returns-2 : tie.Need-returns-then-kind-ne-NAME invariant-loop decreases-loop
 returns-2 c =
     let at-kind2 = c.before in
     let at_head = at-kind2.before in
     let at-if1 = at_head.before.before in
     let at-kind = at-if1.before in
-    let loop' = at-kind.before.loop in
-    (passing-other _ _ _ loop'.invariant.passed loop'.invariant.passing _ (sym at-kind.kind.ensures ∙ at-if1.if1.true) at_head.head.ensures (λ e. c.if3.true (at-kind2.kind2.ensures ∙ e)), loop'.invariant.kept)
+    let loop' = at-kind.before.loop-i in
+    (passing-other _ _ _ loop'.invariant.passed loop'.invariant.passing _ (sym at-kind.kind.ensures ∙ at-if1.loop-i-test.true) at_head.head-at.ensures (λ e. c.if-kind-ne-NAME.true (at-kind2.kind-in-loop-i.ensures ∙ e)), loop'.invariant.kept)
 
-head-requires-2 : tie.Need-head-requires-2 invariant-loop decreases-loop
+head-requires-2 : tie.Need-head-name-requires invariant-loop decreases-loop
 head-requires-2 c κs =
     let at_head = c.before.before in
     let at-if1 = at_head.before.before in
     let at-kind = at-if1.before in
-    taking-head-in _ _ _ _ _ _ _ _ at-kind.before.loop.invariant (sym at-kind.kind.ensures ∙ at-if1.if1.true) _ at_head.head.ensures
+    taking-head-in _ _ _ _ _ _ _ _ at-kind.before.loop-i.invariant (sym at-kind.kind.ensures ∙ at-if1.loop-i-test.true) _ at_head.head-at.ensures
 
-same-length-3 : tie.Need-same-length-3 invariant-loop decreases-loop
+same-length-3 : tie.Need-shape_of-scope-then-name-lt3 invariant-loop decreases-loop
 same-length-3 c =
-    c.before.before.before.before.before.before.before.before.loop.invariant.sized
+    c.before.before.before.before.before.before.before.before.loop-i.invariant.sized
 
-returns-3 : tie.Need-returns-3 invariant-loop decreases-loop
+returns-3 : tie.Need-returns-then-name-lt3 invariant-loop decreases-loop
 returns-3 c =
     let at-head2 = c.before in
     let at-if3 = at-head2.before in
@@ -72,25 +72,25 @@ returns-3 c =
     let at_head = at-kind2.before in
     let at-if1 = at_head.before.before in
     let at-kind = at-if1.before in
-    let loop' = at-kind.before.loop in
-    (taking-none _ _ _ _ _ _ _ _ loop'.invariant (sym at-kind.kind.ensures ∙ at-if1.if1.true) _ at_head.head.ensures (sym at-kind2.kind2.ensures ∙ at-if3.if3.false) _ at-head2.head2.ensures (formals-low loop'.invariant.passed _ c.if4.true), loop'.invariant.kept)
+    let loop' = at-kind.before.loop-i in
+    (taking-none _ _ _ _ _ _ _ _ loop'.invariant (sym at-kind.kind.ensures ∙ at-if1.loop-i-test.true) _ at_head.head-at.ensures (sym at-kind2.kind-in-loop-i.ensures ∙ at-if3.if-kind-ne-NAME.false) _ at-head2.head-name.ensures (formals-low loop'.invariant.passed _ c.if-name-lt3.true), loop'.invariant.kept)
 
-add-innermost : tie.Need-overflow-add-innermost invariant-loop decreases-loop
+add-innermost : tie.Need-overflow_add-top invariant-loop decreases-loop
 add-innermost c =
     let at-loop = c.before.before.before.before.before.before.before.before.before in
     let at-good = at-loop.before.before.before in
-    omega (arith, at-loop.loop.invariant.few, at-good.requires.1, at-good.well-formed.1)
+    omega (arith, at-loop.loop-i.invariant.few, at-good.requires.1, at-good.well_formed.1)
 
 innermost-requires : tie.Need-innermost-requires invariant-loop decreases-loop
 innermost-requires c κs =
     let at-loop = c.before.before.before.before.before.before.before.before.before in
-    omega (arith, at-loop.loop.invariant.few, at-loop.loop.invariant.sized, at-loop.before.before.before.requires.1)
+    omega (arith, at-loop.loop-i.invariant.few, at-loop.loop-i.invariant.sized, at-loop.before.before.before.requires.1)
 
-same-length-4 : tie.Need-same-length-4 invariant-loop decreases-loop
+same-length-4 : tie.Need-shape_of-scope-then-innermost-top invariant-loop decreases-loop
 same-length-4 c =
-    c.before.before.before.before.before.before.before.before.before.before.before.loop.invariant.sized
+    c.before.before.before.before.before.before.before.before.before.before.before.loop-i.invariant.sized
 
-returns-4 : tie.Need-returns-4 invariant-loop decreases-loop
+returns-4 : tie.Need-returns-then-innermost-top invariant-loop decreases-loop
 returns-4 c =
     let at-innermost = c.before in
     let at-head2 = at-innermost.before.before.before in
@@ -99,20 +99,20 @@ returns-4 c =
     let at_head = at-kind2.before in
     let at-if1 = at_head.before.before in
     let at-kind = at-if1.before in
-    let loop' = at-kind.before.loop in
-    (taking-twice _ _ _ _ _ _ _ _ loop'.invariant (sym at-kind.kind.ensures ∙ at-if1.if1.true) _ at_head.head.ensures (sym at-kind2.kind2.ensures ∙ at-if3.if3.false) _ at-head2.head2.ensures (omega (arith, c.if5.true, at-innermost.innermost.ensures)), loop'.invariant.kept)
+    let loop' = at-kind.before.loop-i in
+    (taking-twice _ _ _ _ _ _ _ _ loop'.invariant (sym at-kind.kind.ensures ∙ at-if1.loop-i-test.true) _ at_head.head-at.ensures (sym at-kind2.kind-in-loop-i.ensures ∙ at-if3.if-kind-ne-NAME.false) _ at-head2.head-name.ensures (omega (arith, c.if-innermost-top.true, at-innermost.innermost.ensures)), loop'.invariant.kept)
 
-add-scope : tie.Need-overflow-add-scope invariant-loop decreases-loop
+add-scope : tie.Need-overflow_add-scope invariant-loop decreases-loop
 add-scope c =
     let at-loop = c.before.before.before.before.before.before.before.before.before.before.before.before in
-    omega (arith, at-loop.loop.invariant.few, c.wide.ensures, at-loop.before.before.before.ranges)
+    omega (arith, at-loop.loop-i.invariant.few, c.wide.ensures, at-loop.before.before.before.ranges)
 
-mul-scope : tie.Need-overflow-mul-scope invariant-loop decreases-loop
+mul-scope : tie.Need-overflow_mul-scope invariant-loop decreases-loop
 mul-scope c =
     let at-loop = c.before.before.before.before.before.before.before.before.before.before.before.before in
-    omega (arith, at-loop.loop.invariant.few, c.wide.ensures, at-loop.before.before.before.ranges)
+    omega (arith, at-loop.loop-i.invariant.few, c.wide.ensures, at-loop.before.before.before.ranges)
 
-add-scope-2 : tie.Need-overflow-add-scope-2 invariant-loop decreases-loop
+add-scope-2 : tie.Need-overflow_add-scope-in-loop-i invariant-loop decreases-loop
 add-scope-2 c =
     let at-head2 = c.before.before.before.before.before in
     let at-if3 = at-head2.before in
@@ -121,36 +121,36 @@ add-scope-2 c =
     let at-if1 = at_head.before.before in
     let at-kind = at-if1.before in
     let at-loop = at-kind.before in
-    omega (arith, at-loop.loop.invariant.few, c.wide.ensures, at-loop.before.before.before.ranges, taking-small _ _ _ _ _ _ _ _ at-loop.loop.invariant (sym at-kind.kind.ensures ∙ at-if1.if1.true) _ at_head.head.ensures (sym at-kind2.kind2.ensures ∙ at-if3.if3.false) _ at-head2.head2.ensures)
+    omega (arith, at-loop.loop-i.invariant.few, c.wide.ensures, at-loop.before.before.before.ranges, taking-small _ _ _ _ _ _ _ _ at-loop.loop-i.invariant (sym at-kind.kind.ensures ∙ at-if1.loop-i-test.true) _ at_head.head-at.ensures (sym at-kind2.kind-in-loop-i.ensures ∙ at-if3.if-kind-ne-NAME.false) _ at-head2.head-name.ensures)
 
-add-scope-3 : tie.Need-overflow-add-scope-3 invariant-loop decreases-loop
+add-scope-3 : tie.Need-overflow_add-scope-in-loop-i-2 invariant-loop decreases-loop
 add-scope-3 c =
     let at-loop = c.before.before.before.before.before.before.before.before.before.before.before.before in
     let at-good = at-loop.before.before.before in
-    omega (arith, at-loop.loop.invariant.few, at-good.requires.1, at-good.well-formed.1)
+    omega (arith, at-loop.loop-i.invariant.few, at-good.requires.1, at-good.well_formed.1)
 
-slice-write-scope : tie.Need-slice-write-scope invariant-loop decreases-loop
+slice-write-scope : tie.Need-bounds-scope-top invariant-loop decreases-loop
 slice-write-scope c =
     let at-if2 = c.before.before.before.before.before.before.before.before.before in
     let at-loop = at-if2.before.before.before in
-    omega (arith, at-loop.loop.invariant.few, at-if2.if2.false, at-loop.loop.invariant.sized, at-loop.before.before.before.requires.1)
+    omega (arith, at-loop.loop-i.invariant.few, at-if2.if-n-eq-FORMALS.false, at-loop.loop-i.invariant.sized, at-loop.before.before.before.requires.1)
 
-add-n : tie.Need-overflow-add-n invariant-loop decreases-loop
+add-n : tie.Need-overflow_add-n invariant-loop decreases-loop
 add-n c =
-    omega (arith, c.before.before.before.before.before.before.before.before.before.before.before.before.loop.invariant.few)
+    omega (arith, c.before.before.before.before.before.before.before.before.before.before.before.before.loop-i.invariant.few)
 
-tail-requires : tie.Need-tail-requires invariant-loop decreases-loop
+tail-requires : tie.Need-tail-j-requires invariant-loop decreases-loop
 tail-requires c κs =
-    taking-in _ _ _ _ _ _ _ _ c.before.before.before.before.before.before.before.before.before.before.before.before.loop.invariant
+    taking-in _ _ _ _ _ _ _ _ c.before.before.before.before.before.before.before.before.before.before.before.before.loop-i.invariant
 
-loop-less : tie.Need-loop-smaller invariant-loop decreases-loop
+loop-less : tie.Need-loop-i-smaller invariant-loop decreases-loop
 loop-less c =
     let at-if1 = c.before.before.before.before.before.before.before.before.before.before.before in
     let at-kind = at-if1.before in
-    let loop' = at-kind.before.loop in
-    omega (arith, c.tail.ensures, (taking-pair _ _ _ _ _ _ _ _ loop'.invariant (sym at-kind.kind.ensures ∙ at-if1.if1.true)).pair.tail_is, taking-in _ _ _ _ _ _ _ _ loop'.invariant)
+    let loop' = at-kind.before.loop-i in
+    omega (arith, c.tail-j.ensures, (taking-pair _ _ _ _ _ _ _ _ loop'.invariant (sym at-kind.kind.ensures ∙ at-if1.loop-i-test.true)).pair.tail_is, taking-in _ _ _ _ _ _ _ _ loop'.invariant)
 
-loop-again : tie.Need-loop-preserved invariant-loop decreases-loop
+loop-again : tie.Need-loop-i-preserved invariant-loop decreases-loop
 loop-again c =
     let at_wide = c.before in
     let at-if5 = at_wide.before in
@@ -164,34 +164,34 @@ loop-again c =
     let at-if1 = at-if2.before in
     let at-kind = at-if1.before in
     let at-loop = at-kind.before in
-    taking-next _ _ _ _ _ _ _ _ at-loop.loop.invariant (sym at-kind.kind.ensures ∙ at-if1.if1.true) _ at_head.head.ensures (sym at-kind2.kind2.ensures ∙ at-if3.if3.false) _ at-head2.head2.ensures at-if4.if4.false (omega (arith, at-if5.if5.false, at-innermost.innermost.ensures)) at-if2.if2.false at-loop.before.before.before.requires.1 _ c.tail.ensures _ at_wide.wide.ensures
+    taking-next _ _ _ _ _ _ _ _ at-loop.loop-i.invariant (sym at-kind.kind.ensures ∙ at-if1.loop-i-test.true) _ at_head.head-at.ensures (sym at-kind2.kind-in-loop-i.ensures ∙ at-if3.if-kind-ne-NAME.false) _ at-head2.head-name.ensures at-if4.if-name-lt3.false (omega (arith, at-if5.if-innermost-top.false, at-innermost.innermost.ensures)) at-if2.if-n-eq-FORMALS.false at-loop.before.before.before.requires.1 _ c.tail-j.ensures _ at_wide.wide.ensures
 
-kind-requires-3 : tie.Need-kind-requires-3 invariant-loop decreases-loop
+kind-requires-3 : tie.Need-kind-requires-2 invariant-loop decreases-loop
 kind-requires-3 c κs =
-    taking-in _ _ _ _ _ _ _ _ c.before.before.loop.invariant
+    taking-in _ _ _ _ _ _ _ _ c.before.before.loop-i.invariant
 
-same-length-5 : tie.Need-same-length-5 invariant-loop decreases-loop
+same-length-5 : tie.Need-shape_of-scope-then-kind-ne-EMPTY invariant-loop decreases-loop
 same-length-5 c =
-    c.before.before.before.before.loop.invariant.sized
+    c.before.before.before.before.loop-i.invariant.sized
 
-returns-5 : tie.Need-returns-5 invariant-loop decreases-loop
+returns-5 : tie.Need-returns-then-kind-ne-EMPTY invariant-loop decreases-loop
 returns-5 c =
     let at-kind3 = c.before in
     let at-if1 = at-kind3.before in
     let at-kind = at-if1.before in
-    let loop' = at-kind.before.loop in
-    (passing-not _ _ _ loop'.invariant.passed loop'.invariant.passing (λ e. at-if1.if1.false (at-kind.kind.ensures ∙ e)) (λ e. c.if6.true (at-kind3.kind3.ensures ∙ e)), loop'.invariant.kept)
+    let loop' = at-kind.before.loop-i in
+    (passing-not _ _ _ loop'.invariant.passed loop'.invariant.passing (λ e. at-if1.loop-i-test.false (at-kind.kind.ensures ∙ e)) (λ e. c.if-kind-ne-EMPTY.true (at-kind3.kind-2.ensures ∙ e)), loop'.invariant.kept)
 
-same-length-6 : tie.Need-same-length-6 invariant-loop decreases-loop
+same-length-6 : tie.Need-shape_of-scope invariant-loop decreases-loop
 same-length-6 c =
-    c.before.before.before.before.loop.invariant.sized
+    c.before.before.before.before.loop-i.invariant.sized
 
-returns-6 : tie.Need-returns-6 invariant-loop decreases-loop
+returns-6 : tie.Need-returns invariant-loop decreases-loop
 returns-6 c =
-    (taking-end _ _ _ _ _ _ _ _ c.before.before.before.before.loop.invariant (sym c.before.kind3.ensures ∙ c.if6.false), c.before.before.before.before.loop.invariant.kept)
+    (taking-end _ _ _ _ _ _ _ _ c.before.before.before.before.loop-i.invariant (sym c.before.kind-2.ensures ∙ c.if-kind-ne-EMPTY.false), c.before.before.before.before.loop-i.invariant.kept)
 
-pub formals-spec : {M : Type 1} → statement M
-formals-spec =
+pub formals_spec : {M : Type 1} → statement M
+formals_spec =
     tie.close
     (tie.spec
     invariant-loop

@@ -8,17 +8,17 @@ use Rattle.supplier.specs.Walk.{same, outside}
 use Rattle.supplier.specs.ToldLaws.{told-as, told_same}
 use Rattle.supplier.specs.Told.{found_of}
 
-returns : tie.Need-returns
+returns : tie.Need-returns-then-is_quotation
 returns c =
-    λ ds o. told-as _ _ _ _ (ap (λ b. cond b (same c.before.before.before.before.args.words.now) outside) (sym c.if1.true ∙ c.before.is-quotation.ensures ds o)) (told_same _ 0 (omega arith))
+    λ ds o. told-as _ _ _ _ (ap (λ b. cond b (same c.before.before.before.before.args.words.now) outside) (sym c.if-is_quotation.true ∙ c.before.is_quotation.ensures ds o)) (told_same _ 0 (omega arith))
 
-returns-2 : tie.Need-returns-2
+returns-2 : tie.Need-returns
 unfolding found_of
 returns-2 c =
-    λ ds o. told-as _ _ _ _ (ap (λ b. cond b (same c.before.before.before.before.before.args.words.now) outside) (sym c.before.if1.false ∙ c.before.before.is-quotation.ensures ds o)) c.lost.ensures
+    λ ds o. told-as _ _ _ _ (ap (λ b. cond b (same c.before.before.before.before.before.args.words.now) outside) (sym c.before.if-is_quotation.false ∙ c.before.before.is_quotation.ensures ds o)) c.lost.ensures
 
-pub quotation-spec : {M : Type 1} → statement M
-quotation-spec =
+pub quotation_spec : {M : Type 1} → statement M
+quotation_spec =
     tie.close
     (tie.spec
     (λ c κs. search rules)  -- is-quotation-requires

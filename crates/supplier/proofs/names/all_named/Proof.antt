@@ -11,42 +11,42 @@ use Rattle.words.specs.Lists.{all_of}
 use Rattle.datum.specs.NameTable.{has_name}
 use Rattle.core_term.specs.Code.WindowLaws.{names-next, names-bad, names-end}
 
-abbrev invariant-loop : tie.invariant-loop
+abbrev invariant-loop : tie.invariant-loop-k
 invariant-loop names numbers k₀ k =
     (k ≤ length numbers) × (all_of (has_name names) (drop k numbers) ≡ all_of (has_name names) numbers)
 
-abbrev decreases-loop : tie.decreases-loop
+abbrev decreases-loop : tie.decreases-loop-k
 decreases-loop names numbers k₀ k =
     length numbers - k
 
-loop-holds : tie.Need-loop-init invariant-loop decreases-loop
+loop-holds : tie.Need-loop-k-init invariant-loop decreases-loop
 loop-holds c =
     (omega arith, refl)
 
-returns : tie.Need-returns invariant-loop decreases-loop
+returns : tie.Need-returns-then-not-has_name invariant-loop decreases-loop
 returns c =
     let at-has-name = c.before in
     let at_small = at-has-name.before in
     let at-loop-test = at_small.before.before in
     let at-loop = at-loop-test.before in
     let args' = at-loop.before.before.before.args in
-    names-bad (has_name args'.names.now) args'.numbers.now at-loop.loop.k at-loop.loop.invariant.1 at-loop-test.loop-test.true (sym (ap (has_name args'.names.now) at_small.small.ensures) ∙ sym at-has-name.has-name.ensures ∙ not-true _ c.if1.true)
+    names-bad (has_name args'.names.now) args'.numbers.now at-loop.loop-k.k at-loop.loop-k.invariant.1 at-loop-test.loop-k-test.true (sym (ap (has_name args'.names.now) at_small.small.ensures) ∙ sym at-has-name.has_name.ensures ∙ not-true _ c.if-not-has_name.true)
 
-loop-again : tie.Need-loop-preserved invariant-loop decreases-loop
+loop-again : tie.Need-loop-k-preserved invariant-loop decreases-loop
 loop-again c =
     let at-has-name = c.before in
     let at_small = at-has-name.before in
     let at-loop-test = at_small.before.before in
     let at-loop = at-loop-test.before in
     let args' = at-loop.before.before.before.args in
-    (omega (arith, at-loop-test.loop-test.true), names-next (has_name args'.names.now) args'.numbers.now at-loop.loop.k at-loop.loop.invariant.1 at-loop-test.loop-test.true (sym (ap (has_name args'.names.now) at_small.small.ensures) ∙ sym at-has-name.has-name.ensures ∙ not-false _ c.if1.false))
+    (omega (arith, at-loop-test.loop-k-test.true), names-next (has_name args'.names.now) args'.numbers.now at-loop.loop-k.k at-loop.loop-k.invariant.1 at-loop-test.loop-k-test.true (sym (ap (has_name args'.names.now) at_small.small.ensures) ∙ sym at-has-name.has_name.ensures ∙ not-false _ c.if-not-has_name.false))
 
-returns-2 : tie.Need-returns-2 invariant-loop decreases-loop
+returns-2 : tie.Need-returns invariant-loop decreases-loop
 returns-2 c =
-    names-end (has_name c.before.before.before.before.args.names.now) c.before.before.before.before.args.numbers.now c.before.loop.k c.before.loop.invariant.1 (omega (arith, c.before.loop.invariant.0, c.loop-test.false))
+    names-end (has_name c.before.before.before.before.args.names.now) c.before.before.before.before.args.numbers.now c.before.loop-k.k c.before.loop-k.invariant.1 (omega (arith, c.before.loop-k.invariant.0, c.loop-k-test.false))
 
-pub all-named-spec : {M : Type 1} → statement M
-all-named-spec =
+pub all_named_spec : {M : Type 1} → statement M
+all_named_spec =
     tie.close
     (tie.spec
     invariant-loop

@@ -11,25 +11,25 @@ use Rattle.words.specs.Lists.{equal}
 use Rattle.datum.specs.NameTable.{length_at, name_at}
 use Rattle.supplier.specs.NamesLaws.{part-name}
 
-add-to : tie.Need-overflow-add-to
+add-to : tie.Need-overflow_add-to
 unfolding length_at
 add-to c =
     let pre = c.before.before.before.before.requires in
-    omega (arith, c.length-of.ensures, pre.0.0, pre.0.1, c.before.before.before.before.well-formed.0)
+    omega (arith, c.length_of.ensures, pre.0.0, pre.0.1, c.before.before.before.before.well_formed.0)
 
-part-spells-end : tie.Need-slice-bounds-spells-end
+part-spells-end : tie.Need-slice_bounds-spells-end
 unfolding length_at
 part-spells-end c =
     let pre = c.before.before.before.before.requires in
-    omega (arith, c.length-of.ensures, pre.0.0, pre.0.1)
+    omega (arith, c.length_of.ensures, pre.0.0, pre.0.1)
 
 returns : tie.Need-returns
 returns c =
     let args = c.before.before.before.before.before.before.args in
-    c.spells.ensures ∙ ap (λ w. equal w (name_at args.ours.now args.m)) (part-name args.theirs.now args.n _ (omega (arith, c.before.before.length-of.ensures)))
+    c.spells.ensures ∙ ap (λ w. equal w (name_at args.ours.now args.m)) (part-name args.theirs.now args.n _ (omega (arith, c.before.before.length_of.ensures)))
 
-pub same-name-spec : {M : Type 1} → statement M
-same-name-spec =
+pub same_name_spec : {M : Type 1} → statement M
+same_name_spec =
     tie.close
     (tie.spec
     (λ c. search rules)  -- mul-start

@@ -7,39 +7,39 @@ use Prim.Native.Nat.{◌≤◌}
 use Rattle.supplier.specs.Scope.{innermost}
 use Rattle.supplier.specs.ScopeLaws.{innermost-found, innermost-next}
 
-abbrev invariant-loop : tie.invariant-loop
+abbrev invariant-loop : tie.invariant-loop-k
 invariant-loop scope top name k₀ k =
     (k ≤ top) × (innermost name scope top ≡ innermost name scope k)
 
-abbrev decreases-loop : tie.decreases-loop
+abbrev decreases-loop : tie.decreases-loop-k
 decreases-loop scope top name k₀ k =
     k
 
-loop-holds : tie.Need-loop-init invariant-loop decreases-loop
+loop-holds : tie.Need-loop-k-init invariant-loop decreases-loop
 loop-holds c =
     (omega arith, refl)
 
-returns : tie.Need-returns invariant-loop decreases-loop
+returns : tie.Need-returns-then-scope-k invariant-loop decreases-loop
 returns c =
     let at-loop-test = c.before.before in
     let at-loop = at-loop-test.before in
     let args' = at-loop.before.args in
-    sym (at-loop.loop.invariant.1 ∙ innermost-found args'.name args'.scope.now at-loop.loop.k at-loop-test.loop-test.true c.if1.true)
+    sym (at-loop.loop-k.invariant.1 ∙ innermost-found args'.name args'.scope.now at-loop.loop-k.k at-loop-test.loop-k-test.true c.if-scope-k.true)
 
-loop-again : tie.Need-loop-preserved invariant-loop decreases-loop
+loop-again : tie.Need-loop-k-preserved invariant-loop decreases-loop
 loop-again c =
     let at-loop-test = c.before.before in
     let at-loop = at-loop-test.before in
     let args' = at-loop.before.args in
-    (omega arith, at-loop.loop.invariant.1 ∙ innermost-next args'.name args'.scope.now at-loop.loop.k at-loop-test.loop-test.true c.if1.false)
+    (omega arith, at-loop.loop-k.invariant.1 ∙ innermost-next args'.name args'.scope.now at-loop.loop-k.k at-loop-test.loop-k-test.true c.if-scope-k.false)
 
-returns-2 : tie.Need-returns-2 invariant-loop decreases-loop
+returns-2 : tie.Need-returns invariant-loop decreases-loop
 unfolding innermost
 returns-2 c =
-    let e : c.before.loop.k ≡ 0 = omega (arith, c.loop-test.false) in sym (c.before.loop.invariant.1 ∙ ap (innermost c.before.before.args.name c.before.before.args.scope.now) e)
+    let e : c.before.loop-k.k ≡ 0 = omega (arith, c.loop-k-test.false) in sym (c.before.loop-k.invariant.1 ∙ ap (innermost c.before.before.args.name c.before.before.args.scope.now) e)
 
-pub innermost-spec : {M : Type 1} → statement M
-innermost-spec =
+pub innermost_spec : {M : Type 1} → statement M
+innermost_spec =
     tie.close
     (tie.spec
     invariant-loop

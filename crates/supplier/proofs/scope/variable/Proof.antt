@@ -3,16 +3,16 @@ use Rattle.supplier.proofs.scope.variable.Tie as tie
 use borrow.Author.Rules.{rules}
 use native.Mathlib.Omega.{arith}
 
-mul-result : tie.Need-overflow-mul-result
+mul-result : tie.Need-offset_bounds-scope-k
 mul-result c =
-    omega (arith, c.requires, c.well-formed)
+    omega (arith, c.requires, c.well_formed)
 
-shared-slice-read-result : tie.Need-shared-slice-read-result
+shared-slice-read-result : tie.Need-bounds-scope-k
 shared-slice-read-result c =
     c.before.requires
 
-pub variable-spec : {M : Type 1} → statement M
-variable-spec =
+pub variable_spec : {M : Type 1} → statement M
+variable_spec =
     tie.close
     (tie.spec
     mul-result

@@ -6,29 +6,29 @@ use native.Mathlib.Omega.{arith}
 use Rattle.supplier.specs.Names.{Slot}
 use Rattle.supplier.specs.ToldLaws.{place-sort, place-past, place_is}
 
-returns : tie.Need-returns
+returns : tie.Need-returns-then-node-ne-OPERATION
 returns c =
-    λ ws f. place-sort _ _ _ ws _ f _ c.if1.true
+    λ ws f. place-sort _ _ _ ws _ f _ c.if-node-ne-OPERATION.true
 
-returns-2 : tie.Need-returns-2
+returns-2 : tie.Need-returns-then-operations-p
 returns-2 c =
-    λ ws f. place-past _ _ _ ws _ f _ _ c.before.wide.ensures c.if2.true
+    λ ws f. place-past _ _ _ ws _ f _ _ c.before.wide-p.ensures c.if-operations-p.true
 
-same-name-requires : tie.Need-same-name-requires
+same-name-requires : tie.Need-same_name-requires
 same-name-requires c κs =
     let at-if2 = c.before.before in
     let pre' = at-if2.before.before.before.before.before.before.before.requires in
-    (pre'.0.0 _ pre'.1, subst (Slot _) (sym c.small.ensures) (pre'.0.1 _ at-if2.if2.false))
+    (pre'.0.0 _ pre'.1, subst (Slot _) (sym c.small.ensures) (pre'.0.1 _ at-if2.if-operations-p.false))
 
-returns-3 : tie.Need-returns-3
+returns-3 : tie.Need-returns
 returns-3 c =
     let at_small = c.before in
     let at-if2 = at_small.before.before in
     let at_wide = at-if2.before in
-    λ ws f. place_is _ _ _ ws _ f _ _ at_wide.wide.ensures at_wide.before.if1.false at-if2.if2.false _ at_small.small.ensures _ c.same-name.ensures
+    λ ws f. place_is _ _ _ ws _ f _ _ at_wide.wide-p.ensures at_wide.before.if-node-ne-OPERATION.false at-if2.if-operations-p.false _ at_small.small.ensures _ c.same_name.ensures
 
-pub is-place-spec : {M : Type 1} → statement M
-is-place-spec =
+pub is_place_spec : {M : Type 1} → statement M
+is_place_spec =
     tie.close
     (tie.spec
     returns

@@ -6,39 +6,39 @@ use borrow.Author.Tests.{not-true, not-false}
 use Rattle.supplier.specs.NamesLaws.{has-slot}
 use Rattle.supplier.specs.ToldLaws.{quoted-sort, quoted-unnamed, quoted-other, quoted-same}
 
-returns : tie.Need-returns
+returns : tie.Need-returns-then-node-ne-NAME
 returns c =
-    λ operations. quoted-sort _ _ operations _ _ c.before.before.before.own.ensures _ c.before.if1.true _ c.lost.ensures
+    λ operations. quoted-sort _ _ operations _ _ c.before.before.before.own-node.ensures _ c.before.if-node-ne-NAME.true _ c.lost.ensures
 
-returns-2 : tie.Need-returns-2
+returns-2 : tie.Need-returns-then-not-has_name
 returns-2 c =
     let at-if2 = c.before in
     let at-has-name = at-if2.before in
     let at_wide = at-has-name.before in
-    λ operations. quoted-unnamed _ _ operations _ _ at_wide.before.before.before.own.ensures _ _ at_wide.wide.ensures (sym at-has-name.has-name.ensures ∙ not-true _ at-if2.if2.true) _ c.lost2.ensures
+    λ operations. quoted-unnamed _ _ operations _ _ at_wide.before.before.before.own-node.ensures _ _ at_wide.wide-m.ensures (sym at-has-name.has_name.ensures ∙ not-true _ at-if2.if-not-has_name.true) _ c.lost-then-not-has_name.ensures
 
-same-name-requires : tie.Need-same-name-requires
+same-name-requires : tie.Need-same_name-requires
 same-name-requires c κs =
-    (c.before.before.before.before.before.before.before.before.before.requires, has-slot _ _ (sym c.before.has-name.ensures ∙ not-false _ c.if2.false))
+    (c.before.before.before.before.before.before.before.before.before.requires, has-slot _ _ (sym c.before.has_name.ensures ∙ not-false _ c.if-not-has_name.false))
 
-returns-3 : tie.Need-returns-3
+returns-3 : tie.Need-returns-then-same_name
 returns-3 c =
     let at-same-name = c.before in
     let at-if2 = at-same-name.before in
     let at-has-name = at-if2.before in
     let at_wide = at-has-name.before in
     let at-if1 = at_wide.before in
-    λ operations. quoted-same _ _ operations _ _ at-if1.before.before.own.ensures _ _ at_wide.wide.ensures at-if1.if1.false (sym at-has-name.has-name.ensures ∙ not-false _ at-if2.if2.false) (sym at-same-name.same-name.ensures ∙ c.if3.true)
+    λ operations. quoted-same _ _ operations _ _ at-if1.before.before.own-node.ensures _ _ at_wide.wide-m.ensures at-if1.if-node-ne-NAME.false (sym at-has-name.has_name.ensures ∙ not-false _ at-if2.if-not-has_name.false) (sym at-same-name.same_name.ensures ∙ c.if-same_name.true)
 
-returns-4 : tie.Need-returns-4
+returns-4 : tie.Need-returns
 returns-4 c =
     let at-if3 = c.before in
     let at-same-name = at-if3.before in
     let at_wide = at-same-name.before.before.before in
-    λ operations. quoted-other _ _ operations _ _ at_wide.before.before.before.own.ensures _ _ at_wide.wide.ensures (sym at-same-name.same-name.ensures ∙ at-if3.if3.false) _ c.lost3.ensures
+    λ operations. quoted-other _ _ operations _ _ at_wide.before.before.before.own-node.ensures _ _ at_wide.wide-m.ensures (sym at-same-name.same_name.ensures ∙ at-if3.if-same_name.false) _ c.lost-2.ensures
 
-pub quoted-name-spec : {M : Type 1} → statement M
-quoted-name-spec =
+pub quoted_name_spec : {M : Type 1} → statement M
+quoted_name_spec =
     tie.close
     (tie.spec
     (λ c κs. search rules)  -- own-requires

@@ -5,14 +5,14 @@ use Rattle.words.proofs.packed.parts.Tie as tie
 use Rattle.words.specs.Code.Packed.{built-none, built-some}
 use mathlib.Core.Path.{sym}
 
-returns : tie.Need-returns
-returns c = sym (built-none _ c.if1.true)
+returns : tie.Need-returns-then-p-eq-NONE
+returns c = sym (built-none _ c.if-p-eq-NONE.true)
 
-returns-2 : tie.Need-returns-2
-returns-2 c = sym (built-some _ c.if1.false)
+returns-2 : tie.Need-returns
+returns-2 c = sym (built-some _ c.if-p-eq-NONE.false)
 
-pub parts-spec : {M : Type 1} → statement M
-parts-spec =
+pub parts_spec : {M : Type 1} → statement M
+parts_spec =
     tie.close
     (tie.spec
     returns

@@ -7,8 +7,8 @@ use borrow.Author.Rules.{rules}
 use Rattle.words.specs.Tables.{Zeroed}
 use Rattle.words.specs.TableLaws.{zeroed-none, zeroed-more, zeroed-all}
 
-pub zero-words-spec : {M : Type 1} → statement M
-zero-words-spec =
+pub zero_words_spec : {M : Type 1} → statement M
+zero_words_spec =
     tie.close
     (tie.spec
     (λ lent end start table i. Zeroed i lent table)  -- Inv-loop
@@ -18,6 +18,6 @@ zero-words-spec =
     (λ c. search rules)  -- slice-write-words
     (λ c. search rules)  -- add-i
     (λ c. search rules)  -- loop-less
-    (λ c. zeroed-more c.before.loop.invariant (omega arith))  -- loop-again
+    (λ c. zeroed-more c.before.loop-i.invariant (omega arith))  -- loop-again
     (λ c. search rules)  -- same-length
-    (λ c. zeroed-all c.before.loop.invariant (omega arith)))  -- returns
+    (λ c. zeroed-all c.before.loop-i.invariant (omega arith)))  -- returns

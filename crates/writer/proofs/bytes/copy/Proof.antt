@@ -9,46 +9,46 @@ use borrow.Author.Tests.{not-true, not-false}
 use Rattle.writer.specs.LaidLaws.{place-holds, full-holds, laid-dry, copy_more, copy_done}
 use Rattle.writer.specs.Laid.{Left, done, full}
 
-abbrev invariant-loop : tie.invariant-loop
+abbrev invariant-loop : tie.invariant-loop-i
 invariant-loop src out₀ at ink to i₀ out i =
     (length out ≡ length out₀) × (i ≤ length src) × (out ≡ paste out₀ at src i)
 
-abbrev decreases-loop : tie.decreases-loop
+abbrev decreases-loop : tie.decreases-loop-i
 decreases-loop src out₀ at ink to i₀ out i =
     length src - i
 
-returns : tie.Need-returns invariant-loop decreases-loop
+returns : tie.Need-returns-then-out-at invariant-loop decreases-loop
 returns c =
     full-holds (Left _ _ _ _ _) (full (omega arith) (λ h. refl))
 
-returns-2 : tie.Need-returns-2 invariant-loop decreases-loop
+returns-2 : tie.Need-returns-then-not-ink invariant-loop decreases-loop
 returns-2 c =
-    place-holds (Left _ _ _ _ _) (omega arith) (done refl (omega arith) (sym (laid-dry c.before.before.args.ink _ _ _ (not-true c.before.before.args.ink c.if2.true))))
+    place-holds (Left _ _ _ _ _) (omega arith) (done refl (omega arith) (sym (laid-dry c.before.before.args.ink _ _ _ (not-true c.before.before.args.ink c.if-not-ink.true))))
 
-loop-holds : tie.Need-loop-init invariant-loop decreases-loop
+loop-holds : tie.Need-loop-i-init invariant-loop decreases-loop
 loop-holds c =
     (refl, omega arith, paste-zero c.before.before.args.out.now c.before.before.args.at c.before.before.args.src.now)
 
-slice-write-out : tie.Need-slice-write-out invariant-loop decreases-loop
+slice-write-out : tie.Need-bounds-out-at invariant-loop decreases-loop
 slice-write-out c =
-    omega (arith, c.before.before.loop.invariant.0)
+    omega (arith, c.before.before.loop-i.invariant.0)
 
-loop-again : tie.Need-loop-preserved invariant-loop decreases-loop
+loop-again : tie.Need-loop-i-preserved invariant-loop decreases-loop
 loop-again c =
     let at-loop = c.before.before in
     let args' = at-loop.before.before.before.args in
-    (length-set at-loop.loop.out _ _ ∙ at-loop.loop.invariant.0, omega arith, copy_more args'.out.now _ args'.src.now at-loop.loop.out at-loop.loop.i (omega arith) (omega arith) at-loop.loop.invariant.2)
+    (length-set at-loop.loop-i.out _ _ ∙ at-loop.loop-i.invariant.0, omega arith, copy_more args'.out.now _ args'.src.now at-loop.loop-i.out at-loop.loop-i.i (omega arith) (omega arith) at-loop.loop-i.invariant.2)
 
-same_length : tie.Need-same-length invariant-loop decreases-loop
+same_length : tie.Need-shape_of-out invariant-loop decreases-loop
 same_length c =
-    c.before.loop.invariant.0
+    c.before.loop-i.invariant.0
 
-returns-3 : tie.Need-returns-3 invariant-loop decreases-loop
+returns-3 : tie.Need-returns invariant-loop decreases-loop
 returns-3 c =
     let at-loop = c.before in
     let at-if2 = at-loop.before in
     let args' = at-if2.before.before.args in
-    place-holds (Left _ _ _ _ _) (omega arith) (done refl (omega arith) (copy_done args'.out.now _ args'.src.now _ at-loop.loop.i args'.ink (omega arith) (not-false args'.ink at-if2.if2.false) at-loop.loop.invariant.2))
+    place-holds (Left _ _ _ _ _) (omega arith) (done refl (omega arith) (copy_done args'.out.now _ args'.src.now _ at-loop.loop-i.i args'.ink (omega arith) (not-false args'.ink at-if2.if-not-ink.false) at-loop.loop-i.invariant.2))
 
 pub copy_spec : {M : Type 1} → statement M
 copy_spec =

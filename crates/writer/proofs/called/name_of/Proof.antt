@@ -8,33 +8,33 @@ use Rattle.writer.proofs.called.find.Reads as find-reads
 use Rattle.writer.proofs.numbers.wide.Reads as wide-reads
 use Rattle.writer.specs.CalledLaws.{called-table, called-words}
 
-mul_wide : tie.Need-overflow-mul-wide
+mul_wide : tie.Need-offset_bounds-called-n
 mul_wide c =
-    omega (arith, c.before.before.requires.0, ap length (called-table c.before.before.args.direct c.before.before.args.called.now c.if1.true), c.before.before.well-formed.1.0.1)
+    omega (arith, c.before.before.requires.0, ap length (called-table c.before.before.args.direct c.before.before.args.called.now c.if-direct.true), c.before.before.well_formed.1.0.1)
 
-shared-slice-read-wide : tie.Need-shared-slice-read-wide
+shared-slice-read-wide : tie.Need-bounds-called-n
 shared-slice-read-wide c =
-    omega (arith, c.before.before.before.requires.0, ap length (called-table c.before.before.before.args.direct c.before.before.before.args.called.now c.before.if1.true))
+    omega (arith, c.before.before.before.requires.0, ap length (called-table c.before.before.before.args.direct c.before.before.before.args.called.now c.before.if-direct.true))
 
 wide-requires : tie.Need-wide-requires
 wide-requires c κs =
     search rules
 
-returns : tie.Need-returns
+returns : tie.Need-returns-then-direct
 returns c =
     let at-if1 = c.before.before in
     let args' = at-if1.before.before.args in
-    c.wide.ensures ∙ ap (λ (l : List ℕ). get_or l args'.n 0) (sym (called-table args'.direct args'.called.now at-if1.if1.true))
+    c.wide.ensures ∙ ap (λ (l : List ℕ). get_or l args'.n 0) (sym (called-table args'.direct args'.called.now at-if1.if-direct.true))
 
 find-requires : tie.Need-find-requires
 find-requires c κs =
-    (c.before.before.requires.1 c.if1.false, subst (λ (l : List ℕ). c.before.before.args.n < length l) (called-words c.before.before.args.direct c.before.before.args.called.now c.if1.false) c.before.before.requires.0)
+    (c.before.before.requires.1 c.if-direct.false, subst (λ (l : List ℕ). c.before.before.args.n < length l) (called-words c.before.before.args.direct c.before.before.args.called.now c.if-direct.false) c.before.before.requires.0)
 
-returns-2 : tie.Need-returns-2
+returns-2 : tie.Need-returns
 returns-2 c =
-    c.find.ensures ∙ ap (λ (l : List ℕ). get_or l c.before.before.before.args.n 0) (sym (called-words c.before.before.before.args.direct c.before.before.before.args.called.now c.before.if1.false))
+    c.find.ensures ∙ ap (λ (l : List ℕ). get_or l c.before.before.before.args.n 0) (sym (called-words c.before.before.before.args.direct c.before.before.before.args.called.now c.before.if-direct.false))
 
-pub name-of-spec : {M : Type 1} → statement M
-name-of-spec =
+pub name_of_spec : {M : Type 1} → statement M
+name_of_spec =
     tie.close
     (tie.spec mul_wide shared-slice-read-wide wide-requires returns find-requires returns-2)

@@ -9,76 +9,76 @@ use Rattle.std.proofs.Common.{◌≡◌, ◌+◌, ◌-◌, ◌≤◌, length, ta
 use Rattle.core_term.specs.Code.Scan.{Scan, scan-start, scan-more, scan-sizes, scan-next, scan-names, scan-count}
 use Rattle.writer.specs.CalledLaws.{Notes, notes-more, notes-all}
 
-abbrev invariant-loop : tie.invariant-loop
+abbrev invariant-loop : tie.invariant-loop-seen
 invariant-loop words count table₀ at₀ seen₀ table at seen =
     Scan words at seen × (length table ≡ length table₀) × Notes words seen table
 
-abbrev decreases-loop : tie.decreases-loop
+abbrev decreases-loop : tie.decreases-loop-seen
 decreases-loop words count table₀ at₀ seen₀ table at seen =
     length words - at
 
-loop-holds : tie.Need-loop-init invariant-loop decreases-loop
+loop-holds : tie.Need-loop-seen-init invariant-loop decreases-loop
 loop-holds c =
     (scan-start c.before.before.args.words.now c.before.before.requires.0, refl, refl)
 
-mul-shape-at : tie.Need-overflow-mul-shape-at invariant-loop decreases-loop
+mul-shape-at : tie.Need-offset_bounds-words-at invariant-loop decreases-loop
 mul-shape-at c =
     let at-loop = c.before in
     let at-args = at-loop.before.before.before in
-    let m = scan-more at-args.args.words.now _ _ at-loop.loop.invariant.0 (omega (arith, c.loop-test.true, at-args.requires.1)) in omega (arith, at-loop.loop.invariant.0.inside, at-args.well-formed)
+    let m = scan-more at-args.args.words.now _ _ at-loop.loop-seen.invariant.0 (omega (arith, c.loop-seen-test.true, at-args.requires.1)) in omega (arith, at-loop.loop-seen.invariant.0.inside, at-args.well_formed)
 
-sub-shape-at : tie.Need-overflow-sub-shape-at invariant-loop decreases-loop
+sub-shape-at : tie.Need-slice_bounds-shape_at-count invariant-loop decreases-loop
 sub-shape-at c =
-    c.before.loop.invariant.0.inside
+    c.before.loop-seen.invariant.0.inside
 
-part-shape-at-start : tie.Need-slice-bounds-shape-at-start invariant-loop decreases-loop
+part-shape-at-start : tie.Need-slice_bounds-shape_at-start invariant-loop decreases-loop
 part-shape-at-start c =
-    c.before.loop.invariant.0.inside
+    c.before.loop-seen.invariant.0.inside
 
-add-end : tie.Need-overflow-add-end invariant-loop decreases-loop
+add-end : tie.Need-overflow_add-end invariant-loop decreases-loop
 add-end c =
     let at-shape-at = c.before in
     let at-loop-test = at-shape-at.before.before in
     let at-loop = at-loop-test.before in
     let at-args = at-loop.before.before.before in
-    let m = scan-more at-args.args.words.now _ _ at-loop.loop.invariant.0 (omega (arith, at-loop-test.loop-test.true, at-args.requires.1)) in
-    let z = scan-sizes at-args.args.words.now _ _ at-loop.loop.invariant.0 m at-shape-at.shape_at.result at-shape-at.shape_at.ensures in omega (arith, z.2, at-args.well-formed)
+    let m = scan-more at-args.args.words.now _ _ at-loop.loop-seen.invariant.0 (omega (arith, at-loop-test.loop-seen-test.true, at-args.requires.1)) in
+    let z = scan-sizes at-args.args.words.now _ _ at-loop.loop-seen.invariant.0 m at-shape-at.shape_at-node.result at-shape-at.shape_at-node.ensures in omega (arith, z.2, at-args.well_formed)
 
-sub-put : tie.Need-overflow-sub-put invariant-loop decreases-loop
+sub-put : tie.Need-overflow_sub-end invariant-loop decreases-loop
 sub-put c =
     let at-shape-at = c.before.before in
     let at-loop-test = at-shape-at.before.before in
     let at-loop = at-loop-test.before in
     let at-args = at-loop.before.before.before in
-    let m = scan-more at-args.args.words.now _ _ at-loop.loop.invariant.0 (omega (arith, at-loop-test.loop-test.true, at-args.requires.1)) in
-    let z = scan-sizes at-args.args.words.now _ _ at-loop.loop.invariant.0 m at-shape-at.shape_at.result at-shape-at.shape_at.ensures in omega (arith, z.1)
+    let m = scan-more at-args.args.words.now _ _ at-loop.loop-seen.invariant.0 (omega (arith, at-loop-test.loop-seen-test.true, at-args.requires.1)) in
+    let z = scan-sizes at-args.args.words.now _ _ at-loop.loop-seen.invariant.0 m at-shape-at.shape_at-node.result at-shape-at.shape_at-node.ensures in omega (arith, z.1)
 
-mul-put : tie.Need-overflow-mul-put invariant-loop decreases-loop
+mul-put : tie.Need-offset_bounds-words-end invariant-loop decreases-loop
 mul-put c =
     let at-shape-at = c.before.before in
     let at-loop-test = at-shape-at.before.before in
     let at-loop = at-loop-test.before in
     let at-args = at-loop.before.before.before in
-    let m = scan-more at-args.args.words.now _ _ at-loop.loop.invariant.0 (omega (arith, at-loop-test.loop-test.true, at-args.requires.1)) in
-    let z = scan-sizes at-args.args.words.now _ _ at-loop.loop.invariant.0 m at-shape-at.shape_at.result at-shape-at.shape_at.ensures in omega (arith, z.1, z.2, at-args.well-formed)
+    let m = scan-more at-args.args.words.now _ _ at-loop.loop-seen.invariant.0 (omega (arith, at-loop-test.loop-seen-test.true, at-args.requires.1)) in
+    let z = scan-sizes at-args.args.words.now _ _ at-loop.loop-seen.invariant.0 m at-shape-at.shape_at-node.result at-shape-at.shape_at-node.ensures in omega (arith, z.1, z.2, at-args.well_formed)
 
-part-put-start : tie.Need-slice-bounds-put-start invariant-loop decreases-loop
+part-put-start : tie.Need-slice_bounds-put-start invariant-loop decreases-loop
 part-put-start c =
     let at-shape-at = c.before.before in
     let at-loop-test = at-shape-at.before.before in
     let at-loop = at-loop-test.before in
     let at-args = at-loop.before.before.before in
-    let m = scan-more at-args.args.words.now _ _ at-loop.loop.invariant.0 (omega (arith, at-loop-test.loop-test.true, at-args.requires.1)) in
-    let z = scan-sizes at-args.args.words.now _ _ at-loop.loop.invariant.0 m at-shape-at.shape_at.result at-shape-at.shape_at.ensures in omega (arith, z.1)
+    let m = scan-more at-args.args.words.now _ _ at-loop.loop-seen.invariant.0 (omega (arith, at-loop-test.loop-seen-test.true, at-args.requires.1)) in
+    let z = scan-sizes at-args.args.words.now _ _ at-loop.loop-seen.invariant.0 m at-shape-at.shape_at-node.result at-shape-at.shape_at-node.ensures in omega (arith, z.1)
 
-part-put-end : tie.Need-slice-bounds-put-end invariant-loop decreases-loop
+part-put-end : tie.Need-slice_bounds-put-end invariant-loop decreases-loop
 part-put-end c =
     let at-shape-at = c.before.before in
     let at-loop-test = at-shape-at.before.before in
     let at-loop = at-loop-test.before in
     let at-args = at-loop.before.before.before in
-    let m = scan-more at-args.args.words.now _ _ at-loop.loop.invariant.0 (omega (arith, at-loop-test.loop-test.true, at-args.requires.1)) in
-    let z = scan-sizes at-args.args.words.now _ _ at-loop.loop.invariant.0 m at-shape-at.shape_at.result at-shape-at.shape_at.ensures in omega (arith, z.2)
+    let m = scan-more at-args.args.words.now _ _ at-loop.loop-seen.invariant.0 (omega (arith, at-loop-test.loop-seen-test.true, at-args.requires.1)) in
+    let z = scan-sizes at-args.args.words.now _ _ at-loop.loop-seen.invariant.0 m at-shape-at.shape_at-node.result at-shape-at.shape_at-node.ensures in omega (arith, z.2)
 
 put-requires : tie.Need-put-requires invariant-loop decreases-loop
 put-requires c κs =
@@ -86,61 +86,61 @@ put-requires c κs =
     let at-loop-test = at-shape-at.before.before in
     let at-loop = at-loop-test.before in
     let at-args = at-loop.before.before.before in
-    let m = scan-more at-args.args.words.now _ _ at-loop.loop.invariant.0 (omega (arith, at-loop-test.loop-test.true, at-args.requires.1)) in
-    let z = scan-sizes at-args.args.words.now _ _ at-loop.loop.invariant.0 m at-shape-at.shape_at.result at-shape-at.shape_at.ensures in omega (arith, z.3, scan-count at-args.args.words.now _ _ at-loop.loop.invariant.0 m at-shape-at.shape_at.result at-shape-at.shape_at.ensures, at-loop.loop.invariant.1, at-args.requires.1, at-args.requires.2)
+    let m = scan-more at-args.args.words.now _ _ at-loop.loop-seen.invariant.0 (omega (arith, at-loop-test.loop-seen-test.true, at-args.requires.1)) in
+    let z = scan-sizes at-args.args.words.now _ _ at-loop.loop-seen.invariant.0 m at-shape-at.shape_at-node.result at-shape-at.shape_at-node.ensures in omega (arith, z.3, scan-count at-args.args.words.now _ _ at-loop.loop-seen.invariant.0 m at-shape-at.shape_at-node.result at-shape-at.shape_at-node.ensures, at-loop.loop-seen.invariant.1, at-args.requires.1, at-args.requires.2)
 
-add-seen : tie.Need-overflow-add-seen invariant-loop decreases-loop
+add-seen : tie.Need-overflow_add-seen invariant-loop decreases-loop
 add-seen c =
     let at-shape-at = c.before.before.before.before.before.before.before.before in
     let at-loop-test = at-shape-at.before.before in
     let at-loop = at-loop-test.before in
     let at-args = at-loop.before.before.before in
-    let m = scan-more at-args.args.words.now _ _ at-loop.loop.invariant.0 (omega (arith, at-loop-test.loop-test.true, at-args.requires.1)) in
-    let z = scan-sizes at-args.args.words.now _ _ at-loop.loop.invariant.0 m at-shape-at.shape_at.result at-shape-at.shape_at.ensures in omega (arith, z.3, at-args.requires.1, at-args.requires.2, at-args.well-formed)
+    let m = scan-more at-args.args.words.now _ _ at-loop.loop-seen.invariant.0 (omega (arith, at-loop-test.loop-seen-test.true, at-args.requires.1)) in
+    let z = scan-sizes at-args.args.words.now _ _ at-loop.loop-seen.invariant.0 m at-shape-at.shape_at-node.result at-shape-at.shape_at-node.ensures in omega (arith, z.3, at-args.requires.1, at-args.requires.2, at-args.well_formed)
 
-loop-less : tie.Need-loop-smaller invariant-loop decreases-loop
+loop-less : tie.Need-loop-seen-smaller invariant-loop decreases-loop
 loop-less c =
     let at-shape-at = c.before.before.before.before.before.before.before.before in
     let at-loop-test = at-shape-at.before.before in
     let at-loop = at-loop-test.before in
     let at-args = at-loop.before.before.before in
-    let m = scan-more at-args.args.words.now _ _ at-loop.loop.invariant.0 (omega (arith, at-loop-test.loop-test.true, at-args.requires.1)) in
-    let z = scan-sizes at-args.args.words.now _ _ at-loop.loop.invariant.0 m at-shape-at.shape_at.result at-shape-at.shape_at.ensures in omega (arith, z.0, z.2)
+    let m = scan-more at-args.args.words.now _ _ at-loop.loop-seen.invariant.0 (omega (arith, at-loop-test.loop-seen-test.true, at-args.requires.1)) in
+    let z = scan-sizes at-args.args.words.now _ _ at-loop.loop-seen.invariant.0 m at-shape-at.shape_at-node.result at-shape-at.shape_at-node.ensures in omega (arith, z.0, z.2)
 
-loop-again : tie.Need-loop-preserved invariant-loop decreases-loop
+loop-again : tie.Need-loop-seen-preserved invariant-loop decreases-loop
 loop-again c =
     let at-put = c.before.before.before in
     let at-shape-at = at-put.before.before.before.before.before in
     let at-loop-test = at-shape-at.before.before in
     let at-loop = at-loop-test.before in
     let at-args = at-loop.before.before.before in
-    let m = scan-more at-args.args.words.now _ _ at-loop.loop.invariant.0 (omega (arith, at-loop-test.loop-test.true, at-args.requires.1)) in
-    let z = scan-sizes at-args.args.words.now _ _ at-loop.loop.invariant.0 m at-shape-at.shape_at.result at-shape-at.shape_at.ensures in
+    let m = scan-more at-args.args.words.now _ _ at-loop.loop-seen.invariant.0 (omega (arith, at-loop-test.loop-seen-test.true, at-args.requires.1)) in
+    let z = scan-sizes at-args.args.words.now _ _ at-loop.loop-seen.invariant.0 m at-shape-at.shape_at-node.result at-shape-at.shape_at-node.ensures in
     let ws = at-args.args.words.now in
-    let count = at-shape-at.shape_at.result.names in
-    let end = at-loop.loop.at + at-shape-at.shape_at.result.own in
-    let k = scan-count ws _ _ at-loop.loop.invariant.0 m at-shape-at.shape_at.result at-shape-at.shape_at.ensures in
-    let n = scan-names ws _ _ at-loop.loop.invariant.0 m at-shape-at.shape_at.result at-shape-at.shape_at.ensures in
-    let room : at-loop.loop.seen + count ≤ length at-loop.loop.table = omega (arith, z.3, at-loop.loop.invariant.1, at-args.requires.1, at-args.requires.2) in (
-      scan-next ws _ _ at-loop.loop.invariant.0 m at-shape-at.shape_at.result at-shape-at.shape_at.ensures,
-      at-put.put.auto.1.0 ∙ at-loop.loop.invariant.1,
-      ap (take (at-loop.loop.seen + count)) at-put.put.ensures
-          ∙ notes-more ws at-loop.loop.table (take (end - (end - count)) (drop (end - count) ws)) at-loop.loop.seen count at-loop.loop.invariant.2 room z.3 k n,
+    let count = at-shape-at.shape_at-node.result.names in
+    let end = at-loop.loop-seen.at + at-shape-at.shape_at-node.result.own in
+    let k = scan-count ws _ _ at-loop.loop-seen.invariant.0 m at-shape-at.shape_at-node.result at-shape-at.shape_at-node.ensures in
+    let n = scan-names ws _ _ at-loop.loop-seen.invariant.0 m at-shape-at.shape_at-node.result at-shape-at.shape_at-node.ensures in
+    let room : at-loop.loop-seen.seen + count ≤ length at-loop.loop-seen.table = omega (arith, z.3, at-loop.loop-seen.invariant.1, at-args.requires.1, at-args.requires.2) in (
+      scan-next ws _ _ at-loop.loop-seen.invariant.0 m at-shape-at.shape_at-node.result at-shape-at.shape_at-node.ensures,
+      at-put.put.auto.1.0 ∙ at-loop.loop-seen.invariant.1,
+      ap (take (at-loop.loop-seen.seen + count)) at-put.put.ensures
+          ∙ notes-more ws at-loop.loop-seen.table (take (end - (end - count)) (drop (end - count) ws)) at-loop.loop-seen.seen count at-loop.loop-seen.invariant.2 room z.3 k n,
     )
 
-same_length : tie.Need-same-length invariant-loop decreases-loop
+same_length : tie.Need-shape_of-table invariant-loop decreases-loop
 same_length c =
-    c.before.loop.invariant.1
+    c.before.loop-seen.invariant.1
 
 returns : tie.Need-returns invariant-loop decreases-loop
 returns c =
     let at-loop = c.before in
     let at-args = at-loop.before.before.before in
-    let e : at-loop.loop.seen ≡ at-args.args.count = omega (arith, at-loop.loop.invariant.0.known, c.loop-test.false, at-args.requires.1) in
-    ap (λ n. take n at-loop.loop.table) (sym e) ∙ notes-all at-args.args.words.now at-loop.loop.table at-loop.loop.seen at-loop.loop.invariant.2 (omega (arith, e, at-args.requires.1))
+    let e : at-loop.loop-seen.seen ≡ at-args.args.count = omega (arith, at-loop.loop-seen.invariant.0.known, c.loop-seen-test.false, at-args.requires.1) in
+    ap (λ n. take n at-loop.loop-seen.table) (sym e) ∙ notes-all at-args.args.words.now at-loop.loop-seen.table at-loop.loop-seen.seen at-loop.loop-seen.invariant.2 (omega (arith, e, at-args.requires.1))
 
-pub note-spec : {M : Type 1} → statement M
-note-spec =
+pub note_spec : {M : Type 1} → statement M
+note_spec =
     tie.close
     (tie.spec
     invariant-loop

@@ -7,39 +7,39 @@ use Rattle.std.proofs.Common.{◌≡◌, ◌-◌, ◌≤◌, length, refl, ap, �
 use lib.Seq.{paste, paste-zero}
 use Rattle.writer.specs.LaidLaws.{copy_more}
 
-abbrev invariant-loop : tie.invariant-loop
+abbrev invariant-loop : tie.invariant-loop-i
 invariant-loop names table₀ at i₀ table i =
     (length table ≡ length table₀) × (i ≤ length names) × (table ≡ paste table₀ at names i)
 
-abbrev decreases-loop : tie.decreases-loop
+abbrev decreases-loop : tie.decreases-loop-i
 decreases-loop names table₀ at i₀ table i =
     length names - i
 
-loop-holds : tie.Need-loop-init invariant-loop decreases-loop
+loop-holds : tie.Need-loop-i-init invariant-loop decreases-loop
 loop-holds c =
     (refl, omega arith, paste-zero c.args.table.now c.args.at c.args.names.now)
 
-add-table : tie.Need-overflow-add-table invariant-loop decreases-loop
+add-table : tie.Need-overflow_add-table invariant-loop decreases-loop
 add-table c =
-    omega (arith, c.before.before.before.requires, c.before.before.before.well-formed.1)
+    omega (arith, c.before.before.before.requires, c.before.before.before.well_formed.1)
 
-slice-write-table : tie.Need-slice-write-table invariant-loop decreases-loop
+slice-write-table : tie.Need-bounds-table-at invariant-loop decreases-loop
 slice-write-table c =
-    omega (arith, c.before.before.loop.invariant.0, c.before.before.before.requires)
+    omega (arith, c.before.before.loop-i.invariant.0, c.before.before.before.requires)
 
-loop-again : tie.Need-loop-preserved invariant-loop decreases-loop
+loop-again : tie.Need-loop-i-preserved invariant-loop decreases-loop
 loop-again c =
     let at-loop = c.before.before in
     let at-args = at-loop.before in
-    (length-set at-loop.loop.table _ _ ∙ at-loop.loop.invariant.0, omega arith, copy_more at-args.args.table.now _ at-args.args.names.now at-loop.loop.table at-loop.loop.i at-args.requires (omega arith) at-loop.loop.invariant.2)
+    (length-set at-loop.loop-i.table _ _ ∙ at-loop.loop-i.invariant.0, omega arith, copy_more at-args.args.table.now _ at-args.args.names.now at-loop.loop-i.table at-loop.loop-i.i at-args.requires (omega arith) at-loop.loop-i.invariant.2)
 
-same_length : tie.Need-same-length invariant-loop decreases-loop
+same_length : tie.Need-shape_of-table invariant-loop decreases-loop
 same_length c =
-    c.before.loop.invariant.0
+    c.before.loop-i.invariant.0
 
 returns : tie.Need-returns invariant-loop decreases-loop
 returns c =
-    let e : c.before.loop.i ≡ length c.before.before.args.names.now = omega (arith, c.loop-test.false, c.before.loop.invariant.1) in c.before.loop.invariant.2 ∙ ap (paste c.before.before.args.table.now c.before.before.args.at c.before.before.args.names.now) e
+    let e : c.before.loop-i.i ≡ length c.before.before.args.names.now = omega (arith, c.loop-i-test.false, c.before.loop-i.invariant.1) in c.before.loop-i.invariant.2 ∙ ap (paste c.before.before.args.table.now c.before.before.args.at c.before.before.args.names.now) e
 
 pub put_spec : {M : Type 1} → statement M
 put_spec =

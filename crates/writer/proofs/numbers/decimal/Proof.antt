@@ -10,7 +10,7 @@ use Rattle.writer.proofs.numbers.wide.Reads as wide-reads
 use Rattle.core_term.specs.DecimalLaws.{decimal-below, decimal-above}
 use Rattle.writer.specs.LaidLaws.{place-room, place-full, place-then, left_is}
 
-returns : tie.Need-returns
+returns : tie.Need-returns-then-to
 returns c =
     let at_byte = c.before.before.before in
     let at-if1 = at_byte.before.before in
@@ -18,16 +18,16 @@ returns c =
     let at_size = at_wide.before in
     let at-of-word = at_size.before in
     let at-args = at-of-word.before.before in
-    left_is (decimal-below at-args.args.w at-args.ranges.w _ at-of-word.of_word.ensures _ (at_wide.wide.ensures ∙ at_size.size.ensures) at-args.args.count at-if1.if1.true) (place-full at_byte.byte.ensures _ c.if2.true)
+    left_is (decimal-below at-args.args.w at-args.ranges.w _ at-of-word.of_word-z.ensures _ (at_wide.wide-n.ensures ∙ at_size.size.ensures) at-args.args.count at-if1.if-z-lt0.true) (place-full at_byte.byte-to.ensures _ c.if-to.true)
 
 point-requires : tie.Need-point-requires
 point-requires c κs =
     let at-wide2 = c.before in
     let at-if2 = at-wide2.before in
     let at_byte = at-if2.before.before.before in
-    (place-room at_byte.byte.ensures at-if2.if2.false, omega (arith, at_byte.before.before.before.wide.ensures), omega (arith, at-wide2.wide2.ensures), omega (arith, at-wide2.wide2.ensures))
+    (place-room at_byte.byte-to.ensures at-if2.if-to.false, omega (arith, at_byte.before.before.before.wide-n.ensures), omega (arith, at-wide2.wide.ensures), omega (arith, at-wide2.wide.ensures))
 
-returns-2 : tie.Need-returns-2
+returns-2 : tie.Need-returns-then-z-lt0
 returns-2 c =
     let at-point = c.before.before in
     let at-wide2 = at-point.before.before in
@@ -38,9 +38,9 @@ returns-2 c =
     let at_size = at_wide.before in
     let at-of-word = at_size.before in
     let at-args = at-of-word.before.before in
-    left_is (rw at-wide2.wide2.ensures (decimal-below at-args.args.w at-args.ranges.w _ at-of-word.of_word.ensures _ (at_wide.wide.ensures ∙ at_size.size.ensures) at-args.args.count at-if1.if1.true)) (place-then at_byte.byte.ensures at-if2.if2.false at-point.point.ensures)
+    left_is (rw at-wide2.wide.ensures (decimal-below at-args.args.w at-args.ranges.w _ at-of-word.of_word-z.ensures _ (at_wide.wide-n.ensures ∙ at_size.size.ensures) at-args.args.count at-if1.if-z-lt0.true)) (place-then at_byte.byte-to.ensures at-if2.if-to.false at-point.point.ensures)
 
-returns-3 : tie.Need-returns-3
+returns-3 : tie.Need-returns
 returns-3 c =
     let at-point2 = c.before.before in
     let at-wide3 = at-point2.before.before in
@@ -49,10 +49,10 @@ returns-3 c =
     let at_size = at_wide.before in
     let at-of-word = at_size.before in
     let at-args = at-of-word.before.before in
-    left_is (rw at-wide3.wide3.ensures (decimal-above at-args.args.w at-args.ranges.w _ at-of-word.of_word.ensures _ (at_wide.wide.ensures ∙ at_size.size.ensures) at-args.args.count at-if1.if1.false)) at-point2.point2.ensures
+    left_is (rw at-wide3.wide-2.ensures (decimal-above at-args.args.w at-args.ranges.w _ at-of-word.of_word-z.ensures _ (at_wide.wide-n.ensures ∙ at_size.size.ensures) at-args.args.count at-if1.if-z-lt0.false)) at-point2.point-2.ensures
 
-pub decimal-spec : {M : Type 1} → statement M
-decimal-spec =
+pub decimal_spec : {M : Type 1} → statement M
+decimal_spec =
     tie.close
     (tie.spec
     (λ c κs. search rules)  -- of-word-requires

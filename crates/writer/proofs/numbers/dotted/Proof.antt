@@ -6,38 +6,38 @@ use Rattle.writer.proofs.bytes.byte.Reads as byte-Reads
 use Rattle.writer.proofs.bytes.copy.Reads as copy-reads
 use Rattle.writer.specs.LaidLaws.{place-room, place-full, place-then}
 
-slice-aggregate-copy : tie.Need-slice-aggregate-copy
+slice-aggregate-copy : tie.Need-slice_bounds-copy-end
 slice-aggregate-copy c =
     let h : c.before.before.before.args.dot ≤ length c.before.before.before.args.digits.now = omega arith in sym (length-take-le _ _ h)
 
-returns : tie.Need-returns
+returns : tie.Need-returns-then-a
 returns c =
-    place-full c.before.before.before.copy.ensures _ c.if1.true
+    place-full c.before.before.before.copy-a.ensures _ c.if-a.true
 
-byte-requires : tie.Need-byte-requires
+byte-requires : tie.Need-byte-b-requires
 byte-requires c κs =
-    place-room c.before.before.before.before.copy.ensures c.before.if1.false
+    place-room c.before.before.before.before.copy-a.ensures c.before.if-a.false
 
-returns-2 : tie.Need-returns-2
+returns-2 : tie.Need-returns-then-b
 returns-2 c =
     let at_byte = c.before.before.before in
     let at-if1 = at_byte.before.before in
-    place-then at-if1.before.before.before.copy.ensures at-if1.if1.false (place-full at_byte.byte.ensures _ c.if2.true)
+    place-then at-if1.before.before.before.copy-a.ensures at-if1.if-a.false (place-full at_byte.byte-b.ensures _ c.if-b.true)
 
-copy-requires-2 : tie.Need-copy-requires-2
+copy-requires-2 : tie.Need-copy-requires
 copy-requires-2 c κs =
-    place-room c.before.before.before.before.before.byte.ensures c.before.before.if2.false
+    place-room c.before.before.before.before.before.byte-b.ensures c.before.before.if-b.false
 
-returns-3 : tie.Need-returns-3
+returns-3 : tie.Need-returns
 returns-3 c =
     let at-copy2 = c.before.before in
     let at-if2 = at-copy2.before.before.before in
     let at_byte = at-if2.before.before.before in
     let at-if1 = at_byte.before.before in
-    place-then at-if1.before.before.before.copy.ensures at-if1.if1.false (place-then at_byte.byte.ensures at-if2.if2.false at-copy2.copy2.ensures)
+    place-then at-if1.before.before.before.copy-a.ensures at-if1.if-a.false (place-then at_byte.byte-b.ensures at-if2.if-b.false at-copy2.copy.ensures)
 
-pub dotted-spec : {M : Type 1} → statement M
-dotted-spec =
+pub dotted_spec : {M : Type 1} → statement M
+dotted_spec =
     tie.close
     (tie.spec
     slice-aggregate-copy

@@ -10,24 +10,24 @@ use Rattle.writer.specs.LaidLaws.{left_is, left-none, place-holds}
 use borrow.Author.Tests.{not-true, not-false}
 use Rattle.writer.specs.PiecesLaws.{gap-yes, gap-no}
 
-returns : tie.Need-returns
+returns : tie.Need-returns-then-not-wanted
 returns c =
-    left_is (sym (gap-no c.before.before.args.wanted (not-true c.before.before.args.wanted c.if1.true))) (place-holds (Left _ _ _ _ _) (omega arith) (left-none c.before.before.args.ink _ c.before.before.args.out.now c.before.before.requires))
+    left_is (sym (gap-no c.before.before.args.wanted (not-true c.before.before.args.wanted c.if-not-wanted.true))) (place-holds (Left _ _ _ _ _) (omega arith) (left-none c.before.before.args.ink _ c.before.before.args.out.now c.before.before.requires))
 
 byte-requires : tie.Need-byte-requires
 byte-requires c κs =
     search rules
 
-same_length : tie.Need-same-length
+same_length : tie.Need-shape_of-out
 same_length c =
     c.before.before.byte.auto.1.0
 
-returns-2 : tie.Need-returns-2
+returns-2 : tie.Need-returns
 returns-2 c =
     let at_byte = c.before.before in
     let at-if1 = at_byte.before.before in
     let args' = at-if1.before.before.args in
-    left_is (sym (gap-yes args'.wanted (not-false args'.wanted at-if1.if1.false))) at_byte.byte.ensures
+    left_is (sym (gap-yes args'.wanted (not-false args'.wanted at-if1.if-not-wanted.false))) at_byte.byte.ensures
 
-pub gap-spec : {M : Type 1} → statement M
-gap-spec = tie.close (tie.spec returns byte-requires same_length returns-2)
+pub gap_spec : {M : Type 1} → statement M
+gap_spec = tie.close (tie.spec returns byte-requires same_length returns-2)

@@ -8,15 +8,15 @@ use Rattle.writer.specs.Laid.{laid}
 use Rattle.core_term.specs.Decimal.{padded}
 use Rattle.writer.specs.DigitsLaws.{power-more, power-low, lay-left, lay-next, lay-one, lay-last}
 
-abbrev invariant-loop : tie.invariant-loop
+abbrev invariant-loop : tie.invariant-loop-i
 invariant-loop powers n k out₀ at left₀ i₀ out left i =
     (length out ≡ length out₀) × (i ≤ k) × (left < 10 ^ suc i) × (laid true (padded i left) (at + (k - i)) out ≡ laid true (padded k n) at out₀)
 
-abbrev decreases-loop : tie.decreases-loop
+abbrev decreases-loop : tie.decreases-loop-i
 decreases-loop powers n k out₀ at left₀ i₀ out left i =
     i
 
-loop-holds : tie.Need-loop-init invariant-loop decreases-loop
+loop-holds : tie.Need-loop-i-init invariant-loop decreases-loop
 loop-holds c =
     let at-args = c.before.before in
     let k = at-args.args.k in
@@ -27,50 +27,50 @@ power-requires : tie.Need-power-requires invariant-loop decreases-loop
 power-requires c κs =
     (c.before.before.before.before.requires.0, omega arith)
 
-split-requires : tie.Need-split-requires invariant-loop decreases-loop
+split-requires : tie.Need-split-part-requires invariant-loop decreases-loop
 split-requires c κs =
-    (omega (arith, power-more c.before.before.loop.i, c.before.before.loop.invariant.2), omega (arith, power-low c.before.before.loop.i (omega arith)))
+    (omega (arith, power-more c.before.before.loop-i.i, c.before.before.loop-i.invariant.2), omega (arith, power-low c.before.before.loop-i.i (omega arith)))
 
-slice-write-out : tie.Need-slice-write-out invariant-loop decreases-loop
+slice-write-out : tie.Need-bounds-out-at invariant-loop decreases-loop
 slice-write-out c =
-    omega (arith, c.before.before.before.loop.invariant.0)
+    omega (arith, c.before.before.before.loop-i.invariant.0)
 
-loop-again : tie.Need-loop-preserved invariant-loop decreases-loop
+loop-again : tie.Need-loop-i-preserved invariant-loop decreases-loop
 loop-again c =
     let at-power = c.before in
     let at-loop = at-power.before.before in
     let args' = at-loop.before.before.before.args in
-    let w = at-loop.loop in
+    let w = at-loop.loop-i in
     let at = args'.at + (args'.k - w.i) in (
       length-set w.out _ _ ∙ w.invariant.0,
       omega arith,
-      lay-left w.i w.left _ _ _ at w.out (omega arith) at-power.power.ensures c.split.ensures.0 c.split.ensures.1,
-      lay-next w.i w.left _ _ _ at w.out (omega arith) at-power.power.ensures c.split.ensures.0 c.split.ensures.1 _ (omega arith) (omega (arith, w.invariant.0)) ∙ w.invariant.3,
+      lay-left w.i w.left _ _ _ at w.out (omega arith) at-power.power.ensures c.split-part.ensures.0 c.split-part.ensures.1,
+      lay-next w.i w.left _ _ _ at w.out (omega arith) at-power.power.ensures c.split-part.ensures.0 c.split-part.ensures.1 _ (omega arith) (omega (arith, w.invariant.0)) ∙ w.invariant.3,
     )
 
-cast-out : tie.Need-overflow-cast-out invariant-loop decreases-loop
+cast-out : tie.Need-overflow_cast-out invariant-loop decreases-loop
 cast-out c =
-    record { fits = omega (arith, lay-one c.before.loop.i c.before.loop.left (omega arith) c.before.loop.invariant.2) }
+    record { fits = omega (arith, lay-one c.before.loop-i.i c.before.loop-i.left (omega arith) c.before.loop-i.invariant.2) }
 
-add-out-2 : tie.Need-overflow-add-out-2 invariant-loop decreases-loop
+add-out-2 : tie.Need-overflow_add-out-2 invariant-loop decreases-loop
 add-out-2 c =
-    record { fits = omega (arith, lay-one c.before.loop.i c.before.loop.left (omega arith) c.before.loop.invariant.2) }
+    record { fits = omega (arith, lay-one c.before.loop-i.i c.before.loop-i.left (omega arith) c.before.loop-i.invariant.2) }
 
-slice-write-out-2 : tie.Need-slice-write-out-2 invariant-loop decreases-loop
+slice-write-out-2 : tie.Need-bounds-out-at-2 invariant-loop decreases-loop
 slice-write-out-2 c =
-    omega (arith, c.before.loop.invariant.0)
+    omega (arith, c.before.loop-i.invariant.0)
 
-same_length : tie.Need-same-length invariant-loop decreases-loop
+same_length : tie.Need-shape_of-out invariant-loop decreases-loop
 same_length c =
-    length-set c.before.loop.out _ _ ∙ c.before.loop.invariant.0
+    length-set c.before.loop-i.out _ _ ∙ c.before.loop-i.invariant.0
 
 returns : tie.Need-returns invariant-loop decreases-loop
 returns c =
-    let w = c.before.loop in
+    let w = c.before.loop-i in
     lay-last w.i w.left (c.before.before.before.before.args.at + c.before.before.before.before.args.k) _ w.out (omega arith) (omega arith) (omega (arith, w.invariant.0)) ∙ w.invariant.3
 
-pub lay-spec : {M : Type 1} → statement M
-lay-spec =
+pub lay_spec : {M : Type 1} → statement M
+lay_spec =
     tie.close
     (tie.spec
     invariant-loop

@@ -6,16 +6,16 @@ use Rattle.writer.proofs.numbers.less.Lts as lts
 use Rattle.std.proofs.Common.{arith, rules}
 use Rattle.writer.specs.DigitsLaws.{less-taken, less-left, taken_is, left_below}
 
-returns : tie.Need-returns
+returns : tie.Need-returns-then-rest-lt9223372036854775808
 returns c =
-    less-taken _ _ _ _ _ (taken_is _ _ _ c.before.wrapping-sub-usize.ensures c.if1.true c.before.before.requires.2) c.before.before.requires.1
+    less-taken _ _ _ _ _ (taken_is _ _ _ c.before.wrapping_sub_usize-rest.ensures c.if-rest-lt9223372036854775808.true c.before.before.requires.2) c.before.before.requires.1
 
-returns-2 : tie.Need-returns-2
+returns-2 : tie.Need-returns
 returns-2 c =
-    less-left _ _ _ _ (left_below _ _ _ c.before.wrapping-sub-usize.ensures c.if1.false (omega arith) c.before.before.requires.1 c.before.before.requires.2)
+    less-left _ _ _ _ (left_below _ _ _ c.before.wrapping_sub_usize-rest.ensures c.if-rest-lt9223372036854775808.false (omega arith) c.before.before.requires.1 c.before.before.requires.2)
 
-pub less-spec : {M : Type 1} → statement M
-less-spec =
+pub less_spec : {M : Type 1} → statement M
+less_spec =
     tie.close
     (tie.spec
     (λ c κs. search rules)  -- wrapping-sub-usize-requires

@@ -5,15 +5,15 @@ use Rattle.writer.proofs.numbers.places.Reads as reads
 use Rattle.writer.proofs.numbers.places.Lts as lts
 use Rattle.std.proofs.Common.{◌≡◌, ℕ, ◌-◌, ◌^◌, ◌≤◌, subst, arith, rules}
 
-abbrev invariant-loop : tie.invariant-loop
+abbrev invariant-loop : tie.invariant-loop-k
 invariant-loop powers n k₀ k =
     (k ≤ 19) × (10 ^ k ≤ n)
 
-abbrev decreases-loop : tie.decreases-loop
+abbrev decreases-loop : tie.decreases-loop-k
 decreases-loop powers n k₀ k =
     19 - k
 
-loop-holds : tie.Need-loop-init invariant-loop decreases-loop
+loop-holds : tie.Need-loop-k-init invariant-loop decreases-loop
 loop-holds c =
     (omega arith, c.before.requires.1)
 
@@ -21,21 +21,21 @@ power-requires : tie.Need-power-requires invariant-loop decreases-loop
 power-requires c κs =
     (c.before.before.before.requires.0, omega arith)
 
-returns : tie.Need-returns invariant-loop decreases-loop
+returns : tie.Need-returns-then-n-power invariant-loop decreases-loop
 returns c =
-    (omega arith, c.before.before.before.loop.invariant.1, omega arith)
+    (omega arith, c.before.before.before.loop-k.invariant.1, omega arith)
 
-loop-again : tie.Need-loop-preserved invariant-loop decreases-loop
+loop-again : tie.Need-loop-k-preserved invariant-loop decreases-loop
 loop-again c =
     (omega arith, omega arith)
 
-returns-2 : tie.Need-returns-2 invariant-loop decreases-loop
+returns-2 : tie.Need-returns invariant-loop decreases-loop
 returns-2 c =
-    let e : c.before.loop.k ≡ 19 = omega arith in
-    (omega arith, subst (λ (x : ℕ). 10 ^ x ≤ c.before.before.before.args.n) e c.before.loop.invariant.1, omega arith)
+    let e : c.before.loop-k.k ≡ 19 = omega arith in
+    (omega arith, subst (λ (x : ℕ). 10 ^ x ≤ c.before.before.before.args.n) e c.before.loop-k.invariant.1, omega arith)
 
-pub places-spec : {M : Type 1} → statement M
-places-spec =
+pub places_spec : {M : Type 1} → statement M
+places_spec =
     tie.close
     (tie.spec
     invariant-loop

@@ -14,10 +14,10 @@ returns c =
     let at-lay = at-dotted.before.before.before.before in
     let at-places-least = at-lay.before.before.before in
     let at-args = at-places-least.before.before.before in
-    left_is (pointed-cut at-args.args.n _ at-args.args.count at-args.requires.2 at-places-least.places-least.ensures.0 at-places-least.places-least.ensures.2 at-places-least.places-least.ensures.3 _ _ at-lay.lay.ensures) at-dotted.dotted.ensures
+    left_is (pointed-cut at-args.args.n _ at-args.args.count at-args.requires.2 at-places-least.places_least-k.ensures.0 at-places-least.places_least-k.ensures.2 at-places-least.places_least-k.ensures.3 _ _ at-lay.lay.ensures) at-dotted.dotted.ensures
 
-pub point-spec : {M : Type 1} → statement M
-point-spec =
+pub point_spec : {M : Type 1} → statement M
+point_spec =
     tie.close
     (tie.spec
     (λ c. search rules)  -- slice-aggregate-places-least

@@ -6,33 +6,33 @@ use Rattle.writer.proofs.numbers.power.Reads as reads
 use Rattle.writer.proofs.numbers.power.Lts as lts
 use Rattle.writer.specs.DigitsLaws.{tens-at, tens-product, power_below}
 
-shared-slice-read-result : tie.Need-shared-slice-read-result
+shared-slice-read-result : tie.Need-bounds-powers-k
 shared-slice-read-result c =
     omega (arith, ap length c.before.before.requires.0)
 
-returns : tie.Need-returns
+returns : tie.Need-returns-then-k-le10
 returns c =
     tens-at c.before.before.args.k _ c.before.before.requires.0 (omega arith)
 
-shared-slice-read-result-2 : tie.Need-shared-slice-read-result-2
+shared-slice-read-result-2 : tie.Need-bounds-powers-9
 shared-slice-read-result-2 c =
     omega (arith, ap length c.before.before.requires.0)
 
-shared-slice-read-result-3 : tie.Need-shared-slice-read-result-3
+shared-slice-read-result-3 : tie.Need-bounds-powers-k-2
 shared-slice-read-result-3 c =
     omega (arith, ap length c.before.before.before.requires.0)
 
-mul-result-3 : tie.Need-overflow-mul-result-3
+mul-result-3 : tie.Need-overflow_mul-result
 mul-result-3 c =
     let k = c.before.before.before.args.k in
     record { fits = omega (arith, tens-product k _ c.before.before.before.requires.0 (omega arith) (omega arith), power_below k (omega arith)) }
 
-returns-2 : tie.Need-returns-2
+returns-2 : tie.Need-returns
 returns-2 c =
     tens-product c.before.before.before.args.k _ c.before.before.before.requires.0 (omega arith) (omega arith)
 
-pub power-spec : {M : Type 1} → statement M
-power-spec =
+pub power_spec : {M : Type 1} → statement M
+power_spec =
     tie.close
     (tie.spec
     (λ c. search rules)  -- mul-result

@@ -9,13 +9,13 @@ use Rattle.writer.specs.DigitsLaws.{split-is}
 returns : tie.Need-returns
 returns c =
     let f = c.before.before.before.before in
-    let a = c.before.before.before.less.ensures in
-    let b = c.before.before.less2.ensures in
-    let d = c.before.less3.ensures in
-    split-is f.args.n f.args.p (omega arith) a.0 a.1 b.0 b.1 d.0 d.1 c.less4.ensures.0 c.less4.ensures.1
+    let a = c.before.before.before.less-a.ensures in
+    let b = c.before.before.less-b.ensures in
+    let d = c.before.less-c.ensures in
+    split-is f.args.n f.args.p (omega arith) a.0 a.1 b.0 b.1 d.0 d.1 c.less.ensures.0 c.less.ensures.1
 
-pub split-spec : {M : Type 1} → statement M
-split-spec =
+pub split_spec : {M : Type 1} → statement M
+split_spec =
     tie.close
     (tie.spec
     (λ c. search rules)  -- add-two

@@ -10,49 +10,49 @@ use Rattle.writer.specs.Laid.{Left}
 use Rattle.writer.specs.LaidLaws.{left_is, left-none, place-holds}
 use Rattle.writer.specs.OpenedLaws.{is-integer, is-boolean, is-decimal, closes-variable, closes-operation, closes-constant, closes-name, closes-list, closes_if, closes-lambda, closes-application, no_none}
 
-returns : tie.Need-returns
+returns : tie.Need-returns-in-Variable
 returns c =
-    λ x s. left_is (closes-variable _ x s _ _ c.enum_told.given.1) (place-holds (Left _ _ _ _ _) (omega arith) (left-none c.before.before.before.args.ink _ c.before.before.before.args.out.now c.before.before.before.requires))
+    λ x s. left_is (closes-variable _ x s _ _ c.enum_told-1.given.1) (place-holds (Left _ _ _ _ _) (omega arith) (left-none c.before.before.before.args.ink _ c.before.before.before.args.out.now c.before.before.before.requires))
 
-returns-2 : tie.Need-returns-2
+returns-2 : tie.Need-returns-in-Operation
 returns-2 c =
-    λ x s. left_is (closes-operation _ x s _ _ c.enum-told2.given.1) (place-holds (Left _ _ _ _ _) (omega arith) (left-none c.before.before.before.args.ink _ c.before.before.before.args.out.now c.before.before.before.requires))
+    λ x s. left_is (closes-operation _ x s _ _ c.enum_told-in-Operation-1.given.1) (place-holds (Left _ _ _ _ _) (omega arith) (left-none c.before.before.before.args.ink _ c.before.before.before.args.out.now c.before.before.before.requires))
 
-returns-3 : tie.Need-returns-3
+returns-3 : tie.Need-returns-in-Integer
 returns-3 c =
-    λ x s. left_is (closes-constant _ x s _ _ (is-integer _ x s _ c.enum-told3.given.1)) (place-holds (Left _ _ _ _ _) (omega arith) (left-none c.before.before.before.args.ink _ c.before.before.before.args.out.now c.before.before.before.requires))
+    λ x s. left_is (closes-constant _ x s _ _ (is-integer _ x s _ c.enum_told-in-Integer-1.given.1)) (place-holds (Left _ _ _ _ _) (omega arith) (left-none c.before.before.before.args.ink _ c.before.before.before.args.out.now c.before.before.before.requires))
 
-returns-4 : tie.Need-returns-4
+returns-4 : tie.Need-returns-in-Boolean
 returns-4 c =
-    λ x s. left_is (closes-constant _ x s _ _ (is-boolean _ x s _ c.enum-told4.given.1)) (place-holds (Left _ _ _ _ _) (omega arith) (left-none c.before.before.before.args.ink _ c.before.before.before.args.out.now c.before.before.before.requires))
+    λ x s. left_is (closes-constant _ x s _ _ (is-boolean _ x s _ c.enum_told-in-Boolean-1.given.1)) (place-holds (Left _ _ _ _ _) (omega arith) (left-none c.before.before.before.args.ink _ c.before.before.before.args.out.now c.before.before.before.requires))
 
-returns-5 : tie.Need-returns-5
+returns-5 : tie.Need-returns-in-Decimal
 returns-5 c =
-    λ x s. left_is (closes-constant _ x s _ _ (is-decimal _ x s _ _ c.enum-told5.given.1)) (place-holds (Left _ _ _ _ _) (omega arith) (left-none c.before.before.before.args.ink _ c.before.before.before.args.out.now c.before.before.before.requires))
+    λ x s. left_is (closes-constant _ x s _ _ (is-decimal _ x s _ _ c.enum_told-in-Decimal-1.given.1)) (place-holds (Left _ _ _ _ _) (omega arith) (left-none c.before.before.before.args.ink _ c.before.before.before.args.out.now c.before.before.before.requires))
 
-returns-6 : tie.Need-returns-6
+returns-6 : tie.Need-returns-in-Name
 returns-6 c =
-    λ x s. left_is (closes-name _ x s _ _ c.enum-told6.given.1) (place-holds (Left _ _ _ _ _) (omega arith) (left-none c.before.before.before.args.ink _ c.before.before.before.args.out.now c.before.before.before.requires))
+    λ x s. left_is (closes-name _ x s _ _ c.enum_told-in-Name-1.given.1) (place-holds (Left _ _ _ _ _) (omega arith) (left-none c.before.before.before.args.ink _ c.before.before.before.args.out.now c.before.before.before.requires))
 
-returns-7 : tie.Need-returns-7
+returns-7 : tie.Need-returns-in-List
 returns-7 c =
-    λ x s. left_is (closes-list _ x s _ _ c.before.before.before.before.enum-told7.given.1) (c.before.before.list-closing.ensures _)
+    λ x s. left_is (closes-list _ x s _ _ c.before.before.before.before.enum_told-in-List-1.given.1) (c.before.before.list_closing.ensures _)
 
-returns-8 : tie.Need-returns-8
+returns-8 : tie.Need-returns-in-If
 returns-8 c =
-    λ x s. left_is (closes_if _ x s _ c.before.before.before.before.enum-told8.given.1) c.before.before.byte.ensures
+    λ x s. left_is (closes_if _ x s _ c.before.before.before.before.enum_told-in-If-1.given.1) c.before.before.byte.ensures
 
-returns-9 : tie.Need-returns-9
+returns-9 : tie.Need-returns-in-Lambda
 returns-9 c =
-    λ x s. left_is (closes-lambda _ x s _ _ _ c.before.before.before.before.enum-told9.given.1) c.before.before.byte2.ensures
+    λ x s. left_is (closes-lambda _ x s _ _ _ c.before.before.before.before.enum_told-in-Lambda-1.given.1) c.before.before.byte-in-Lambda.ensures
 
-returns-10 : tie.Need-returns-10
+returns-10 : tie.Need-returns-in-Application
 returns-10 c =
-    λ x s. left_is (closes-application _ x s _ _ c.before.before.before.before.enum-told10.given.1) c.before.before.byte3.ensures
+    λ x s. left_is (closes-application _ x s _ _ c.before.before.before.before.enum_told-in-Application-1.given.1) c.before.before.byte-in-Application.ensures
 
-returns-11 : tie.Need-returns-11
+returns-11 : tie.Need-returns-in-None
 returns-11 c =
-    λ x s. no_none _ x s c.enum-told11.given.1
+    λ x s. no_none _ x s c.enum_told-in-None-1.given.1
 
 pub finish_spec : {M : Type 1} → statement M
 finish_spec =

@@ -9,44 +9,44 @@ use Rattle.writer.proofs.names.formals.Reads as formals-reads
 use Rattle.writer.specs.LaidLaws.{place-room, place-full, place-then, left_is}
 use Rattle.writer.specs.PiecesLaws.{lambda-bytes}
 
-copy-requires : tie.Need-copy-requires
+copy-requires : tie.Need-shape_of-out-then-a
 copy-requires c κs =
     c.before.before.before.before.before.requires.0
 
-same_length : tie.Need-same-length
+same_length : tie.Need-returns-then-a
 same_length c =
-    c.before.before.before.copy.auto.1.0
+    c.before.before.before.copy-a.auto.1.0
 
-returns : tie.Need-returns
+returns : tie.Need-formals-b-requires
 returns c =
-    left_is (sym (lambda-bytes _ _ _)) (place-full c.before.before.before.copy.ensures _ c.if1.true)
+    left_is (sym (lambda-bytes _ _ _)) (place-full c.before.before.before.copy-a.ensures _ c.if-a.true)
 
-formals-requires : tie.Need-formals-requires
+formals-requires : tie.Need-shape_of-out-then-b
 formals-requires c κs =
     let at-if1 = c.before in
     let at_copy = at-if1.before.before.before in
     let pre' = at_copy.before.before.before.before.before.before.requires in
-    (place-room at_copy.copy.ensures at-if1.if1.false, pre'.1, pre'.2, pre'.3)
+    (place-room at_copy.copy-a.ensures at-if1.if-a.false, pre'.1, pre'.2, pre'.3)
 
-same-length-2 : tie.Need-same-length-2
+same-length-2 : tie.Need-returns-then-b
 same-length-2 c =
-    c.before.before.before.formals.auto.1.1.1.0 ∙ c.before.before.before.before.before.before.before.before.copy.auto.1.0
+    c.before.before.before.formals-b.auto.1.1.1.0 ∙ c.before.before.before.before.before.before.before.before.copy-a.auto.1.0
 
-returns-2 : tie.Need-returns-2
+returns-2 : tie.Need-copy-requires
 returns-2 c =
     let at-formals = c.before.before.before in
     let at-if1 = at-formals.before.before in
-    left_is (sym (lambda-bytes _ _ _)) (place-then at-if1.before.before.before.copy.ensures at-if1.if1.false (place-full at-formals.formals.ensures _ c.if2.true))
+    left_is (sym (lambda-bytes _ _ _)) (place-then at-if1.before.before.before.copy-a.ensures at-if1.if-a.false (place-full at-formals.formals-b.ensures _ c.if-b.true))
 
-copy-requires-2 : tie.Need-copy-requires-2
+copy-requires-2 : tie.Need-returns
 copy-requires-2 c κs =
-    place-room c.before.before.before.before.before.formals.ensures c.before.before.if2.false
+    place-room c.before.before.before.before.before.formals-b.ensures c.before.before.if-b.false
 
 same-length-3 : tie.Need-same-length-3
 same-length-3 c =
     let at-copy2 = c.before.before in
     let at-formals = at-copy2.before.before.before.before.before.before in
-    at-copy2.copy2.auto.1.0 ∙ at-formals.formals.auto.1.1.1.0 ∙ at-formals.before.before.before.before.before.copy.auto.1.0
+    at-copy2.copy.auto.1.0 ∙ at-formals.formals-b.auto.1.1.1.0 ∙ at-formals.before.before.before.before.before.copy-a.auto.1.0
 
 returns-3 : tie.Need-returns-3
 returns-3 c =
@@ -54,10 +54,10 @@ returns-3 c =
     let at-if2 = at-copy2.before.before.before in
     let at-formals = at-if2.before.before.before in
     let at-if1 = at-formals.before.before in
-    left_is (sym (lambda-bytes _ _ _)) (place-then at-if1.before.before.before.copy.ensures at-if1.if1.false (place-then at-formals.formals.ensures at-if2.if2.false at-copy2.copy2.ensures))
+    left_is (sym (lambda-bytes _ _ _)) (place-then at-if1.before.before.before.copy-a.ensures at-if1.if-a.false (place-then at-formals.formals-b.ensures at-if2.if-b.false at-copy2.copy.ensures))
 
-pub lambda-opening-spec : {M : Type 1} → statement M
-lambda-opening-spec =
+pub lambda_opening_spec : {M : Type 1} → statement M
+lambda_opening_spec =
     tie.close
     (tie.spec
     (λ c. search rules)  -- slice-aggregate-copy

@@ -48,49 +48,49 @@ P t = (gap-reads.Asked, gap-reads.Learnt, term-below t, term.Post)
 abbrev T : ℕ → term-lts.Claims
 T t = (opened-reads.Asked, opened-reads.Learnt, begin-reads.Asked, begin-reads.Learnt, shape-of-reads.Asked, shape-of-reads.Learnt, close-reads.Asked, close-reads.Learnt, parts_below t, parts.Post)
 
-abbrev parts-Inv-loop : parts-lts.invariant-loop
+abbrev parts-Inv-loop : parts-lts.invariant-loop-left
 parts-Inv-loop words names out₀ at called pen quoted from₀ left₀ wanted₀ to₀ out from left wanted to =
     Going (said_by names pen.direct called) pen.ink quoted words at out₀ from left to wanted out
 
-abbrev parts-μ-loop : parts-lts.decreases-loop
+abbrev parts-μ-loop : parts-lts.decreases-loop-left
 parts-μ-loop words names out₀ at called pen quoted from₀ left₀ wanted₀ to₀ out from left wanted to =
     left
 
-parts-loop-holds : (t : ℕ) → parts-lts.Need-loop-init (P t) (parts_at t) parts.Post parts-Inv-loop parts-μ-loop
+parts-loop-holds : (t : ℕ) → parts-lts.Need-loop-left-init (P t) (parts_at t) parts.Post parts-Inv-loop parts-μ-loop
 parts-loop-holds t c =
     let at-args = c.before.before.before.before in
     going_start _ _ _ at-args.args.words.now _ _ at-args.requires.1.1 at-args.args.shape refl at-args.requires.1.2 at-args.requires.1.0
 
-parts-gap-requires : (t : ℕ) → parts-lts.Need-gap-requires (P t) (parts_at t) parts.Post parts-Inv-loop parts-μ-loop
+parts-gap-requires : (t : ℕ) → parts-lts.Need-gap-start-requires (P t) (parts_at t) parts.Post parts-Inv-loop parts-μ-loop
 parts-gap-requires t c κs =
-    left-room c.before.before.loop.invariant.laid _ refl
+    left-room c.before.before.loop-left.invariant.laid _ refl
 
-parts-same-length : (t : ℕ) → parts-lts.Need-same-length (P t) (parts_at t) parts.Post parts-Inv-loop parts-μ-loop
+parts-same-length : (t : ℕ) → parts-lts.Need-shape_of-out-then-start (P t) (parts_at t) parts.Post parts-Inv-loop parts-μ-loop
 parts-same-length t c =
-    c.before.before.before.gap.auto.1.0 ∙ left-length c.before.before.before.before.before.before.loop.invariant.laid _ refl
+    c.before.before.before.gap-start.auto.1.0 ∙ left-length c.before.before.before.before.before.before.loop-left.invariant.laid _ refl
 
-parts-returns : (t : ℕ) → parts-lts.Need-returns (P t) (parts_at t) parts.Post parts-Inv-loop parts-μ-loop
+parts-returns : (t : ℕ) → parts-lts.Need-returns-then-start (P t) (parts_at t) parts.Post parts-Inv-loop parts-μ-loop
 parts-returns t c =
     let at_gap = c.before.before.before in
     let at-loop = at_gap.before.before.before in
     let args' = at-loop.before.before.before.before.before.args in
-    (for-any _ (row_text (said_by args'.names.now args'.pen.direct args'.called.now)) _ _ args'.words.now at-loop.loop.invariant.whole _ _ _ _ (row-stops _ _ _ args'.words.now _ _ _ _ _ _ _ at-loop.loop.invariant _ (gap-full _ _ _ args'.words.now _ _ _ _ _ _ _ at-loop.loop.invariant (omega arith) _ _ at_gap.gap.ensures (put_full _ c.if1.true))))
+    (for-any _ (row_text (said_by args'.names.now args'.pen.direct args'.called.now)) _ _ args'.words.now at-loop.loop-left.invariant.whole _ _ _ _ (row-stops _ _ _ args'.words.now _ _ _ _ _ _ _ at-loop.loop-left.invariant _ (gap-full _ _ _ args'.words.now _ _ _ _ _ _ _ at-loop.loop-left.invariant (omega arith) _ _ at_gap.gap-start.ensures (put_full _ c.if-start.true))))
 
-parts-mul-term : (t : ℕ) → parts-lts.Need-overflow-mul-term (P t) (parts_at t) parts.Post parts-Inv-loop parts-μ-loop
+parts-mul-term : (t : ℕ) → parts-lts.Need-offset_bounds-words-from (P t) (parts_at t) parts.Post parts-Inv-loop parts-μ-loop
 parts-mul-term t c =
     let at-loop = c.before.before.before.before.before.before in
     let at-args = at-loop.before.before.before.before.before in
-    let l = going-inside _ _ _ at-args.args.words.now _ _ _ _ _ _ _ at-loop.loop.invariant in omega (arith, at-args.well-formed.0.1)
+    let l = going-inside _ _ _ at-args.args.words.now _ _ _ _ _ _ _ at-loop.loop-left.invariant in omega (arith, at-args.well_formed.0.1)
 
-parts-sub-term : (t : ℕ) → parts-lts.Need-overflow-sub-term (P t) (parts_at t) parts.Post parts-Inv-loop parts-μ-loop
+parts-sub-term : (t : ℕ) → parts-lts.Need-slice_bounds-term-count (P t) (parts_at t) parts.Post parts-Inv-loop parts-μ-loop
 parts-sub-term t c =
     let at-loop = c.before.before.before.before.before.before in
-    let l = going-inside _ _ _ at-loop.before.before.before.before.before.args.words.now _ _ _ _ _ _ _ at-loop.loop.invariant in omega arith
+    let l = going-inside _ _ _ at-loop.before.before.before.before.before.args.words.now _ _ _ _ _ _ _ at-loop.loop-left.invariant in omega arith
 
-parts-part-term-start : (t : ℕ) → parts-lts.Need-slice-bounds-term-start (P t) (parts_at t) parts.Post parts-Inv-loop parts-μ-loop
+parts-part-term-start : (t : ℕ) → parts-lts.Need-slice_bounds-term-start (P t) (parts_at t) parts.Post parts-Inv-loop parts-μ-loop
 parts-part-term-start t c =
     let at-loop = c.before.before.before.before.before.before in
-    let l = going-inside _ _ _ at-loop.before.before.before.before.before.args.words.now _ _ _ _ _ _ _ at-loop.loop.invariant in omega arith
+    let l = going-inside _ _ _ at-loop.before.before.before.before.before.args.words.now _ _ _ _ _ _ _ at-loop.loop-left.invariant in omega arith
 
 parts-term-requires : (t : ℕ) → parts-lts.Need-term-requires (P t) (parts_at t) parts.Post parts-Inv-loop parts-μ-loop
 parts-term-requires t c κs =
@@ -98,24 +98,24 @@ parts-term-requires t c κs =
     let at_gap = at-if1.before.before.before in
     let at-loop = at_gap.before.before.before in
     let at-args = at-loop.before.before.before.before.before in
-    (omega (arith, going-shorter _ _ _ at-args.args.words.now _ _ _ _ _ _ _ at-loop.loop.invariant, at-args.requires.0), (place-room at_gap.gap.ensures at-if1.if1.false, going_next _ _ _ at-args.args.words.now _ _ _ _ _ _ _ at-loop.loop.invariant (omega arith), at-args.requires.1.3))
+    (omega (arith, going-shorter _ _ _ at-args.args.words.now _ _ _ _ _ _ _ at-loop.loop-left.invariant, at-args.requires.0), (place-room at_gap.gap-start.ensures at-if1.if-start.false, going_next _ _ _ at-args.args.words.now _ _ _ _ _ _ _ at-loop.loop-left.invariant (omega arith), at-args.requires.1.3))
 
-parts-same-length-2 : (t : ℕ) → parts-lts.Need-same-length-2 (P t) (parts_at t) parts.Post parts-Inv-loop parts-μ-loop
+parts-same-length-2 : (t : ℕ) → parts-lts.Need-shape_of-out-in_default (P t) (parts_at t) parts.Post parts-Inv-loop parts-μ-loop
 parts-same-length-2 t c =
     let at-term = c.before.before.before.before in
     let at_gap = at-term.before.before.before.before.before.before in
-    at-term.term.auto.1.1.0 ∙ at_gap.gap.auto.1.0 ∙ left-length at_gap.before.before.before.loop.invariant.laid _ refl
+    at-term.term.auto.1.1.0 ∙ at_gap.gap-start.auto.1.0 ∙ left-length at_gap.before.before.before.loop-left.invariant.laid _ refl
 
-parts-returns-2 : (t : ℕ) → parts-lts.Need-returns-2 (P t) (parts_at t) parts.Post parts-Inv-loop parts-μ-loop
+parts-returns-2 : (t : ℕ) → parts-lts.Need-returns-in_default (P t) (parts_at t) parts.Post parts-Inv-loop parts-μ-loop
 parts-returns-2 t c =
     let at-term = c.before.before.before.before in
     let at-if1 = at-term.before.before.before in
     let at_gap = at-if1.before.before.before in
     let at-loop = at_gap.before.before.before in
     let args' = at-loop.before.before.before.before.before.args in
-    (for-any _ (row_text (said_by args'.names.now args'.pen.direct args'.called.now)) _ _ args'.words.now at-loop.loop.invariant.whole _ _ _ _ (row-stops _ _ _ args'.words.now _ _ _ _ _ _ _ at-loop.loop.invariant _ (part-full _ _ _ args'.words.now _ _ _ _ _ _ _ at-loop.loop.invariant (omega arith) _ _ at_gap.gap.ensures _ (put-done _ at-if1.if1.false) _ _ at-term.term.ensures c.enum_told.given.1)))
+    (for-any _ (row_text (said_by args'.names.now args'.pen.direct args'.called.now)) _ _ args'.words.now at-loop.loop-left.invariant.whole _ _ _ _ (row-stops _ _ _ args'.words.now _ _ _ _ _ _ _ at-loop.loop-left.invariant _ (part-full _ _ _ args'.words.now _ _ _ _ _ _ _ at-loop.loop-left.invariant (omega arith) _ _ at_gap.gap-start.ensures _ (put-done _ at-if1.if-start.false) _ _ at-term.term.ensures c.enum_told-1.given.1)))
 
-parts-add-from : (t : ℕ) → parts-lts.Need-overflow-add-from (P t) (parts_at t) parts.Post parts-Inv-loop parts-μ-loop
+parts-add-from : (t : ℕ) → parts-lts.Need-overflow_add-from (P t) (parts_at t) parts.Post parts-Inv-loop parts-μ-loop
 parts-add-from t c =
     let at-used = c.before in
     let at-term = at-used.before.before.before.before in
@@ -123,43 +123,43 @@ parts-add-from t c =
     let at_gap = at-if1.before.before.before in
     let at-loop = at_gap.before.before.before in
     let at-args = at-loop.before.before.before.before.before in
-    omega (arith, at-args.well-formed.0.1, part-inside _ _ _ at-args.args.words.now _ _ _ _ _ _ _ at-loop.loop.invariant (omega arith) _ _ at_gap.gap.ensures _ (put-done _ at-if1.if1.false) _ _ at-term.term.ensures _ _ at-used.used.given.1)
+    omega (arith, at-args.well_formed.0.1, part-inside _ _ _ at-args.args.words.now _ _ _ _ _ _ _ at-loop.loop-left.invariant (omega arith) _ _ at_gap.gap-start.ensures _ (put-done _ at-if1.if-start.false) _ _ at-term.term.ensures _ _ at-used.used-1.given.1)
 
-parts-loop-again : (t : ℕ) → parts-lts.Need-loop-preserved (P t) (parts_at t) parts.Post parts-Inv-loop parts-μ-loop
+parts-loop-again : (t : ℕ) → parts-lts.Need-loop-left-preserved (P t) (parts_at t) parts.Post parts-Inv-loop parts-μ-loop
 parts-loop-again t c =
     let at-used = c.before in
     let at-term = at-used.before.before.before.before in
     let at-if1 = at-term.before.before.before in
     let at_gap = at-if1.before.before.before in
     let at-loop = at_gap.before.before.before in
-    going_on _ _ _ at-loop.before.before.before.before.before.args.words.now _ _ _ _ _ _ _ at-loop.loop.invariant (omega arith) _ _ at_gap.gap.ensures _ (put-done _ at-if1.if1.false) _ _ at-term.term.ensures _ _ at-used.used.given.1
+    going_on _ _ _ at-loop.before.before.before.before.before.args.words.now _ _ _ _ _ _ _ at-loop.loop-left.invariant (omega arith) _ _ at_gap.gap-start.ensures _ (put-done _ at-if1.if-start.false) _ _ at-term.term.ensures _ _ at-used.used-1.given.1
 
-parts-same-length-3 : (t : ℕ) → parts-lts.Need-same-length-3 (P t) (parts_at t) parts.Post parts-Inv-loop parts-μ-loop
+parts-same-length-3 : (t : ℕ) → parts-lts.Need-shape_of-out (P t) (parts_at t) parts.Post parts-Inv-loop parts-μ-loop
 parts-same-length-3 t c =
-    left-length c.before.loop.invariant.laid _ refl
+    left-length c.before.loop-left.invariant.laid _ refl
 
-parts-returns-3 : (t : ℕ) → parts-lts.Need-returns-3 (P t) (parts_at t) parts.Post parts-Inv-loop parts-μ-loop
+parts-returns-3 : (t : ℕ) → parts-lts.Need-returns (P t) (parts_at t) parts.Post parts-Inv-loop parts-μ-loop
 parts-returns-3 t c =
     let at-loop = c.before in
     let args' = at-loop.before.before.before.before.before.args in
-    (for-any _ (row_text (said_by args'.names.now args'.pen.direct args'.called.now)) _ _ args'.words.now at-loop.loop.invariant.whole _ _ _ _ (row_walked _ _ _ args'.words.now _ _ _ _ _ _ _ at-loop.loop.invariant (omega arith)))
+    (for-any _ (row_text (said_by args'.names.now args'.pen.direct args'.called.now)) _ _ args'.words.now at-loop.loop-left.invariant.whole _ _ _ _ (row_walked _ _ _ args'.words.now _ _ _ _ _ _ _ at-loop.loop-left.invariant (omega arith)))
 
-term-begin-requires : (t : ℕ) → term-lts.Need-begin-requires (T t) (term-at t) term.Post
+term-begin-requires : (t : ℕ) → term-lts.Need-begin-begun-requires (T t) (term-at t) term.Post
 term-begin-requires t c κs =
     let at-opened = c.before in
     let at-args = at-opened.before.before.before.before.before in
-    (at-args.requires.1.0, begins-opened _ _ at-args.args.words.now at-args.requires.1.1 _ at-opened.opened.ensures, at-args.requires.1.2)
+    (at-args.requires.1.0, begins-opened _ _ at-args.args.words.now at-args.requires.1.1 _ at-opened.opened-node.ensures, at-args.requires.1.2)
 
-term-same-length : (t : ℕ) → term-lts.Need-same-length (T t) (term-at t) term.Post
+term-same-length : (t : ℕ) → term-lts.Need-shape_of-out-then-begun (T t) (term-at t) term.Post
 term-same-length t c =
-    c.before.before.before.begin.auto.1.1.0
+    c.before.before.before.begin-begun.auto.1.1.0
 
-term-returns : (t : ℕ) → term-lts.Need-returns (T t) (term-at t) term.Post
+term-returns : (t : ℕ) → term-lts.Need-returns-then-begun (T t) (term-at t) term.Post
 term-returns t c =
     let at-begin = c.before.before.before in
     let at-opened = at-begin.before.before in
     let at-args = at-opened.before.before.before.before.before in
-    let b = at-args.requires.1.1 in let o = at-opened.opened.ensures in let x = begins-stands _ _ at-args.args.words.now b _ o in let l = at-begin.begin.ensures _ x in for-any _ (text_in (said_by at-args.args.names.now at-args.args.pen.direct at-args.args.called.now) at-args.args.inner) _ _ at-args.args.words.now b _ _ _ _ (open-stops _ _ _ at-args.args.words.now b _ _ _ _ l (put_full _ c.if1.true))
+    let b = at-args.requires.1.1 in let o = at-opened.opened-node.ensures in let x = begins-stands _ _ at-args.args.words.now b _ o in let l = at-begin.begin-begun.ensures _ x in for-any _ (text_in (said_by at-args.args.names.now at-args.args.pen.direct at-args.args.called.now) at-args.args.inner) _ _ at-args.args.words.now b _ _ _ _ (open-stops _ _ _ at-args.args.words.now b _ _ _ _ l (put_full _ c.if-begun.true))
 
 term-close-requires : (t : ℕ) → term-lts.Need-close-requires (T t) (term-at t) term.Post
 term-close-requires t c κs =
@@ -167,14 +167,14 @@ term-close-requires t c κs =
     let at-begin = at-if1.before.before.before in
     let at-opened = at-begin.before.before in
     let at-args = at-opened.before.before.before.before.before in
-    let b = at-args.requires.1.1 in let o = at-opened.opened.ensures in let x = begins-stands _ _ at-args.args.words.now b _ o in let l = at-begin.begin.ensures _ x in place-room l at-if1.if1.false
+    let b = at-args.requires.1.1 in let o = at-opened.opened-node.ensures in let x = begins-stands _ _ at-args.args.words.now b _ o in let l = at-begin.begin-begun.ensures _ x in place-room l at-if1.if-begun.false
 
-term-same-length-2 : (t : ℕ) → term-lts.Need-same-length-2 (T t) (term-at t) term.Post
+term-same-length-2 : (t : ℕ) → term-lts.Need-shape_of-out-then-shape-eq0 (T t) (term-at t) term.Post
 term-same-length-2 t c =
     let at-close = c.before.before in
-    at-close.close.auto.1.1.0 ∙ at-close.before.before.before.before.before.before.before.before.begin.auto.1.1.0
+    at-close.close.auto.1.1.0 ∙ at-close.before.before.before.before.before.before.before.before.begin-begun.auto.1.1.0
 
-term-returns-2 : (t : ℕ) → term-lts.Need-returns-2 (T t) (term-at t) term.Post
+term-returns-2 : (t : ℕ) → term-lts.Need-returns-then-shape-eq0 (T t) (term-at t) term.Post
 term-returns-2 t c =
     let at-close = c.before.before in
     let at-if2 = at-close.before.before in
@@ -183,7 +183,7 @@ term-returns-2 t c =
     let at-begin = at-if1.before.before.before in
     let at-opened = at-begin.before.before in
     let at-args = at-opened.before.before.before.before.before in
-    let b = at-args.requires.1.1 in let o = at-opened.opened.ensures in let x = begins-stands _ _ at-args.args.words.now b _ o in let l = at-begin.begin.ensures _ x in for-any _ (text_in (said_by at-args.args.names.now at-args.args.pen.direct at-args.args.called.now) at-args.args.inner) _ _ at-args.args.words.now b _ _ _ _ (alone-walked _ _ _ at-args.args.words.now b _ _ _ _ l _ (put-done _ at-if1.if1.false) at-shape-of.shape_of.result (begins-shaped _ _ at-args.args.words.now b _ o _ at-shape-of.shape_of.ensures) at-if2.if2.true (place-room l at-if1.if1.false) _ _ (at-close.close.ensures _ x))
+    let b = at-args.requires.1.1 in let o = at-opened.opened-node.ensures in let x = begins-stands _ _ at-args.args.words.now b _ o in let l = at-begin.begin-begun.ensures _ x in for-any _ (text_in (said_by at-args.args.names.now at-args.args.pen.direct at-args.args.called.now) at-args.args.inner) _ _ at-args.args.words.now b _ _ _ _ (alone-walked _ _ _ at-args.args.words.now b _ _ _ _ l _ (put-done _ at-if1.if-begun.false) at-shape-of.shape_of-shape.result (begins-shaped _ _ at-args.args.words.now b _ o _ at-shape-of.shape_of-shape.ensures) at-if2.if-shape-eq0.true (place-room l at-if1.if-begun.false) _ _ (at-close.close.ensures _ x))
 
 term-parts-requires : (t : ℕ) → term-lts.Need-parts-requires (T t) (term-at t) term.Post
 term-parts-requires t c κs =
@@ -192,21 +192,21 @@ term-parts-requires t c κs =
     let at-begin = at-if1.before.before.before in
     let at-opened = at-begin.before.before in
     let at-args = at-opened.before.before.before.before.before in
-    let b = at-args.requires.1.1 in let o = at-opened.opened.ensures in let x = begins-stands _ _ at-args.args.words.now b _ o in let l = at-begin.begin.ensures _ x in (omega (arith, at-args.requires.0), (place-room l at-if1.if1.false, begins-loose _ _ at-args.args.words.now b, begins-shaped _ _ at-args.args.words.now b _ o _ at-shape-of.shape_of.ensures, at-args.requires.1.2))
+    let b = at-args.requires.1.1 in let o = at-opened.opened-node.ensures in let x = begins-stands _ _ at-args.args.words.now b _ o in let l = at-begin.begin-begun.ensures _ x in (omega (arith, at-args.requires.0), (place-room l at-if1.if-begun.false, begins-loose _ _ at-args.args.words.now b, begins-shaped _ _ at-args.args.words.now b _ o _ at-shape-of.shape_of-shape.ensures, at-args.requires.1.2))
 
-term-same-length-3 : (t : ℕ) → term-lts.Need-same-length-3 (T t) (term-at t) term.Post
+term-same-length-3 : (t : ℕ) → term-lts.Need-shape_of-out-in_default (T t) (term-at t) term.Post
 term-same-length-3 t c =
     let at-parts = c.before.before.before.before in
-    at-parts.parts.auto.1.1.1.0 ∙ at-parts.before.before.before.before.before.before.before.before.begin.auto.1.1.0
+    at-parts.parts.auto.1.1.1.0 ∙ at-parts.before.before.before.before.before.before.before.before.begin-begun.auto.1.1.0
 
-term-returns-3 : (t : ℕ) → term-lts.Need-returns-3 (T t) (term-at t) term.Post
+term-returns-3 : (t : ℕ) → term-lts.Need-returns-in_default (T t) (term-at t) term.Post
 term-returns-3 t c =
     let at-parts = c.before.before.before.before in
     let at-if1 = at-parts.before.before.before.before.before in
     let at-begin = at-if1.before.before.before in
     let at-opened = at-begin.before.before in
     let at-args = at-opened.before.before.before.before.before in
-    let b = at-args.requires.1.1 in let o = at-opened.opened.ensures in let x = begins-stands _ _ at-args.args.words.now b _ o in let l = at-begin.begin.ensures _ x in for-any _ (text_in (said_by at-args.args.names.now at-args.args.pen.direct at-args.args.called.now) at-args.args.inner) _ _ at-args.args.words.now b _ _ _ _ (parts-stop _ _ _ at-args.args.words.now b _ _ _ _ l _ (put-done _ at-if1.if1.false) _ _ at-parts.parts.ensures c.enum_told.given.1)
+    let b = at-args.requires.1.1 in let o = at-opened.opened-node.ensures in let x = begins-stands _ _ at-args.args.words.now b _ o in let l = at-begin.begin-begun.ensures _ x in for-any _ (text_in (said_by at-args.args.names.now at-args.args.pen.direct at-args.args.called.now) at-args.args.inner) _ _ at-args.args.words.now b _ _ _ _ (parts-stop _ _ _ at-args.args.words.now b _ _ _ _ l _ (put-done _ at-if1.if-begun.false) _ _ at-parts.parts.ensures c.enum_told-1.given.1)
 
 term-close-requires-2 : (t : ℕ) → term-lts.Need-close-requires-2 (T t) (term-at t) term.Post
 term-close-requires-2 t c κs =
@@ -216,15 +216,15 @@ term-close-requires-2 t c κs =
     let at-begin = at-if1.before.before.before in
     let at-opened = at-begin.before.before in
     let at-args = at-opened.before.before.before.before.before in
-    let b = at-args.requires.1.1 in let o = at-opened.opened.ensures in let x = begins-stands _ _ at-args.args.words.now b _ o in let l = at-begin.begin.ensures _ x in parts-room _ _ _ at-args.args.words.now b _ _ _ _ l _ (put-done _ at-if1.if1.false) _ _ at-parts.parts.ensures _ _ at-used.used.given.1
+    let b = at-args.requires.1.1 in let o = at-opened.opened-node.ensures in let x = begins-stands _ _ at-args.args.words.now b _ o in let l = at-begin.begin-begun.ensures _ x in parts-room _ _ _ at-args.args.words.now b _ _ _ _ l _ (put-done _ at-if1.if-begun.false) _ _ at-parts.parts.ensures _ _ at-used.used-1.given.1
 
-term-same-length-4 : (t : ℕ) → term-lts.Need-same-length-4 (T t) (term-at t) term.Post
+term-same-length-4 : (t : ℕ) → term-lts.Need-shape_of-out (T t) (term-at t) term.Post
 term-same-length-4 t c =
     let at-close2 = c.before.before in
     let at-parts = at-close2.before.before.before.before.before.before.before in
-    at-close2.close2.auto.1.1.0 ∙ at-parts.parts.auto.1.1.1.0 ∙ at-parts.before.before.before.before.before.before.before.before.begin.auto.1.1.0
+    at-close2.close-2.auto.1.1.0 ∙ at-parts.parts.auto.1.1.1.0 ∙ at-parts.before.before.before.before.before.before.before.before.begin-begun.auto.1.1.0
 
-term-returns-4 : (t : ℕ) → term-lts.Need-returns-4 (T t) (term-at t) term.Post
+term-returns-4 : (t : ℕ) → term-lts.Need-returns (T t) (term-at t) term.Post
 term-returns-4 t c =
     let at-close2 = c.before.before in
     let at-used = at-close2.before.before.before in
@@ -233,10 +233,10 @@ term-returns-4 t c =
     let at-begin = at-if1.before.before.before in
     let at-opened = at-begin.before.before in
     let at-args = at-opened.before.before.before.before.before in
-    let b = at-args.requires.1.1 in let o = at-opened.opened.ensures in let x = begins-stands _ _ at-args.args.words.now b _ o in let l = at-begin.begin.ensures _ x in for-any _ (text_in (said_by at-args.args.names.now at-args.args.pen.direct at-args.args.called.now) at-args.args.inner) _ _ at-args.args.words.now b _ _ _ _ (all-walked _ _ _ at-args.args.words.now b _ _ _ _ l _ (put-done _ at-if1.if1.false) _ _ at-parts.parts.ensures _ _ at-used.used.given.1 _ _ (at-close2.close2.ensures _ x))
+    let b = at-args.requires.1.1 in let o = at-opened.opened-node.ensures in let x = begins-stands _ _ at-args.args.words.now b _ o in let l = at-begin.begin-begun.ensures _ x in for-any _ (text_in (said_by at-args.args.names.now at-args.args.pen.direct at-args.args.called.now) at-args.args.inner) _ _ at-args.args.words.now b _ _ _ _ (all-walked _ _ _ at-args.args.words.now b _ _ _ _ l _ (put-done _ at-if1.if-begun.false) _ _ at-parts.parts.ensures _ _ at-used.used-1.given.1 _ _ (at-close2.close-2.ensures _ x))
 
-pub +parts-term-spec : {M : Type 1} → statement M
-+parts-term-spec = close μ-parts μ-term (λ t. parts-lts.spec (P t)
+pub +parts_term_spec : {M : Type 1} → statement M
++parts_term_spec = close μ-parts μ-term (λ t. parts-lts.spec (P t)
     (parts_at t)
     parts.Post
     parts-Inv-loop
