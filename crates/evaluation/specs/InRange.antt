@@ -90,4 +90,4 @@ pub number_word : (words : List ℕ) (budget table : ℕ) (z : ℤ) (u : ℕ) �
 unfolding in_range
 number_word words budget table z u e =
     let h : in_range z ≡ true = subst (λ (o : Outcome (Result ℤ)). InRange o) e (run-in-range words budget table) in
-    to_z-of_z (record { sfits = ltb-true (mag z) 2147483648 h })
+    to_z-of_z {w = w32} (record { sfits = ltb-true (mag z) 2147483648 h })

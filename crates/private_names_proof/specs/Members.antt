@@ -16,6 +16,7 @@ module _ {A : Type 0} (f : A → Bool) where
 
   pub any-from : (l : List A) (x : A) → Memᴰ x l → f x ≡ true → any_of f l ≡ true
   unfolding any_of
+  any-from [] x m e = elim m [ ]
   any-from (y ∷ l) x (Memᴰ.head p) e = or_left (f y) (any_of f l) (subst (λ z. f z ≡ true) p e)
   any-from (y ∷ l) x (Memᴰ.tail m) e = or_right (f y) (any_of f l) (any-from l x m e)
 

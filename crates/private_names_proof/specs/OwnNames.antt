@@ -49,6 +49,7 @@ module _ (C : ℕ → Bool) where
 
   made-copy : (b : Binding) (y : Name) (l : Events) → Memᴰ (b, y) (bindings_made l) → is_copy C y ≡ true → any_of (binds_copy C b) l ≡ true
   unfolding any_of binds_copy bindings_made
+  made-copy b y [] m e = elim m [ ]
   made-copy b y (looked x ∷ l) m e = made-copy b y l m e
   made-copy b y (quoted x ∷ l) m e = made-copy b y l m e
   made-copy b y (reached x ∷ l) m e = made-copy b y l m e

@@ -164,7 +164,13 @@ module _ (p : ℕ) where
 
   pub headed-of-element : {l : List ℕ} (k : ℕ) (t : Tree) → Headed l (element k t) → Headed (k ∷ l) t
   unfolding element elements
+  headed-of-element zero empty i = elim i [ ]
+  headed-of-element zero (constant a) i = elim i [ ]
+  headed-of-element zero (name x) i = elim i [ ]
   headed-of-element zero (pair h t) i = in-first i
+  headed-of-element (suc k) empty i = elim i [ ]
+  headed-of-element (suc k) (constant a) i = elim i [ ]
+  headed-of-element (suc k) (name x) i = elim i [ ]
   headed-of-element (suc k) (pair h t) i = in-later (headed-of-element k t i)
 
   -- ---- it is the form that the statement takes: a table's items are in its tree once, so that one part has that head
@@ -203,6 +209,7 @@ module _ (p : ℕ) where
   part-no-name empty f m e = refl
   part-no-name (constant a) f m e = refl
   part-no-name (name x) f (Memᴰ.head q) e = absurd (false≢true (subst (λ z. has_head p z ≡ true) q e))
+  part-no-name (name x) f (Memᴰ.tail m) e = elim m [ ]
   part-no-name (pair h t) f m e = refl
 
   pub part-first : (t f : Tree) → Memᴰ f (parts t) → has_head p f ≡ true → uses p t ≤ 1 → first_with (has_head p) (parts t) ≡ f
@@ -210,6 +217,9 @@ module _ (p : ℕ) where
   part-first empty f (Memᴰ.head q) e u = absurd (false≢true (subst (λ z. has_head p z ≡ true) q e))
   part-first (constant a) f (Memᴰ.head q) e u = absurd (false≢true (subst (λ z. has_head p z ≡ true) q e))
   part-first (name x) f (Memᴰ.head q) e u = absurd (false≢true (subst (λ z. has_head p z ≡ true) q e))
+  part-first empty f (Memᴰ.tail m) e u = elim m [ ]
+  part-first (constant a) f (Memᴰ.tail m) e u = elim m [ ]
+  part-first (name x) f (Memᴰ.tail m) e u = elim m [ ]
   part-first (pair h t) f (Memᴰ.head q) e u =
       ap (λ b. cond b (pair h t) (first_with (has_head p) (parts h ++ parts t))) (subst (λ z. has_head p z ≡ true) q e) ∙ sym q
   part-first (pair h t) f (Memᴰ.tail m) e u = go (Memᴰ.append_cases (parts h) m) (part-first h f) (part-first t f)

@@ -17,7 +17,7 @@ unfoldable pub accepted : List ℕ → ℕ → ℕ → Row
 accepted text items names = record { text = text; numbers = record { ground = 0; items = items; names = names } }
 
 unfoldable pub refused_on : List ℕ → ℕ → Row
-refused_on text ground = record { text = text; numbers = record { ground = ground; items = 0; names = 0 } }
+refused_on text g = record { text = text; numbers = record { ground = g; items = 0; names = 0 } }
 
 unfoldable pub row_of : List ℕ → Row
 unfolding recipe_of read_numbers

@@ -16,12 +16,11 @@ use lib.Seq.{length-take-le}
 
 slice-aggregate-print : tie.Need-slice_bounds-text-end
 slice-aggregate-print c =
-    let load' = c.before.before.before.before.before.before.before.before.load-recipe_length in
-    let h : load'.result ≤ length load'.new.1.0 = search rules in sym (length-take-le _ _ h)
+    let h : c.load-recipe_length.result ≤ length c.load-recipe_length.new.bytes = search rules in sym (length-take-le _ _ h)
 
 slice-aggregate-print-2 : tie.Need-print-requires
 slice-aggregate-print-2 c =
-    let h : c.before.before.before.before.load-text_length.result ≤ length c.before.before.before.before.load-text_length.new.1.0 = search rules in sym (length-take-le _ _ h)
+    let h : c.load-text_length.result ≤ length c.load-text_length.new.bytes = search rules in sym (length-take-le _ _ h)
 
 pub main_spec : {M : Type 1} → statement M
 main_spec =

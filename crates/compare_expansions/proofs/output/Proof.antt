@@ -14,8 +14,7 @@ use Rattle.compare_expansions.specs.PairLaws.{output-told}
 
 returns : tie.Need-returns
 returns c =
-    let at-line = c.before.before in
-    output-told _ _ _ _ _ _ _ _ _ _ _ _ at-line.before.before.before.before.before.before.before.before.compared-answer.ensures (search rules) (search rules) (search rules) (search rules) (search rules) (search rules) at-line.line.ensures
+    output-told _ _ _ _ _ _ _ _ _ _ _ _ c.compared-answer.ensures (search rules) (search rules) (search rules) (search rules) (search rules) (search rules) c.line.ensures
 
 pub output_spec : {M : Type 1} → statement M
 output_spec =

@@ -11,12 +11,12 @@ use Rattle.core_term.specs.Code.Counted.{counted-no, counted-yes}
 returns : tie.Need-returns-in_default
 unfolding is_term good_name
 returns c =
-    sym (counted-no _ (sym c.before.before.count.ensures ∙ c.enum_told-1.given.1))
+    sym (counted-no _ (sym c.count.ensures ∙ c.in_default.is))
 
 returns-2 : tie.Need-returns
 unfolding is_term good_name
 returns-2 c =
-    sym (counted-yes _ _ (sym c.before.before.before.count.ensures ∙ c.before.count-1.given.1))
+    sym (counted-yes _ _ (sym c.count.ensures ∙ c.in-Variables.is))
 
 pub is_term_unnamed_spec : {M : Type 1} → statement M
 is_term_unnamed_spec =

@@ -14,30 +14,30 @@ use Rattle.layout.specs.Places.{places-none}
 use Rattle.expander.specs.ServiceLaws.{room, served-layout, served-fuel, served-tables, served-operations, lends, expanded-fits, served-expanded}
 
 -- the tests of grounds 7, 8 and 9 that are passed
-layout : (c : tie.Else-not-is_layout) → is_layout c.before.before.before.before.before.args.items.now ≡ true
-layout c = sym c.before.is_layout.ensures ∙ not-false _ c.if-not-is_layout.false
+layout : (c : tie.Else1) → is_layout c.before.before.before.before.before.args.items.now ≡ true
+layout c = sym c.before.is-layout.ensures ∙ not-false _ c.if1.false
 
-fuelled : (c : tie.Else-not-fuel_fits) → leb c.before.before.before.before.before.before.before.args.fuel fuel_most ≡ true
-fuelled c = sym c.before.fuel_fits.ensures ∙ not-false _ c.if-not-fuel_fits.false
+fuelled : (c : tie.Else2) → leb c.before.before.before.before.before.before.before.args.fuel fuel_most ≡ true
+fuelled c = sym c.before.fuel-fits.ensures ∙ not-false _ c.if2.false
 
-roomy : (c : tie.Else-not-tables_fit) → let a = c.before.before.before.before.before.before.before.before.before.args in room a.items.now a.fuel a.work.now a.core.now ≡ true
+roomy : (c : tie.Else3) → let a = c.before.before.before.before.before.before.before.before.before.args in room a.items.now a.fuel a.work.now a.core.now ≡ true
 unfolding item_count
-roomy c = sym c.before.tables_fit.ensures ∙ not-false _ c.if-not-tables_fit.false
+roomy c = sym c.before.tables-fit.ensures ∙ not-false _ c.if3.false
 
-returns : tie.Need-returns-then-not-is_layout
+returns : tie.Need-returns
 returns c =
     let a = c.before.before.before.before.before.before.args in
-    served-layout a.items.now a.fuel a.work.now a.core.now (sym c.before.before.is_layout.ensures ∙ not-true _ c.before.if-not-is_layout.true) _ c.refused.ensures
+    served-layout a.items.now a.fuel a.work.now a.core.now (sym c.before.before.is-layout.ensures ∙ not-true _ c.before.if1.true) _ c.refused.ensures
 
-returns-2 : tie.Need-returns-then-not-fuel_fits
+returns-2 : tie.Need-returns-2
 returns-2 c =
     let at-if2 = c.before in
     let at-fuel-fits = at-if2.before in
     let past-layout = at-fuel-fits.before in
     let a = past-layout.before.before.before.before.before.args in
-    served-fuel a.items.now a.fuel a.work.now a.core.now (layout past-layout) (sym at-fuel-fits.fuel_fits.ensures ∙ not-true _ at-if2.if-not-fuel_fits.true) _ c.refused-then-not-fuel_fits.ensures
+    served-fuel a.items.now a.fuel a.work.now a.core.now (layout past-layout) (sym at-fuel-fits.fuel-fits.ensures ∙ not-true _ at-if2.if2.true) _ c.refused2.ensures
 
-returns-3 : tie.Need-returns-then-not-tables_fit
+returns-3 : tie.Need-returns-3
 unfolding item_count
 returns-3 c =
     let at-if3 = c.before in
@@ -45,13 +45,13 @@ returns-3 c =
     let past-fuel = at-tables-fit.before in
     let past-layout = past-fuel.before.before in
     let a = past-layout.before.before.before.before.before.args in
-    served-tables a.items.now a.fuel a.work.now a.core.now (layout past-layout) (fuelled past-fuel) (sym at-tables-fit.tables_fit.ensures ∙ not-true _ at-if3.if-not-tables_fit.true) _ c.refused-then-not-tables_fit.ensures
+    served-tables a.items.now a.fuel a.work.now a.core.now (layout past-layout) (fuelled past-fuel) (sym at-tables-fit.tables-fit.ensures ∙ not-true _ at-if3.if3.true) _ c.refused3.ensures
 
 operations-requires : tie.Need-operations-requires
 operations-requires c κs =
     (layout c.before.before.before.before.before, refl, places-none)
 
-returns-4 : tie.Need-returns-then-not-operations
+returns-4 : tie.Need-returns-4
 returns-4 c =
     let at-if4 = c.before in
     let at-operations2 = at-if4.before.before in
@@ -59,9 +59,9 @@ returns-4 c =
     let past-fuel = past-tables.before.before in
     let past-layout = past-fuel.before.before in
     let a = past-layout.before.before.before.before.before.args in
-    served-operations a.items.now a.fuel a.work.now a.core.now (layout past-layout) (fuelled past-fuel) (roomy past-tables) (sym at-operations2.operations.ensures.0 ∙ not-true _ at-if4.if-not-operations.true) _ c.refused-then-not-operations.ensures
+    served-operations a.items.now a.fuel a.work.now a.core.now (layout past-layout) (fuelled past-fuel) (roomy past-tables) (sym at-operations2.operations2.ensures.0 ∙ not-true _ at-if4.if4.true) _ c.refused4.ensures
 
-expand-recipe-requires : tie.Need-expand_recipe-ended-requires
+expand-recipe-requires : tie.Need-expand-recipe-requires
 expand-recipe-requires c κs =
     let at-if4 = c.before.before.before in
     let at-operations2 = at-if4.before.before in
@@ -69,27 +69,27 @@ expand-recipe-requires c κs =
     let past-fuel = past-tables.before.before in
     let past-layout = past-fuel.before.before in
     let a = past-layout.before.before.before.before.before.args in
-    let good = not-false _ at-if4.if-not-operations.false in
-    lends a.items.now a.fuel a.work.now a.core.now (layout past-layout) (fuelled past-fuel) (roomy past-tables) _ (sym at-operations2.operations.ensures.0 ∙ good) (at-operations2.operations.ensures.1 good) at-operations2.operations.auto.1.0
+    let good = not-false _ at-if4.if4.false in
+    lends a.items.now a.fuel a.work.now a.core.now (layout past-layout) (fuelled past-fuel) (roomy past-tables) _ (sym at-operations2.operations2.ensures.0 ∙ good) (at-operations2.operations2.ensures.1 good) at-operations2.operations2.auto.1.0
 
 finish-requires : tie.Need-finish-requires
 finish-requires c κs =
     let at-expand-recipe = c.before.before.before.before.before.before.before.before.before in
     let a = at-expand-recipe.before.before.before.before.before.before.before.before.before.before.before.before.before.before.before.before.before.args in
-    let lent = expand-recipe-requires at-expand-recipe.before at-expand-recipe.expand_recipe-ended.lifetimes in
-    expanded-fits a.items.now a.fuel a.work.now a.core.now _ _ lent.begun at-expand-recipe.expand_recipe-ended.ensures at-expand-recipe.expand_recipe-ended.auto.1.1.0
+    let lent = expand-recipe-requires at-expand-recipe.before at-expand-recipe.expand-recipe.lifetimes in
+    expanded-fits a.items.now a.fuel a.work.now a.core.now _ _ lent.begun at-expand-recipe.expand-recipe.ensures at-expand-recipe.expand-recipe.auto.1.1.0
 
-returns-5 : tie.Need-returns
+returns-5 : tie.Need-returns-5
 returns-5 c =
     let at-finish = c.before.before in
     let at-zero-words = at-finish.before.before.before.before in
     let at-expand-recipe = at-zero-words.before.before.before.before.before.before in
     let a = at-expand-recipe.before.before.before.before.before.before.before.before.before.before.before.before.before.before.before.before.before.args in
-    let lent = expand-recipe-requires at-expand-recipe.before at-expand-recipe.expand_recipe-ended.lifetimes in
-    served-expanded a.items.now a.fuel a.work.now a.core.now _ _ lent.begun at-expand-recipe.expand_recipe-ended.ensures at-expand-recipe.expand_recipe-ended.auto.1.1.0 _ _ _ at-finish.finish.ensures (at-zero-words.zero_words.ensures ∙ ap (λ (n : ℕ). replicate n 0) at-expand-recipe.expand_recipe-ended.auto.1.0)
+    let lent = expand-recipe-requires at-expand-recipe.before at-expand-recipe.expand-recipe.lifetimes in
+    served-expanded a.items.now a.fuel a.work.now a.core.now _ _ lent.begun at-expand-recipe.expand-recipe.ensures at-expand-recipe.expand-recipe.auto.1.1.0 _ _ _ at-finish.finish.ensures (at-zero-words.zero-words.ensures ∙ ap (λ (n : ℕ). replicate n 0) at-expand-recipe.expand-recipe.auto.1.0)
 
-pub expand_spec : {M : Type 1} → statement M
-expand_spec =
+pub expand-spec : {M : Type 1} → statement M
+expand-spec =
     tie.close
     (tie.spec
     (λ c κs. search rules)  -- is-layout-requires

@@ -13,19 +13,15 @@ use Rattle.filing.specs.Room.{output-told, output-known, output-fits}
 
 returns : tie.Need-returns-in-Written
 returns c =
-    let at_length = c.before in
-    let at-file = at_length.before.before.before.before.before.before.before.before in
-    output-told _ _ _ _ _ _ _ _ at-file.file.ensures.output (search rules) (search rules) (search rules) (search rules) at-file.before.before.before.before.before.before.before.before.before.before.before.before.requires _ at_length.length-1.given.1
+    output-told _ _ _ _ _ _ _ _ c.file.ensures.output (search rules) (search rules) (search rules) (search rules) c.requires _ c.in-Written.is
 
 returns-2 : tie.Need-returns-in-NoTerm
 returns-2 c =
-    let at-file = c.before.before.before.before.before.before.before.before in
-    absurd (output-known _ _ _ _ _ _ _ _ at-file.file.ensures.output (search rules) (search rules) (search rules) (search rules) at-file.before.before.before.before.before.before.before.before.before.before.before.before.requires c.enum_told-1.given.1)
+    absurd (output-known _ _ _ _ _ _ _ _ c.file.ensures.output (search rules) (search rules) (search rules) (search rules) c.requires c.in-NoTerm.is)
 
 returns-3 : tie.Need-returns-in-NoRoom
 returns-3 c =
-    let at-file = c.before.before.before.before.before.before.before.before in
-    absurd (output-fits _ _ _ _ _ _ _ _ at-file.file.ensures.output (search rules) (search rules) (search rules) (search rules) at-file.before.before.before.before.before.before.before.before.before.before.before.before.requires c.enum_told-in-NoRoom-1.given.1)
+    absurd (output-fits _ _ _ _ _ _ _ _ c.file.ensures.output (search rules) (search rules) (search rules) (search rules) c.requires c.in-NoRoom.is)
 
 pub output_spec : {M : Type 1} → statement M
 output_spec =

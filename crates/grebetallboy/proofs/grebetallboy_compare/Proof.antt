@@ -12,17 +12,17 @@ use Rattle.supplier.specs.Service.{verdict_of}
 returns : tie.Need-returns-in-Yes
 unfolding verdict_of tells_verdict verdict_ground
 returns c =
-    compare-told c.before.before.before.before.before.before.before.before.before.before.before.before.before.before.before.before.before.before.before.before.args.counts.now c.before.before.before.before.before.before.before.before.before.before.compare.ensures c.before.before.before.before.enum_told-1.given.1 c.before.before.tell.ensures
+    compare-told c.args.counts.now c.compare.ensures c.in-Yes.is c.tell.ensures
 
 returns-2 : tie.Need-returns-in-No
 unfolding verdict_of tells_verdict verdict_ground
 returns-2 c =
-    compare-told c.before.before.before.before.before.before.before.before.before.before.before.before.before.before.before.before.before.before.before.before.args.counts.now c.before.before.before.before.before.before.before.before.before.before.compare.ensures c.before.before.before.before.enum_told-in-No-1.given.1 c.before.before.tell-in-No.ensures
+    compare-told c.args.counts.now c.compare.ensures c.in-No.is c.tell-in-No.ensures
 
 returns-3 : tie.Need-returns-in-Refused
 unfolding verdict_of tells_verdict verdict_ground
 returns-3 c =
-    compare-told c.before.before.before.before.before.before.before.before.before.before.before.before.before.before.before.before.before.before.before.before.before.args.counts.now c.before.before.before.before.before.before.before.before.before.before.before.compare.ensures c.before.before.before.before.before.g-1.given.1 c.before.before.tell-in-Refused.ensures
+    compare-told c.args.counts.now c.compare.ensures c.in-Refused.is c.tell-in-Refused.ensures
 
 pub grebetallboy_compare_spec : {M : Type 1} → statement M
 grebetallboy_compare_spec =

@@ -12,12 +12,12 @@ use Rattle.expander.specs.Service.{numbers_of}
 returns : tie.Need-returns-in-Accepted
 unfolding numbers_of tells_run
 returns c =
-    expand-told c.before.before.before.before.before.before.before.before.before.before.before.before.before.before.before.before.before.before.args.counts.now c.before.before.before.before.before.before.before.before.before.before.before.expand.ensures c.before.before.before.before.before.n-1.given.1 c.before.before.tell.ensures
+    expand-told c.args.counts.now c.expand.ensures c.in-Accepted.is c.tell.ensures
 
 returns-2 : tie.Need-returns-in-Refused
 unfolding numbers_of tells_run
 returns-2 c =
-    expand-told c.before.before.before.before.before.before.before.before.before.before.before.before.before.before.before.before.before.before.args.counts.now c.before.before.before.before.before.before.before.before.before.before.before.expand.ensures c.before.before.before.before.before.g-1.given.1 c.before.before.tell-in-Refused.ensures
+    expand-told c.args.counts.now c.expand.ensures c.in-Refused.is c.tell-in-Refused.ensures
 
 pub grebetallboy_expand_spec : {M : Type 1} → statement M
 grebetallboy_expand_spec =

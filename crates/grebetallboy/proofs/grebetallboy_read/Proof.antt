@@ -12,12 +12,12 @@ use Rattle.grebetallboy.specs.Calls.{tells_read}
 returns : tie.Need-returns-in-Read
 unfolding numbers_of tells_read
 returns c =
-    read_told c.before.before.before.before.before.before.before.before.before.before.before.before.before.before.before.before.before.before.args.counts.now c.before.before.before.before.before.before.before.before.before.before.before.read.ensures c.before.before.before.before.before.i-1.given.1 c.before.before.tell.ensures
+    read_told c.args.counts.now c.read.ensures c.in-Read.is c.tell.ensures
 
 returns-2 : tie.Need-returns-in-Refused
 unfolding numbers_of tells_read
 returns-2 c =
-    read_told c.before.before.before.before.before.before.before.before.before.before.before.before.before.before.before.before.before.before.args.counts.now c.before.before.before.before.before.before.before.before.before.before.before.read.ensures c.before.before.before.before.before.g-1.given.1 c.before.before.tell-in-Refused.ensures
+    read_told c.args.counts.now c.read.ensures c.in-Refused.is c.tell-in-Refused.ensures
 
 pub grebetallboy_read_spec : {M : Type 1} → statement M
 grebetallboy_read_spec =

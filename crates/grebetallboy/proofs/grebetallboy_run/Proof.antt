@@ -22,7 +22,7 @@ same-length-2 c = search rules
 -- src/lib.rt:194:1
 returns : tie.Need-returns
 returns c =
-    ran-told _ c.before.before.before.before.before.before.run.ensures c.before.before.tell_running.ensures
+    ran-told _ c.run.ensures c.tell_running.ensures
 
 pub grebetallboy_run_spec : {M : Type 1} → statement M
 grebetallboy_run_spec =

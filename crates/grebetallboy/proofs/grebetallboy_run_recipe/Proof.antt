@@ -53,9 +53,7 @@ same-length-4 c = search rules
 returns : tie.Need-returns-in-Ran
 unfolding told_of
 returns c =
-    let at-tell-running = c.before.before in
-    let at-r = at-tell-running.before.before.before in
-    recipe-told _ _ at-r.before.before.before.before.before.before.before.before.run_recipe.ensures at-r.r-1.given.1 at-tell-running.tell_running.ensures
+    recipe-told _ _ c.run_recipe.ensures c.in-Ran.is c.tell_running.ensures
 
 -- src/lib.rt:207:1
 same-length-5 : tie.Need-shape_of-work-in-Refused
@@ -77,9 +75,7 @@ same-length-8 c = search rules
 returns-2 : tie.Need-returns-in-Refused
 unfolding told_of
 returns-2 c =
-    let at-tell-four = c.before.before in
-    let at_g = at-tell-four.before.before.before in
-    recipe-told _ _ at_g.before.before.before.before.before.before.before.before.run_recipe.ensures at_g.g-1.given.1 (refl, at-tell-four.tell_four.ensures)
+    recipe-told _ _ c.run_recipe.ensures c.in-Refused.is (refl, c.tell_four.ensures)
 
 pub grebetallboy_run_recipe_spec : {M : Type 1} → statement M
 grebetallboy_run_recipe_spec =

@@ -11,17 +11,17 @@ use Rattle.writer.specs.Writing.{ground_of, length_of}
 returns : tie.Need-returns-in-Written
 unfolding ground_of length_of
 returns c =
-    write-told c.before.before.before.before.before.before.before.before.before.before.before.before.before.before.before.args.counts.now c.before.before.before.before.before.before.before.before.before.write.ensures c.before.before.before.before.before.n-1.given.1 c.before.before.tell.ensures
+    write-told c.args.counts.now c.write.ensures c.in-Written.is c.tell.ensures
 
 returns-2 : tie.Need-returns-in-NoTerm
 unfolding ground_of length_of
 returns-2 c =
-    write-told c.before.before.before.before.before.before.before.before.before.before.before.before.before.before.args.counts.now c.before.before.before.before.before.before.before.before.write.ensures c.before.before.before.before.enum_told-1.given.1 c.before.before.tell-in-NoTerm.ensures
+    write-told c.args.counts.now c.write.ensures c.in-NoTerm.is c.tell-in-NoTerm.ensures
 
 returns-3 : tie.Need-returns-in-NoRoom
 unfolding ground_of length_of
 returns-3 c =
-    write-told c.before.before.before.before.before.before.before.before.before.before.before.before.before.before.args.counts.now c.before.before.before.before.before.before.before.before.write.ensures c.before.before.before.before.enum_told-in-NoRoom-1.given.1 c.before.before.tell-in-NoRoom.ensures
+    write-told c.args.counts.now c.write.ensures c.in-NoRoom.is c.tell-in-NoRoom.ensures
 
 pub grebetallboy_write_spec : {M : Type 1} → statement M
 grebetallboy_write_spec =

@@ -10,7 +10,7 @@ use Rattle.grebetallboy.specs.CallLaws.{told-short, told-three}
 
 returns : tie.Need-returns-then-counts-lt3
 returns c =
-    let a = c.before.args in
+    let a = c.args in
     told-short (a.a ∷ a.b ∷ a.c ∷ []) a.counts.now c.if-counts-lt3.true
 
 slice-write-counts : tie.Need-bounds-counts-0
@@ -31,7 +31,7 @@ same_length c =
 
 returns-2 : tie.Need-returns
 returns-2 c =
-    told-three c.before.args.a c.before.args.b c.before.args.c c.before.args.counts.now c.if-counts-lt3.false
+    told-three c.args.a c.args.b c.args.c c.args.counts.now c.if-counts-lt3.false
 
 pub tell_spec : {M : Type 1} → statement M
 tell_spec =

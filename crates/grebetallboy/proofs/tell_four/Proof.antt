@@ -12,7 +12,7 @@ use Rattle.grebetallboy.specs.CallLaws.{told-short, told_more}
 -- src/lib.rt:25:9
 returns : tie.Need-returns-then-counts-lt4
 returns c =
-    told-short (c.before.before.args.a ∷ c.before.before.args.b ∷ c.before.before.args.c ∷ c.before.before.args.d ∷ []) _ c.if-counts-lt4.true
+    told-short (c.args.a ∷ c.args.b ∷ c.args.c ∷ c.args.d ∷ []) _ c.if-counts-lt4.true
 
 -- src/lib.rt:27:5
 tell-requires : tie.Need-tell-requires
@@ -29,10 +29,8 @@ same_length c = search rules
 -- src/lib.rt:21:1
 returns-2 : tie.Need-returns
 returns-2 c =
-    let at-tell = c.before.before in
-    let at-if1 = at-tell.before.before in
-    let args' = at-if1.before.before.args in
-    ap (λ (l : List ℕ). set l 3 args'.d) at-tell.tell.ensures ∙ told_more (args'.a ∷ args'.b ∷ args'.c ∷ []) args'.d _ at-if1.if-counts-lt4.false
+    let args' = c.args in
+    ap (λ (l : List ℕ). set l 3 args'.d) c.tell.ensures ∙ told_more (args'.a ∷ args'.b ∷ args'.c ∷ []) args'.d _ c.if-counts-lt4.false
 
 pub tell_four_spec : {M : Type 1} → statement M
 tell_four_spec =

@@ -69,7 +69,7 @@ same_length c = search rules
 returns : tie.Need-returns-in-Refused
 unfolding numbers_of
 returns c =
-    rw c.before.before.before.before.before.running-in-Refused-1.given.1 (refl, c.before.before.tell_four-in-Refused.ensures)
+    rw c.in-Refused.is (refl, c.tell_four-in-Refused.ensures)
 
 -- src/lib.rt:41:1
 same-length-2 : tie.Need-shape_of-counts-in-Integer
@@ -79,7 +79,7 @@ same-length-2 c = search rules
 returns-2 : tie.Need-returns-in-Integer
 unfolding numbers_of
 returns-2 c =
-    rw c.before.before.before.before.before.running-1.given.1 (refl, c.before.before.tell_four.ensures)
+    rw c.in-Integer.is (refl, c.tell_four.ensures)
 
 -- src/lib.rt:41:1
 same-length-3 : tie.Need-shape_of-counts-in-Boolean
@@ -89,7 +89,7 @@ same-length-3 c = search rules
 returns-3 : tie.Need-returns-in-Boolean
 unfolding numbers_of
 returns-3 c =
-    rw (c.before.before.before.before.before.before.running-in-Boolean-1.given.1, ← c.before.before.before.bit.ensures) (refl, c.before.before.tell_four-in-Boolean.ensures)
+    rw (c.in-Boolean.is, ← c.bit.ensures) (refl, c.tell_four-in-Boolean.ensures)
 
 -- src/lib.rt:41:1
 same-length-4 : tie.Need-shape_of-counts-in-Datum
@@ -99,7 +99,7 @@ same-length-4 c = search rules
 returns-4 : tie.Need-returns-in-Datum
 unfolding numbers_of
 returns-4 c =
-    rw c.before.before.before.before.before.running-in-Datum-1.given.1 (refl, c.before.before.tell_four-in-Datum.ensures)
+    rw c.in-Datum.is (refl, c.tell_four-in-Datum.ensures)
 
 -- src/lib.rt:41:1
 same-length-5 : tie.Need-shape_of-counts-in-Closure
@@ -109,7 +109,7 @@ same-length-5 c = search rules
 returns-5 : tie.Need-returns-in-Closure
 unfolding numbers_of
 returns-5 c =
-    rw c.before.before.before.before.before.running-in-Closure-1.given.1 (refl, c.before.before.tell_four-in-Closure.ensures)
+    rw c.in-Closure.is (refl, c.tell_four-in-Closure.ensures)
 
 -- src/lib.rt:41:1
 same-length-6 : tie.Need-shape_of-counts-in-Operation
@@ -119,7 +119,7 @@ same-length-6 c = search rules
 returns-6 : tie.Need-returns-in-Operation
 unfolding numbers_of
 returns-6 c =
-    rw c.before.before.before.before.before.running-in-Operation-1.given.1 (refl, c.before.before.tell_four-in-Operation.ensures)
+    rw c.in-Operation.is (refl, c.tell_four-in-Operation.ensures)
 
 pub tell_running_spec : {M : Type 1} → statement M
 tell_running_spec =

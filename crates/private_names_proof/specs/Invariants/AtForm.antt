@@ -21,7 +21,7 @@ use Rattle.expansion.specs.Forms.{keywords, rules_forms, rules_form_of}
 use Rattle.expansion.specs.FormLaws.{rule-placed}
 use Rattle.expansion.specs.TidyRules.{rules_of-tidy}
 use Rattle.simulation.specs.Relations.{OptionRel, nones, somes}
-use Rattle.simulation.specs.Shapes.{TreeOf, empties, constants, names₂, pairs, TemplateOf, insert_ts, pair_ts, ellipsis_ts}
+use Rattle.simulation.specs.Shapes.{TreeOf, empties, constants, names₂, pairs, TemplateOf, insert_ts, pair_ts, ellipsis_ts, variable_ts, constant_ts, empty_ts}
 use Rattle.simulation.specs.RulesKept.{template_of-rel}
 use Rattle.private_names_proof.specs.Renamed.OldItems.{is_old, old-uses, old-number, old-each}
 use Rattle.private_names_proof.specs.Renamed.{template_in, tree_all-template}
@@ -42,7 +42,10 @@ module _ (P : Name → Type 0) where
   itself (all-pair a b) = pairs (itself a) (itself b)
 
   inserts-itself : {e f : Template} → TemplateOf (Itself P) e f → (x : Name) → Inserts x e → P x
+  inserts-itself variable_ts x i = elim i [ ]
   inserts-itself (insert_ts r) x here = r.1
+  inserts-itself constant_ts x i = elim i [ ]
+  inserts-itself empty_ts x i = elim i [ ]
   inserts-itself (pair_ts p q) x (in_head i) = inserts-itself p x i
   inserts-itself (pair_ts p q) x (in_tail i) = inserts-itself q x i
   inserts-itself (ellipsis_ts p q) x (in-element i) = inserts-itself p x i

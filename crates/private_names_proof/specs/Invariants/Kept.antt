@@ -36,7 +36,10 @@ pub data Inserts (x : Name) : Template → Type 0 where
 
 module _ {N : Name → Type 0} {C : Constant → Type 0} where
   pub inserts-tidy : {t : Template} → TidyTemplate N C t → (x : Name) → Inserts x t → N x
+  inserts-tidy template_variable x i = elim i [ ]
   inserts-tidy (template_insert f) x here = f
+  inserts-tidy (template_constant c) x i = elim i [ ]
+  inserts-tidy template_empty x i = elim i [ ]
   inserts-tidy (template_pair a b l) x (in_head i) = inserts-tidy a x i
   inserts-tidy (template_pair a b l) x (in_tail i) = inserts-tidy b x i
   inserts-tidy (template_ellipsis a b l) x (in-element i) = inserts-tidy a x i

@@ -39,7 +39,7 @@ use Rattle.reading.specs.Token.{
 use Rattle.reading.specs.Offset.{leading, token_of, width_of, first_of, first_width, start_at, token_at, next_at, before, taken}
 use Rattle.reading.specs.RecipeText.{EndsRun, at_end}
 use Rattle.reading.specs.RecipeText as R
-use Rattle.reading.specs.Laws.Tokens.{ClassIs, is_separator, is_run, class_is, separator-skipped, run-taken}
+use Rattle.reading.specs.Laws.Tokens.{ClassIs, is_separator, is_opening, is_closing, is_sharp, is_run, is_foreign, class_is, separator-skipped, run-taken}
 
 -- ---- bytes that pass a test
 
@@ -93,15 +93,15 @@ module _ (b : ℕ) (bs : List ℕ) where
   sharp-first [] = refl
   sharp-first (c ∷ cs) = refl
 
-  by-class : (k : Class) → ClassIs b k → is_separating b ≡ false → class_of b ≡ k
-      → tokens_after nothing (b ∷ bs) ≡ token_of k b bs ∷ tokens_after nothing (drop (width_of k bs) (b ∷ bs))
-  unfolding token_of width_of tokens_after completed next alone begun
-  by-class separating (is_separator n s) h e = never s h
-  by-class opening i h e = rw e
-  by-class closing i h e = rw e
-  by-class sharp i h e = rw e (sharp-first bs)
-  by-class running (is_run r) h e = run-first r
-  by-class foreign i h e = rw e
+by-class : (b : ℕ) (bs : List ℕ) (k : Class) → ClassIs b k → is_separating b ≡ false → class_of b ≡ k
+    → tokens_after nothing (b ∷ bs) ≡ token_of k b bs ∷ tokens_after nothing (drop (width_of k bs) (b ∷ bs))
+unfolding token_of width_of tokens_after completed next alone begun
+by-class b bs separating (is_separator n s) h e = never s h
+by-class b bs opening is_opening h e = rw e
+by-class b bs closing is_closing h e = rw e
+by-class b bs sharp is_sharp h e = rw e (sharp-first b bs bs)
+by-class b bs running (is_run r) h e = run-first b bs r
+by-class b bs foreign (is_foreign r) h e = rw e
 
 -- bytes that begin with no separator have the first token, and then the tokens of the bytes past it
 pub first_taken : (bs : List ℕ) → is_separating (get_or bs 0 0) ≡ false

@@ -21,12 +21,12 @@ cast-end c = search rules
 -- src/lib.rt:31:44
 slice-reshare-prefix-run : tie.Need-slice_bounds-run-end
 slice-reshare-prefix-run c =
-    term-inside _ _ _ _ _ _ _ c.before.before.before.before.before.before.before.expand.ensures _ _ _ c.before.l-1.given.1
+    term-inside _ _ _ _ _ _ _ c.expand.ensures _ _ _ c.in-Accepted.is
 
 -- src/lib.rt:31:44
 slice-aggregate-run : tie.Need-slice_bounds-run-end-in-Accepted
 slice-aggregate-run c =
-    sym (length-take-le _ _ (term-inside _ _ _ _ _ _ _ c.before.before.before.before.before.before.before.before.expand.ensures _ _ _ c.before.before.l-1.given.1))
+    sym (length-take-le _ _ (term-inside _ _ _ _ _ _ _ c.expand.ensures _ _ _ c.in-Accepted.is))
 
 -- src/lib.rt:31:32
 run-requires : tie.Need-run-requires
@@ -51,9 +51,7 @@ same-length-3 c = search rules
 -- src/lib.rt:14:1
 returns : tie.Need-returns-in-Accepted
 returns c =
-    let at-run = c.before.before in
-    let at-l = at-run.before.before.before.before in
-    recipe-ran _ _ _ _ _ _ _ at-l.before.before.before.before.before.before.expand.ensures _ _ _ at-l.l-1.given.1 _ _ _ _ at-run.run.ensures
+    recipe-ran _ _ _ _ _ _ _ c.expand.ensures _ _ _ c.in-Accepted.is _ _ _ _ c.run.ensures
 
 -- src/lib.rt:14:1
 same-length-4 : tie.Need-shape_of-work-in-Refused
@@ -66,7 +64,7 @@ same-length-5 c = search rules
 -- src/lib.rt:14:1
 returns-2 : tie.Need-returns-in-Refused
 returns-2 c =
-    recipe-stopped _ _ _ _ _ _ _ c.before.before.before.before.before.before.before.expand.ensures _ _ _ c.before.g-1.given.1 _ _
+    recipe-stopped _ _ _ _ _ _ _ c.expand.ensures _ _ _ c.in-Refused.is _ _
 
 pub run_recipe_spec : {M : Type 1} → statement M
 run_recipe_spec =

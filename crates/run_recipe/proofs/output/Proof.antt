@@ -14,7 +14,7 @@ use Rattle.run_recipe.specs.ValueLaws.{output-told}
 
 returns : tie.Need-returns
 returns c =
-    output-told _ _ _ _ _ _ _ _ _ c.before.before.before.before.before.before.before.before.value-answer.ensures (search rules) (search rules) (search rules) (search rules) c.before.before.line.ensures
+    output-told _ _ _ _ _ _ _ _ _ c.value-answer.ensures (search rules) (search rules) (search rules) (search rules) c.line.ensures
 
 pub output_spec : {M : Type 1} → statement M
 output_spec =

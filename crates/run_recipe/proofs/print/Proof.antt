@@ -13,11 +13,11 @@ use Rattle.program_laws.specs.Printed.{printed-within}
 
 array-share-prefix-out : tie.Need-slice_bounds-out-end
 array-share-prefix-out c =
-    printed-within c.before.output-end.ensures
+    printed-within c.output-end.ensures
 
 slice-aggregate-write-all : tie.Need-slice_bounds-write_all-end
 slice-aggregate-write-all c =
-    sym (length-take-le _ _ (printed-within c.before.before.output-end.ensures))
+    sym (length-take-le _ _ (printed-within c.output-end.ensures))
 
 pub print_spec : {M : Type 1} → statement M
 print_spec =

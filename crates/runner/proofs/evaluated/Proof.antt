@@ -13,14 +13,13 @@ use Rattle.runner.specs.ServiceLaws.{starts, ran-value, ran-ground}
 -- src/lib.rt:92:5
 mark-requires : tie.Need-mark-requires
 mark-requires c κs =
-    let pre' = c.before.before.before.before.requires in
+    let pre' = c.requires in
     (pre'.0, (pre'.1.term, here-whole operations_most small _ _ pre'.1.is))
 
 -- src/lib.rt:99:9
 go-requires : tie.Need-go-end-requires
 go-requires c κs =
-    let at_mark = c.before.before.before.before in
-    (at_mark.mark.ensures.0, (_, starts _ at_mark.before.before.before.before.before.requires.1))
+    (c.mark.ensures.0, (_, starts _ c.requires.1))
 
 -- src/lib.rt:100:5
 zero-words-requires : tie.Need-zero_words-requires
@@ -49,12 +48,8 @@ same-length-2 c = search rules
 -- src/lib.rt:88:1
 returns : tie.Need-returns-in-Value
 returns c =
-    let at-end = c.before.before in
-    let at-zero-words = at-end.before.before.before.before in
-    let at-go = at-zero-words.before.before.before.before in
-    let at-args = at-go.before.before.before.before.before.before.before.before.before.before in
-    let zeros = at-zero-words.zero_words.ensures ∙ ap (λ (n : ℕ). replicate n 0) at-go.go-end.auto.1.1.1.0 in
-    ran-value _ at-args.requires.1 zeros _ _ (at-go.go-end.ensures _ (starts _ at-args.requires.1)) _ _ at-end.end-1.given.1 _ c.whole.ensures
+    let zeros = c.zero_words.ensures ∙ ap (λ (n : ℕ). replicate n 0) c.go-end.auto.table in
+    ran-value _ c.requires.1 zeros _ _ (c.go-end.ensures _ (starts _ c.requires.1)) _ _ c.in-Value.is _ c.whole.ensures
 
 -- src/lib.rt:88:1
 same-length-3 : tie.Need-shape_of-ends-in-Ground
@@ -67,12 +62,8 @@ same-length-4 c = search rules
 -- src/lib.rt:88:1
 returns-2 : tie.Need-returns-in-Ground
 returns-2 c =
-    let at-end2 = c.before in
-    let at-zero-words = at-end2.before.before.before.before in
-    let at-go = at-zero-words.before.before.before.before in
-    let at-args = at-go.before.before.before.before.before.before.before.before.before.before in
-    let zeros = at-zero-words.zero_words.ensures ∙ ap (λ (n : ℕ). replicate n 0) at-go.go-end.auto.1.1.1.0 in
-    ran-ground _ at-args.requires.1 zeros _ _ (at-go.go-end.ensures _ (starts _ at-args.requires.1)) _ at-end2.end-in-Ground-1.given.1
+    let zeros = c.zero_words.ensures ∙ ap (λ (n : ℕ). replicate n 0) c.go-end.auto.table in
+    ran-ground _ c.requires.1 zeros _ _ (c.go-end.ensures _ (starts _ c.requires.1)) _ c.in-Ground.is
 
 pub evaluated_spec : {M : Type 1} → statement M
 evaluated_spec =

@@ -19,7 +19,7 @@ same_length c = search rules
 -- src/lib.rt:125:9
 returns : tie.Need-returns-then-g-ne0
 returns c =
-    ran-unfit (tested-unfit _ _ _ _ c.if-g-ne0.true c.before.unfit-g.ensures)
+    ran-unfit (tested-unfit _ _ _ _ c.if-g-ne0.true c.unfit-g.ensures)
 
 -- src/lib.rt:128:24
 short-ends-requires : tie.Need-short_ends-ends-requires
@@ -32,11 +32,9 @@ slice-aggregate-evaluated c = search rules
 -- src/lib.rt:129:9
 evaluated-requires : tie.Need-evaluated-requires
 evaluated-requires c κs =
-    let at-short-ends = c.before.before in
-    let at-if1 = at-short-ends.before.before in
-    let at-unfit = at-if1.before in (
-      subst (λ (e : List ℕ). Memo at-unfit.before.before.before.before.args.words.now e) (sym at-short-ends.short_ends-ends.ensures) (memo-none _ 1024),
-      tested-fit _ _ _ _ at-if1.if-g-ne0.false at-unfit.unfit-g.ensures,
+    (
+      subst (λ (e : List ℕ). Memo c.args.words.now e) (sym c.short_ends-ends.ensures) (memo-none _ 1024),
+      tested-fit _ _ _ _ c.if-g-ne0.false c.unfit-g.ensures,
     )
 
 -- src/lib.rt:129:9
@@ -58,11 +56,9 @@ slice-aggregate-evaluated-2 c = search rules
 -- src/lib.rt:132:5
 evaluated-requires-2 : tie.Need-evaluated-requires-2
 evaluated-requires-2 c κs =
-    let at-long-ends = c.before.before in
-    let at-if1 = at-long-ends.before.before in
-    let at-unfit = at-if1.before in (
-      subst (λ (e : List ℕ). Memo at-unfit.before.before.before.before.args.words.now e) (sym at-long-ends.long_ends-ends.ensures) (memo-none _ 36864),
-      tested-fit _ _ _ _ at-if1.if-g-ne0.false at-unfit.unfit-g.ensures,
+    (
+      subst (λ (e : List ℕ). Memo c.args.words.now e) (sym c.long_ends-ends.ensures) (memo-none _ 36864),
+      tested-fit _ _ _ _ c.if-g-ne0.false c.unfit-g.ensures,
     )
 
 -- src/lib.rt:120:1

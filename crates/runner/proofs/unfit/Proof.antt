@@ -15,12 +15,12 @@ is-term-unnamed-requires c κs = search rules
 -- src/lib.rt:57:9
 returns : tie.Need-returns-then-not-is_term_unnamed
 returns c =
-    no-term _ _ _ (sym c.before.is_term_unnamed.ensures ∙ not-true _ c.if-not-is_term_unnamed.true)
+    no-term _ _ _ (sym c.is_term_unnamed.ensures ∙ not-true _ c.if-not-is_term_unnamed.true-raw)
 
 -- src/lib.rt:60:9
 returns-2 : tie.Need-returns-then-budget-gt-BUDGET
 returns-2 c =
-    over-budget _ _ _ (sym c.before.before.is_term_unnamed.ensures ∙ not-false _ c.before.if-not-is_term_unnamed.false) c.if-budget-gt-BUDGET.true
+    over-budget _ _ _ (sym c.is_term_unnamed.ensures ∙ not-false _ c.if-not-is_term_unnamed.false-raw) c.if-budget-gt-BUDGET.true
 
 -- src/lib.rt:62:34
 add-if3 : tie.Need-overflow_add-budget
@@ -33,12 +33,12 @@ mul-if3 c = search rules
 -- src/lib.rt:63:9
 returns-3 : tie.Need-returns-then-table-budget
 returns-3 c =
-    short-table _ _ _ (sym c.before.before.before.is_term_unnamed.ensures ∙ not-false _ c.before.before.if-not-is_term_unnamed.false) c.before.if-budget-gt-BUDGET.false c.if-table-budget.true
+    short-table _ _ _ (sym c.is_term_unnamed.ensures ∙ not-false _ c.if-not-is_term_unnamed.false-raw) c.if-budget-gt-BUDGET.false c.if-table-budget.true
 
 -- src/lib.rt:53:1
 returns-4 : tie.Need-returns
 returns-4 c =
-    fits _ _ _ (sym c.before.before.before.is_term_unnamed.ensures ∙ not-false _ c.before.before.if-not-is_term_unnamed.false) c.before.if-budget-gt-BUDGET.false c.if-table-budget.false
+    fits _ _ _ (sym c.is_term_unnamed.ensures ∙ not-false _ c.if-not-is_term_unnamed.false-raw) c.if-budget-gt-BUDGET.false c.if-table-budget.false
 
 pub unfit_spec : {M : Type 1} → statement M
 unfit_spec =

@@ -18,7 +18,7 @@ returns c =
 returns-2 : tie.Need-returns-then-v-eq-BOOLEAN
 unfolding numbers_of
 returns-2 c =
-    λ ws t top x i. whole-told 2 _ c.before.if-v-eq-BOOLEAN.true (search rules) i
+    λ ws t top x i. whole-told 2 _ c.if-v-eq-BOOLEAN.true (search rules) i
 
 -- src/lib.rt:79:31
 place-requires : tie.Need-place-requires
@@ -28,7 +28,7 @@ place-requires c κs = search rules
 returns-3 : tie.Need-returns-then-v-eq-DATUM
 unfolding numbers_of
 returns-3 c =
-    λ ws t top x i. ap (λ n. told 3 n 0 c.before.before.before.before.before.before.before.args.units) c.place.ensures ∙ whole-told 3 _ c.before.if-v-eq-DATUM.true (search rules) i
+    λ ws t top x i. ap (λ n. told 3 n 0 c.args.units) c.place.ensures ∙ whole-told 3 _ c.if-v-eq-DATUM.true (search rules) i
 
 -- src/lib.rt:82:9
 returns-4 : tie.Need-returns-then-v-eq-CLOSURE
@@ -40,9 +40,7 @@ returns-4 c =
 returns-5 : tie.Need-returns
 unfolding numbers_of
 returns-5 c =
-    let at-if3 = c.before.before in
-    let at-if2 = at-if3.before.before in
-    λ ws t top x i. whole-told 5 _ (omega (arith, kind-least i, kind-most i, at-if2.before.before.if-v-eq-NUMBER.false, at-if2.if-v-eq-BOOLEAN.false, at-if3.if-v-eq-DATUM.false, c.if-v-eq-CLOSURE.false)) (search rules) i
+    λ ws t top x i. whole-told 5 _ (omega (arith, kind-least i, kind-most i, c.if-v-eq-NUMBER.false, c.if-v-eq-BOOLEAN.false, c.if-v-eq-DATUM.false, c.if-v-eq-CLOSURE.false)) (search rules) i
 
 pub whole_spec : {M : Type 1} → statement M
 whole_spec = tie.close (tie.spec returns returns-2 place-requires returns-3 returns-4 returns-5)

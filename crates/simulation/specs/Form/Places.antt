@@ -146,6 +146,8 @@ module _ (ρ : Renaming) (f : ℕ → Binding) where
   pub bind_all-still : (xs ys : List Name) (k : ℕ) (β : Scope) → ListRel (Still ρ β) xs ys → distinct xs ≡ true → {t u : Tree} → TreeOf (Still ρ β) t u → TreeOf (Still ρ (rebind_all f k xs β)) (bind_all f k xs t) (bind_all f k ys u)
   unfolding bind_all bind rebind_all distinct
   bind_all-still [] [] k β ends e r = r
+  bind_all-still [] (y ∷ ys) k β s e r = elim s [ ]
+  bind_all-still (x ∷ xs) [] k β s e r = elim s [ ]
   bind_all-still (x ∷ xs) (y ∷ ys) k β (joins s ss) e {t} {u} r =
       subst (λ z. TreeOf (Still ρ (rebind_all f k (x ∷ xs) β)) (bind_all f (suc k) xs (bind x (f k) t)) (bind_all f (suc k) ys (bind z (f k) u))) s.eq
       (bind_all-still xs ys (suc k) (rebind x.number (f k) β) (others ρ β x s.placed (f k) (and_left (not (any_of (same x) xs)) (distinct xs) e) ss) (and_right (not (any_of (same x) xs)) (distinct xs) e)
@@ -155,19 +157,24 @@ module _ (ρ : Renaming) (f : ℕ → Binding) where
       → Hole (Still ρ (rebind_all f k xs β)) (ChosenRules ρ (rebind_all f k xs β)) p (bind_all f k xs t) (bind_all f k ys u)
   unfolding bind_all bind rebind_all distinct
   bind_all-hole [] [] k β ends e r = r
+  bind_all-hole [] (y ∷ ys) k β s e r = elim s [ ]
+  bind_all-hole (x ∷ xs) [] k β s e r = elim s [ ]
   bind_all-hole (x ∷ xs) (y ∷ ys) k β (joins s ss) e {p} {t} {u} r =
       subst (λ z. Hole (Still ρ (rebind_all f k (x ∷ xs) β)) (ChosenRules ρ (rebind_all f k (x ∷ xs) β)) p (bind_all f (suc k) xs (bind x (f k) t)) (bind_all f (suc k) ys (bind z (f k) u))) s.eq
       (bind_all-hole xs ys (suc k) (rebind x.number (f k) β) (others ρ β x s.placed (f k) (and_left (not (any_of (same x) xs)) (distinct xs) e) ss) (and_right (not (any_of (same x) xs)) (distinct xs) e)
       (hole-on_names (bind_name x (f k)) (still_bind ρ β x s.placed (f k)) (rules-bind ρ β x s.placed (f k)) r))
 
-  pub rebind_all-foreign : (k : ℕ) (β γ : Scope) {xs ys : List Name} → ListRel (Still ρ γ) xs ys → AllFine ρ (bindings f k xs) → Foreign ρ β → Foreign ρ (rebind_all f k xs β)
+  foreign-from : (γ : Scope) (k : ℕ) (β : Scope) {xs ys : List Name} → ListRel (Still ρ γ) xs ys → AllFine ρ (bindings f k xs) → Foreign ρ β → Foreign ρ (rebind_all f k xs β)
   unfolding rebind_all rebind bindings
-  rebind_all-foreign k β γ ends a h = h
-  rebind_all-foreign k β γ (joins {x = x} s ss) (also e a) h = rebind_all-foreign (suc k) _ γ ss a (λ n. go (eqb x.number n) n)
+  foreign-from γ k β ends a h = h
+  foreign-from γ k β (joins {x = x} s ss) (also e a) h = foreign-from γ (suc k) _ ss a (λ n. go (eqb x.number n) n)
     where
       go : (c : Bool) (n : ℕ) → of_copy ρ (cond c (some (f k)) (β n)) ≡ false
       go true n = binds-fine ρ (f k) x e ∙ not-private-not-copy ρ x s.not-private
       go false n = h n
+
+  pub rebind_all-foreign : (k : ℕ) (β γ : Scope) {xs ys : List Name} → ListRel (Still ρ γ) xs ys → AllFine ρ (bindings f k xs) → Foreign ρ β → Foreign ρ (rebind_all f k xs β)
+  rebind_all-foreign k β γ = foreign-from γ k β
 
 -- ---- names that are still, as the simulation knows them
 

@@ -12,67 +12,43 @@ use Rattle.supplier.specs.ServiceLaws.{compared-7, compared-10, compared-term, c
 
 returns : tie.Need-returns-then-not-is_layout
 returns c =
-    compared-7 _ _ _ _ _ _ (sym c.before.is_layout.ensures ∙ not-true _ c.if-not-is_layout.true)
+    compared-7 _ _ _ _ _ _ (sym c.is_layout.ensures ∙ not-true _ c.if-not-is_layout.true-raw)
 
 operations-requires : tie.Need-operations-requires
 operations-requires c κs =
-    ((sym c.before.before.is_layout.ensures ∙ not-false _ c.before.if-not-is_layout.false), refl, places-none)
+    ((sym c.is_layout.ensures ∙ not-false _ c.if-not-is_layout.false-raw), refl, places-none)
 
 returns-2 : tie.Need-returns-then-not-operations
 returns-2 c =
-    compared-10 _ _ _ _ _ _ (sym c.before.before.before.before.before.is_layout.ensures ∙ not-false _ c.before.before.before.before.if-not-is_layout.false) (sym c.before.before.operations.ensures.0 ∙ not-true _ c.if-not-operations.true)
+    compared-10 _ _ _ _ _ _ (sym c.is_layout.ensures ∙ not-false _ c.if-not-is_layout.false-raw) (sym c.operations.ensures.0 ∙ not-true _ c.if-not-operations.true-raw)
 
 numbers-requires : tie.Need-numbers-count-requires
 numbers-requires c κs =
-    let at-if2 = c.before in
-    let at-operations = at-if2.before.before in
-    let at-if1 = at-operations.before.before in
-    ((sym at-if1.before.is_layout.ensures ∙ not-false _ at-if1.if-not-is_layout.false), (sym at-operations.operations.ensures.0 ∙ not-false _ at-if2.if-not-operations.false), omega arith)
+    ((sym c.is_layout.ensures ∙ not-false _ c.if-not-is_layout.false-raw), (sym c.operations.ensures.0 ∙ not-false _ c.if-not-operations.false-raw), omega arith)
 
 returns-3 : tie.Need-returns-then-not-is_term
 returns-3 c =
-    let at-is-term = c.before in
-    let at-numbers = at-is-term.before.before in
-    let at-if2 = at-numbers.before.before in
-    let at-operations = at-if2.before.before in
-    let at-if1 = at-operations.before.before in
-    compared-term _ _ _ _ _ _ (sym at-if1.before.is_layout.ensures ∙ not-false _ at-if1.if-not-is_layout.false) (sym at-operations.operations.ensures.0 ∙ not-false _ at-if2.if-not-operations.false) _ _ at-numbers.numbers-count.ensures.0 at-numbers.numbers-count.ensures.1 (sym at-is-term.is_term.ensures ∙ not-true _ c.if-not-is_term.true)
+    compared-term _ _ _ _ _ _ (sym c.is_layout.ensures ∙ not-false _ c.if-not-is_layout.false-raw) (sym c.operations.ensures.0 ∙ not-false _ c.if-not-operations.false-raw) _ _ c.numbers-count.ensures.0 c.numbers-count.ensures.1 (sym c.is_term.ensures ∙ not-true _ c.if-not-is_term.true-raw)
 
 slice-aggregate-all-named : tie.Need-slice_bounds-all_named-end
 slice-aggregate-all-named c =
-    sym (length-take-le _ _ c.before.before.before.before.numbers-count.ensures.0)
+    sym (length-take-le _ _ c.numbers-count.ensures.0)
 
 returns-4 : tie.Need-returns-then-not-all_named
 returns-4 c =
-    let at-all-named = c.before in
-    let at-if3 = at-all-named.before.before in
-    let at-is-term = at-if3.before in
-    let at-numbers = at-is-term.before.before in
-    let at-if2 = at-numbers.before.before in
-    let at-operations = at-if2.before.before in
-    let at-if1 = at-operations.before.before in
-    compared-slots _ _ _ _ _ _ (sym at-if1.before.is_layout.ensures ∙ not-false _ at-if1.if-not-is_layout.false) (sym at-operations.operations.ensures.0 ∙ not-false _ at-if2.if-not-operations.false) _ _ at-numbers.numbers-count.ensures.0 at-numbers.numbers-count.ensures.1 (sym at-is-term.is_term.ensures ∙ not-false _ at-if3.if-not-is_term.false) (sym at-all-named.all_named.ensures ∙ not-true _ c.if-not-all_named.true)
+    compared-slots _ _ _ _ _ _ (sym c.is_layout.ensures ∙ not-false _ c.if-not-is_layout.false-raw) (sym c.operations.ensures.0 ∙ not-false _ c.if-not-operations.false-raw) _ _ c.numbers-count.ensures.0 c.numbers-count.ensures.1 (sym c.is_term.ensures ∙ not-false _ c.if-not-is_term.false-raw) (sym c.all_named.ensures ∙ not-true _ c.if-not-all_named.true-raw)
 
 slice-aggregate-held : tie.Need-slice_bounds-held-end
 slice-aggregate-held c =
-    sym (length-take-le _ _ c.before.before.before.before.before.before.before.numbers-count.ensures.0)
+    sym (length-take-le _ _ c.numbers-count.ensures.0)
 
 held-requires : tie.Need-held-requires
 held-requires c κs =
-    have-slots _ _ (sym c.before.before.before.before.all_named.ensures ∙ not-false _ c.before.before.before.if-not-all_named.false)
+    have-slots _ _ (sym c.all_named.ensures ∙ not-false _ c.if-not-all_named.false-raw)
 
 returns-5 : tie.Need-returns
 returns-5 c =
-    let at_held = c.before.before.before.before in
-    let at-if4 = at_held.before.before.before.before in
-    let at-all-named = at-if4.before in
-    let at-if3 = at-all-named.before.before in
-    let at-is-term = at-if3.before in
-    let at-numbers = at-is-term.before.before in
-    let at-if2 = at-numbers.before.before in
-    let at-operations = at-if2.before.before in
-    let at-if1 = at-operations.before.before in
-    compared-text _ _ _ _ _ _ (sym at-if1.before.is_layout.ensures ∙ not-false _ at-if1.if-not-is_layout.false) (sym at-operations.operations.ensures.0 ∙ not-false _ at-if2.if-not-operations.false) _ _ at-numbers.numbers-count.ensures.0 at-numbers.numbers-count.ensures.1 (sym at-is-term.is_term.ensures ∙ not-false _ at-if3.if-not-is_term.false) (sym at-all-named.all_named.ensures ∙ not-false _ at-if4.if-not-all_named.false) _ _ _ at_held.held.ensures
+    compared-text _ _ _ _ _ _ (sym c.is_layout.ensures ∙ not-false _ c.if-not-is_layout.false-raw) (sym c.operations.ensures.0 ∙ not-false _ c.if-not-operations.false-raw) _ _ c.numbers-count.ensures.0 c.numbers-count.ensures.1 (sym c.is_term.ensures ∙ not-false _ c.if-not-is_term.false-raw) (sym c.all_named.ensures ∙ not-false _ c.if-not-all_named.false-raw) _ _ _ c.held.ensures
 
 pub compare_spec : {M : Type 1} → statement M
 compare_spec =

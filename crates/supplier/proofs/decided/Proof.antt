@@ -6,26 +6,24 @@ use Rattle.supplier.specs.ElementLaws.{element-yes, element-no, element-open, el
 
 expression-requires : tie.Need-expression-found-requires
 expression-requires c κs =
-    let pre' = c.before.before.before.before.before.before.requires in
+    let pre' = c.requires in
     (pre'.0, (omega arith, pre'.1, omega arith), pre'.2)
 
 returns : tie.Need-returns-then-found-eq-SAME
 returns c =
-    element-yes _ _ _ _ _ _ _ c.before.before.before.expression-found.ensures.0 c.if-found-eq-SAME.true
+    element-yes _ _ _ _ _ _ _ c.expression-found.ensures.0 c.if-found-eq-SAME.true
 
 returns-2 : tie.Need-returns-then-found-eq-OTHER
 returns-2 c =
-    element-no _ _ _ _ _ _ _ c.before.before.before.before.before.expression-found.ensures.0 c.if-found-eq-OTHER.true
+    element-no _ _ _ _ _ _ _ c.expression-found.ensures.0 c.if-found-eq-OTHER.true
 
 returns-3 : tie.Need-returns-then-found-eq-OPEN
 returns-3 c =
-    element-open _ _ _ _ _ _ _ c.before.before.before.before.before.before.before.expression-found.ensures.0 c.if-found-eq-OPEN.true
+    element-open _ _ _ _ _ _ _ c.expression-found.ensures.0 c.if-found-eq-OPEN.true
 
 returns-4 : tie.Need-returns
 returns-4 c =
-    let at-if2 = c.before.before in
-    let at-if1 = at-if2.before.before in
-    element-outside _ _ _ _ _ _ _ at-if1.before.before.before.expression-found.ensures.0 at-if1.if-found-eq-SAME.false at-if2.if-found-eq-OTHER.false c.if-found-eq-OPEN.false
+    element-outside _ _ _ _ _ _ _ c.expression-found.ensures.0 c.if-found-eq-SAME.false c.if-found-eq-OTHER.false c.if-found-eq-OPEN.false
 
 pub decided_spec : {M : Type 1} → statement M
 decided_spec =

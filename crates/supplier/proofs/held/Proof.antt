@@ -11,46 +11,31 @@ use Rattle.supplier.specs.ServiceLaws.{items-within, text-held, text-few, names-
 
 mul-end : tie.Need-overflow_mul-end
 mul-end c =
-    let h : 3 * c.before.i-1.given.0.0 ≤ length c.before.before.before.before.before.before.before.read_elements.new.1.0 = items-within _ _ _ _ _ _ c.before.before.before.before.before.before.before.read_elements.ensures _ _ c.before.i-1.given.1 in record { fits = omega arith }
+    let h : 3 * c.in-Read.i ≤ length c.read_elements.new.items = items-within _ _ _ _ _ _ c.read_elements.ensures _ _ c.in-Read.is in record { fits = omega arith }
 
 slice-reshare-prefix-decided : tie.Need-slice_bounds-decided-end
 slice-reshare-prefix-decided c =
-    items-within _ _ _ _ _ _ c.before.before.before.before.before.before.before.read_elements.ensures _ _ c.before.i-1.given.1
+    items-within _ _ _ _ _ _ c.read_elements.ensures _ _ c.in-Read.is
 
 slice-aggregate-decided : tie.Need-slice_bounds-decided-end-in-Read
 slice-aggregate-decided c =
-    sym (length-take-le _ _ (items-within _ _ _ _ _ _ c.before.before.before.before.before.before.before.before.read_elements.ensures _ _ c.before.before.i-1.given.1))
+    sym (length-take-le _ _ (items-within _ _ _ _ _ _ c.read_elements.ensures _ _ c.in-Read.is))
 
 decided-requires : tie.Need-decided-answer-requires
 decided-requires c κs =
-    let at_i = c.before.before.before in
-    let at-read-elements = at_i.before.before.before.before.before.before in
-    (text-held _ _ _ _ _ _ at-read-elements.read_elements.ensures _ _ at_i.i-1.given.1, text-few _ _ _ _ _ _ at-read-elements.read_elements.ensures _ _ at_i.i-1.given.1, (names-slots _ _ _ _ _ _ at-read-elements.read_elements.ensures _ _ at_i.i-1.given.1, at-read-elements.before.before.before.before.before.before.before.before.before.requires))
+    (text-held _ _ _ _ _ _ c.read_elements.ensures _ _ c.in-Read.is, text-few _ _ _ _ _ _ c.read_elements.ensures _ _ c.in-Read.is, (names-slots _ _ _ _ _ _ c.read_elements.ensures _ _ c.in-Read.is, c.requires))
 
 returns : tie.Need-returns-then-is_refused
 returns c =
-    let at-zero-bytes = c.before.before in
-    let at-zero-words = at-zero-bytes.before.before.before.before in
-    let at-if1 = at-zero-words.before.before in
-    let at-is-refused = at-if1.before in
-    let at-decided = at-is-refused.before in
-    let at_i = at-decided.before.before.before.before in
-    let at-read-elements = at_i.before.before.before.before.before.before in
-    text-zeroed _ _ _ _ _ _ at-read-elements.read_elements.ensures _ _ at_i.i-1.given.1 _ _ at-read-elements.before.before.before.before.before.before.before.before.before.args.operations.now _ at-decided.decided-answer.ensures (sym at-is-refused.is_refused.ensures ∙ at-if1.if-is_refused.true) _ _ (at-zero-words.zero_words.ensures ∙ ap (λ (k : ℕ). replicate k 0) at-read-elements.read_elements.auto.1.0) (at-zero-bytes.zero_bytes.ensures ∙ ap (λ (k : ℕ). replicate k 0) at-read-elements.read_elements.auto.1.1.0)
+    text-zeroed _ _ _ _ _ _ c.read_elements.ensures _ _ c.in-Read.is _ _ c.args.operations.now _ c.decided-answer.ensures (sym c.is_refused.ensures ∙ c.if-is_refused.true) _ _ (c.zero_words.ensures ∙ ap (λ (k : ℕ). replicate k 0) c.read_elements.auto.items) (c.zero_bytes.ensures ∙ ap (λ (k : ℕ). replicate k 0) c.read_elements.auto.names)
 
 returns-2 : tie.Need-returns-else-is_refused
 returns-2 c =
-    let at-is-refused = c.before in
-    let at-decided = at-is-refused.before in
-    let at_i = at-decided.before.before.before.before in
-    let at-read-elements = at_i.before.before.before.before.before.before in
-    text-kept _ _ _ _ _ _ at-read-elements.read_elements.ensures _ _ at_i.i-1.given.1 _ _ at-read-elements.before.before.before.before.before.before.before.before.before.args.operations.now _ at-decided.decided-answer.ensures (sym at-is-refused.is_refused.ensures ∙ c.if-is_refused.false)
+    text-kept _ _ _ _ _ _ c.read_elements.ensures _ _ c.in-Read.is _ _ c.args.operations.now _ c.decided-answer.ensures (sym c.is_refused.ensures ∙ c.if-is_refused.false)
 
 returns-3 : tie.Need-returns-in-Refused
 returns-3 c =
-    let at-ground = c.before in
-    let at-read-elements = at-ground.before.before.before.before.before.before in
-    text-unread _ _ _ _ _ _ at-read-elements.read_elements.ensures _ at-ground.ground-1.given.1 _ _ at-read-elements.before.before.before.before.before.before.before.before.before.args.operations.now
+    text-unread _ _ _ _ _ _ c.read_elements.ensures _ c.in-Refused.is _ _ c.args.operations.now
 
 pub held_spec : {M : Type 1} → statement M
 held_spec =

@@ -20,17 +20,17 @@ enum-told-2 c =
 returns : tie.Need-returns-in-Refused
 unfolding verdict_of is_refusal
 returns c =
-    sym (ap (λ v. is_refusal (verdict_of v)) c.before.v-1.given.1)
+    sym (ap (λ v. is_refusal (verdict_of v)) c.in-Refused.is)
 
 returns-2 : tie.Need-returns-in-Yes
 unfolding verdict_of is_refusal
 returns-2 c =
-    sym (ap (λ v. is_refusal (verdict_of v)) c.enum_told-1.given.1)
+    sym (ap (λ v. is_refusal (verdict_of v)) c.in-Yes.is)
 
 returns-3 : tie.Need-returns-in-No
 unfolding verdict_of is_refusal
 returns-3 c =
-    sym (ap (λ v. is_refusal (verdict_of v)) c.enum_told-in-No-1.given.1)
+    sym (ap (λ v. is_refusal (verdict_of v)) c.in-No.is)
 
 pub is_refused_spec : {M : Type 1} → statement M
 is_refused_spec =

@@ -19,47 +19,23 @@ decreases-loop text at₀ at =
 
 print-line-requires : tie.Need-print_line-requires invariant-loop decreases-loop
 print-line-requires c κs =
-    let at-skip = c.before in
-    let at-if1 = at-skip.before in
-    let at-past = at-if1.before in
-    let at-token-from = at-past.before in
-    let at-loop = at-token-from.before in
-    let skip = at-skip.skip in
-    let if1 = at-if1.if-next-at in
-    let past = at-past.past-next in
-    let token-from = at-token-from.token_from-token in
-    let loop = at-loop.loop-at in
-    let args = at-loop.before.before.args in
-    let p = answered-past args.text.now loop.at token-from.result token-from.ensures loop.invariant in
-    let later = p.1 (λ e. if1.false (past.ensures ∙ e)) in
-    (omega (arith, skip.ensures.start, past.ensures, later), omega (arith, past.ensures, p.0))
+    let args = c.args in
+    let p = answered-past args.text.now c.loop-at.at c.token_from-token.result c.token_from-token.ensures c.loop-at.invariant in
+    let later = p.1 (λ e. c.if-next-at.false (c.past-next.ensures ∙ e)) in
+    (omega (arith, c.skip.ensures.start, c.past-next.ensures, later), omega (arith, c.past-next.ensures, p.0))
 
 loop-less : tie.Need-loop-at-smaller invariant-loop decreases-loop
 loop-less c =
-    let at-if1 = c.before.before.before in
-    let at-past = at-if1.before in
-    let at-token-from = at-past.before in
-    let at-loop = at-token-from.before in
-    let if1 = at-if1.if-next-at in
-    let past = at-past.past-next in
-    let token-from = at-token-from.token_from-token in
-    let loop = at-loop.loop-at in
-    let args = at-loop.before.before.args in
-    let p = answered-past args.text.now loop.at token-from.result token-from.ensures loop.invariant in
-    let later = p.1 (λ e. if1.false (past.ensures ∙ e)) in
-    omega (arith, start-low args.text.now loop.at, past.ensures, later, p.0)
+    let args = c.args in
+    let p = answered-past args.text.now c.loop-at.at c.token_from-token.result c.token_from-token.ensures c.loop-at.invariant in
+    let later = p.1 (λ e. c.if-next-at.false (c.past-next.ensures ∙ e)) in
+    omega (arith, start-low args.text.now c.loop-at.at, c.past-next.ensures, later, p.0)
 
 loop-again : tie.Need-loop-at-preserved invariant-loop decreases-loop
 loop-again c =
-    let at-past = c.before.before.before.before in
-    let at-token-from = at-past.before in
-    let at-loop = at-token-from.before in
-    let past = at-past.past-next in
-    let token-from = at-token-from.token_from-token in
-    let loop = at-loop.loop-at in
-    let args = at-loop.before.before.args in
-    let p = answered-past args.text.now loop.at token-from.result token-from.ensures loop.invariant in
-    omega (arith, past.ensures, p.0)
+    let args = c.args in
+    let p = answered-past args.text.now c.loop-at.at c.token_from-token.result c.token_from-token.ensures c.loop-at.invariant in
+    omega (arith, c.past-next.ensures, p.0)
 
 pub print_tokens_spec : {M : Type 1} → statement M
 print_tokens_spec =

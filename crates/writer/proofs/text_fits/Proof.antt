@@ -10,23 +10,20 @@ use Rattle.writer.specs.WroteLaws.{room-measured, walk-short, walk-fits}
 
 returns : tie.Need-returns-then-has_room
 returns c =
-    λ operations t k. room-measured _ operations _ t k _ (sym c.before.has_room.ensures ∙ c.if-has_room.true)
+    λ operations t k. room-measured _ operations _ t k _ (sym c.has_room.ensures ∙ c.if-has_room.true)
 
 term-requires : tie.Need-term-requires
 term-requires c κs =
-    let pre' = c.before.before.before.before.before.before.before.before.requires in
+    let pre' = c.requires in
     (omega arith, pre'.0, pre'.1)
 
 returns-2 : tie.Need-returns-in_default
 returns-2 c =
-    let at-term = c.before.before.before.before in
-    λ operations. walk-short _ operations _ _ at-term.before.before.before.before.before.before.before.before.before.requires.2 at-term.term.ensures c.enum_told-1.given.1
+    λ operations. walk-short _ operations _ _ c.requires.2 c.term.ensures c.in_default.is
 
 returns-3 : tie.Need-returns
 returns-3 c =
-    let at-used = c.before in
-    let at-term = at-used.before.before.before.before in
-    λ operations. walk-fits _ operations _ _ at-term.before.before.before.before.before.before.before.before.before.requires.2 at-term.term.ensures _ _ at-used.used-1.given.1
+    λ operations. walk-fits _ operations _ _ c.requires.2 c.term.ensures _ _ c.in-Done.is
 
 pub text_fits_spec : {M : Type 1} → statement M
 text_fits_spec =

@@ -13,28 +13,22 @@ use Rattle.writer.specs.WroteLaws.{no-term, counted-term, counted-names, is-told
 
 returns : tie.Need-returns-in_default
 returns c =
-    no-term c.before.before.before.before.before.before.args.words.now _ _ _ (counted_none _ (sym c.before.before.count_variables.ensures ∙ c.enum_told-1.given.1))
+    no-term c.args.words.now _ _ _ (counted_none _ (sym c.count_variables.ensures ∙ c.in_default.is))
 
 write-noting-requires : tie.Need-write_noting-requires
 write-noting-requires c κs =
-    let at_count = c.before.before.before.before in
-    let at-count-variables = at_count.before.before in
-    let args' = at-count-variables.before.before.before.before.args in
-    let k = sym at-count-variables.count_variables.ensures ∙ at_count.count-1.given.1 in (counted-term args'.words.now args'.operations args'.names.now _ k, counted-names args'.words.now args'.operations args'.names.now _ k, search rules)
+    let args' = c.args in
+    let k = sym c.count_variables.ensures ∙ c.in-Variables.is in (counted-term args'.words.now args'.operations args'.names.now _ k, counted-names args'.words.now args'.operations args'.names.now _ k, search rules)
 
 write-noting-requires-2 : tie.Need-write_noting-requires-then-count-le-VARIABLES
 write-noting-requires-2 c κs =
-    let at_count = c.before.before.before.before.before in
-    let at-count-variables = at_count.before.before in
-    let args' = at-count-variables.before.before.before.before.args in
-    let k = sym at-count-variables.count_variables.ensures ∙ at_count.count-1.given.1 in (counted-term args'.words.now args'.operations args'.names.now _ k, counted-names args'.words.now args'.operations args'.names.now _ k, search rules)
+    let args' = c.args in
+    let k = sym c.count_variables.ensures ∙ c.in-Variables.is in (counted-term args'.words.now args'.operations args'.names.now _ k, counted-names args'.words.now args'.operations args'.names.now _ k, search rules)
 
 write-called-requires : tie.Need-write_called-requires
 write-called-requires c κs =
-    let at_count = c.before.before.before.before in
-    let at-count-variables = at_count.before.before in
-    let args' = at-count-variables.before.before.before.before.args in
-    let k = sym at-count-variables.count_variables.ensures ∙ at_count.count-1.given.1 in (counted-term args'.words.now args'.operations args'.names.now _ k, λ e. is-told args'.words.now args'.operations args'.names.now (counted-term args'.words.now args'.operations args'.names.now _ k), called-words false args'.words.now refl)
+    let args' = c.args in
+    let k = sym c.count_variables.ensures ∙ c.in-Variables.is in (counted-term args'.words.now args'.operations args'.names.now _ k, λ e. is-told args'.words.now args'.operations args'.names.now (counted-term args'.words.now args'.operations args'.names.now _ k), called-words false args'.words.now refl)
 
 pub write_spec : {M : Type 1} → statement M
 write_spec =

@@ -11,46 +11,31 @@ use Rattle.writer.specs.WroteLaws.{term-begins, no_room, no_second, wrote-text}
 
 text-fits-requires : tie.Need-text_fits-requires
 text-fits-requires c κs =
-    let at-args = c.before.before.before.before.before in
-    (term-begins at-args.args.words.now _ _ at-args.requires.0 _ at-args.requires.2, at-args.requires.1, at-args.requires.2)
+    (term-begins c.args.words.now _ _ c.requires.0 _ c.requires.2, c.requires.1, c.requires.2)
 
 returns : tie.Need-returns-then-not-text_fits
 returns c =
-    let at-text-fits = c.before.before.before in
-    let at-args = at-text-fits.before.before.before.before.before.before in
-    no_room at-args.args.words.now _ _ at-args.requires.0 at-text-fits.text_fits.ensures (not-true at-text-fits.text_fits.result c.if-not-text_fits.true)
+    no_room c.args.words.now _ _ c.requires.0 c.text_fits.ensures (not-true c.text_fits.result c.if-not-text_fits.true-raw)
 
 term-requires : tie.Need-term-requires
 term-requires c κs =
-    let at-args = c.before.before.before.before.before.before.before.before.before.before in
-    (omega arith, term-begins at-args.args.words.now _ _ at-args.requires.0 _ at-args.requires.2, at-args.requires.1)
+    (omega arith, term-begins c.args.words.now _ _ c.requires.0 _ c.requires.2, c.requires.1)
 
 same-length-2 : tie.Need-shape_of-out-in_default
 same-length-2 c =
-    let at-term = c.before.before.before.before in
-    at-term.term.auto.1.1.0 ∙ at-term.before.before.before.before.before.text_fits.auto.1.1.0
+    c.term.auto.out ∙ c.text_fits.auto.out
 
 returns-2 : tie.Need-returns-in_default
 returns-2 c =
-    let at-term = c.before.before.before.before in
-    let at-if1 = at-term.before.before in
-    let at-text-fits = at-if1.before.before.before in
-    let at-args = at-text-fits.before.before.before.before.before.before in
-    no_second at-args.args.words.now _ _ at-args.requires.0 at-text-fits.text_fits.ensures (not-false at-text-fits.text_fits.result at-if1.if-not-text_fits.false) _ at-args.requires.2 at-term.term.ensures c.enum_told-1.given.1
+    no_second c.args.words.now _ _ c.requires.0 c.text_fits.ensures (not-false c.text_fits.result c.if-not-text_fits.false-raw) _ c.requires.2 c.term.ensures c.in_default.is
 
 same-length-3 : tie.Need-shape_of-out
 same-length-3 c =
-    let at-term = c.before.before.before.before.before in
-    at-term.term.auto.1.1.0 ∙ at-term.before.before.before.before.before.text_fits.auto.1.1.0
+    c.term.auto.out ∙ c.text_fits.auto.out
 
 returns-3 : tie.Need-returns
 returns-3 c =
-    let at-used = c.before in
-    let at-term = at-used.before.before.before.before in
-    let at-if1 = at-term.before.before in
-    let at-text-fits = at-if1.before.before.before in
-    let at-args = at-text-fits.before.before.before.before.before.before in
-    wrote-text at-args.args.words.now _ _ at-args.requires.0 at-text-fits.text_fits.ensures (not-false at-text-fits.text_fits.result at-if1.if-not-text_fits.false) _ at-args.requires.2 at-term.term.ensures _ _ at-used.used-1.given.1
+    wrote-text c.args.words.now _ _ c.requires.0 c.text_fits.ensures (not-false c.text_fits.result c.if-not-text_fits.false-raw) _ c.requires.2 c.term.ensures _ _ c.in-Done.is
 
 pub write_called_spec : {M : Type 1} → statement M
 write_called_spec =

@@ -11,20 +11,16 @@ use Rattle.writer.specs.WroteLaws.{is-told}
 
 note-requires : tie.Need-note-requires
 note-requires c κs =
-    let at-args = c.before.before.before.before.before in
-    (is-told at-args.args.words.now at-args.args.operations at-args.args.names.now at-args.requires.0, at-args.requires.1, at-args.requires.2)
+    (is-told c.args.words.now c.args.operations c.args.names.now c.requires.0, c.requires.1, c.requires.2)
 
 slice-aggregate-write-called : tie.Need-slice_bounds-write_called-end-2
 slice-aggregate-write-called c =
-    let at-note = c.before.before.before.before in
-    let at-args = at-note.before.before.before.before.before.before in
-    let h : at-args.args.count ≤ length at-note.note.new.1.1.0 = omega (arith, at-args.requires.2, at-note.note.auto.1.1.0) in
-    sym (length-take-le at-args.args.count at-note.note.new.1.1.0 h)
+    let h : c.args.count ≤ length c.note.new.table = omega (arith, c.requires.2, c.note.auto.table) in
+    sym (length-take-le c.args.count c.note.new.table h)
 
 write-called-requires : tie.Need-write_called-requires
 write-called-requires c κs =
-    let at-note = c.before.before.before.before in
-    (at-note.before.before.before.before.before.before.requires.0, λ e. absurd (true≢false e), called-table true _ refl ∙ at-note.note.ensures)
+    (c.requires.0, λ e. absurd (true≢false e), called-table true _ refl ∙ c.note.ensures)
 
 pub write_noting_spec : {M : Type 1} → statement M
 write_noting_spec =

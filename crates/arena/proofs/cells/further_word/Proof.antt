@@ -18,25 +18,21 @@ shared-slice-read-result c = search rules
 returns : tie.Need-returns-then-i-work
 unfolding word_at
 returns c =
-    let entry = c.before.before.before.before in
-    let a = entry.args in
-    let wrapped = c.before.before.wrapping_sub_usize-i in
-    let h : a.k ≤ a.at = omega (arith, wrapped.ensures, c.before.if-i-work.true) in
-    let e : wrapped.result ≡ a.at - a.k = omega (arith, wrapped.ensures, c.before.if-i-work.true) in
-    rw (entry.requires, le-ltb a.at a.k h, e)
+    let a = c.args in
+    let h : a.k ≤ a.at = omega (arith, c.wrapping_sub_usize-i.ensures, c.if-i-work.true) in
+    let e : c.wrapping_sub_usize-i.result ≡ a.at - a.k = omega (arith, c.wrapping_sub_usize-i.ensures, c.if-i-work.true) in
+    rw (c.requires, le-ltb a.at a.k h, e)
 
 returns-2 : tie.Need-returns
 unfolding word_at
 returns-2 c =
-    let entry = c.before.before.before in
-    let a = entry.args in
-    let wrapped = c.before.wrapping_sub_usize-i in
+    let a = c.args in
     sym (either (ltb a.at a.k)
-    (λ t. rw (entry.requires, t))
+    (λ t. rw (c.requires, t))
     (λ t.
     let h : a.k ≤ a.at = ltb-false a.at a.k t in
-    let l : length a.work.now ≤ a.at - a.k = omega (arith, wrapped.ensures, h, c.if-i-work.false) in
-    rw (entry.requires, t) (get_or-eq_default a.work.now 0 l)))
+    let l : length a.work.now ≤ a.at - a.k = omega (arith, c.wrapping_sub_usize-i.ensures, h, c.if-i-work.false) in
+    rw (c.requires, t) (get_or-eq_default a.work.now 0 l)))
 
 pub further_word_spec : {M : Type 1} → statement M
 further_word_spec =

@@ -7,12 +7,12 @@ use borrow.Author.Tests.{lt-leb}
 returns : tie.Need-returns-then-k-ge1
 unfolding within
 returns c =
-    rw (le-leb 1 c.before.args.k c.if-k-ge1.true)
+    rw (le-leb 1 c.args.k c.if-k-ge1.true)
 
 returns-2 : tie.Need-returns-else-k-ge1
 unfolding within
 returns-2 c =
-    rw (lt-leb 1 c.before.args.k c.if-k-ge1.false)
+    rw (lt-leb 1 c.args.k c.if-k-ge1.false)
 
 pub is_last_spec : {M : Type 1} → statement M
 is_last_spec = tie.close (tie.spec returns returns-2)

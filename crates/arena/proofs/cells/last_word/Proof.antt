@@ -8,42 +8,35 @@ use Rattle.words.specs.ListLaws.{either}
 use Rattle.arena.specs.ArenaLaws.{word_at-in, word_at-past}
 
 sub-result : tie.Need-overflow_sub-result
-sub-result c = (within-parts 1 3 _ c.before.before.before.before.requires).1
+sub-result c = (within-parts 1 3 _ c.requires).1
 
 add-result : tie.Need-overflow_add-result
-add-result c = omega (arith, c.before.places.ensures, c.if-i-places.true)
+add-result c = omega (arith, c.places.ensures, c.if-i-places.true)
 
 mul-result : tie.Need-offset_bounds-work-i
-mul-result c = omega (arith, c.before.places.ensures, c.if-i-places.true)
+mul-result c = omega (arith, c.places.ensures, c.if-i-places.true)
 
 shared-slice-read-result : tie.Need-bounds-work-i
 shared-slice-read-result c =
-    let p = within-parts 1 3 _ c.before.before.before.before.before.requires in
-    omega (arith, c.before.before.places.ensures, c.before.if-i-places.true, p.0)
+    let p = within-parts 1 3 _ c.requires in
+    omega (arith, c.places.ensures, c.if-i-places.true, p.0)
 
 returns : tie.Need-returns-then-i-places
 returns c =
-    let at-if1 = c.before in
-    let at_places = at-if1.before in
-    let at-wrapping-sub-usize = at_places.before in
-    let entry = at-wrapping-sub-usize.before.before in
-    let a = entry.args in
-    let p = within-parts 1 3 _ entry.requires in
-    let wrapped = at-wrapping-sub-usize.wrapping_sub_usize-i in
-    let few = at_places.places.ensures in
-    let h : 3 ≤ a.at = omega (arith, wrapped.ensures, few, at-if1.if-i-places.true) in
-    let l : a.at ≤ length a.work.now = omega (arith, wrapped.ensures, few, at-if1.if-i-places.true) in
-    let e : wrapped.result + (3 - a.k) ≡ a.at - a.k = omega (arith, wrapped.ensures, few, at-if1.if-i-places.true, p.0, p.1) in
+    let a = c.args in
+    let p = within-parts 1 3 _ c.requires in
+    let few = c.places.ensures in
+    let h : 3 ≤ a.at = omega (arith, c.wrapping_sub_usize-i.ensures, few, c.if-i-places.true) in
+    let l : a.at ≤ length a.work.now = omega (arith, c.wrapping_sub_usize-i.ensures, few, c.if-i-places.true) in
+    let e : c.wrapping_sub_usize-i.result + (3 - a.k) ≡ a.at - a.k = omega (arith, c.wrapping_sub_usize-i.ensures, few, c.if-i-places.true, p.0, p.1) in
     ap (λ (j : ℕ). get_or a.work.now j 0) e ∙ sym (word_at-in a.work.now a.at a.k h (omega (arith, p.1)) l)
 
 returns-2 : tie.Need-returns
 returns-2 c =
-    let entry = c.before.before.before.before in
-    let a = entry.args in
-    let wrapped = c.before.before.wrapping_sub_usize-i in
-    sym (word_at-past a.work.now a.at a.k entry.requires
+    let a = c.args in
+    sym (word_at-past a.work.now a.at a.k c.requires
     (either (within 3 (length a.work.now) a.at)
-    (λ t. let p = within-parts 3 _ _ t in absurd (omega (arith, wrapped.ensures, c.before.places.ensures, c.if-i-places.false, p.0, p.1)))
+    (λ t. let p = within-parts 3 _ _ t in absurd (omega (arith, c.wrapping_sub_usize-i.ensures, c.places.ensures, c.if-i-places.false, p.0, p.1)))
     (λ f. f)))
 
 pub last_word_spec : {M : Type 1} → statement M

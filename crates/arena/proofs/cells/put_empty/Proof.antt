@@ -12,9 +12,8 @@ same_length c = search rules
 
 returns : tie.Need-returns
 returns c =
-    let a = c.before.before.before.before.before.args in
-    let put = c.before.before.put in
-    grown-empty a.work.now _ a.top _ 0 0 put.ensures
+    let a = c.args in
+    grown-empty a.work.now _ a.top _ 0 0 c.put.ensures
 
 pub put_empty_spec : {M : Type 1} → statement M
 put_empty_spec = tie.close (tie.spec put-requires same_length returns)

@@ -12,11 +12,9 @@ same_length c = search rules
 
 returns : tie.Need-returns
 returns c =
-    let entry = c.before.before.before.before.before in
-    let a = entry.args in
-    let pre = entry.requires in
-    let put = c.before.before.put in
-    grown-name a.work.now _ a.top _ a.origin a.own pre.1 put.ensures
+    let a = c.args in
+    let pre = c.requires in
+    grown-name a.work.now _ a.top _ a.origin a.own pre.1 c.put.ensures
 
 pub put_name_spec : {M : Type 1} → statement M
 put_name_spec = tie.close (tie.spec put-requires same_length returns)

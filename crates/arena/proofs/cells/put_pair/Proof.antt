@@ -12,11 +12,9 @@ same_length c = search rules
 
 returns : tie.Need-returns
 returns c =
-    let entry = c.before.before.before.before.before in
-    let a = entry.args in
-    let pre = entry.requires in
-    let put = c.before.before.put in
-    grown-pair a.work.now _ a.top _ a.head a.tail pre.1 pre.2 put.ensures
+    let a = c.args in
+    let pre = c.requires in
+    grown-pair a.work.now _ a.top _ a.head a.tail pre.1 pre.2 c.put.ensures
 
 pub put_pair_spec : {M : Type 1} → statement M
 put_pair_spec = tie.close (tie.spec put-requires same_length returns)

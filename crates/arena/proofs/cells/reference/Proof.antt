@@ -10,15 +10,13 @@ word-requires c κs = search rules
 returns : tie.Need-returns-then-r-at
 unfolding reference_at falling
 returns c =
-    let word = c.before.word-r in
-    rw (← word.ensures, lt-ltb _ _ c.if-r-at.true)
+    rw (← c.word-r.ensures, lt-ltb _ _ c.if-r-at.true)
 
 returns-2 : tie.Need-returns
 unfolding reference_at falling
 returns-2 c =
-    let args = c.before.before.before.args in
-    let word = c.before.word-r in
-    let h : args.at ≤ word.result = omega arith in rw (← word.ensures, le-ltb _ _ h)
+    let args = c.args in
+    let h : args.at ≤ c.word-r.result = omega arith in rw (← c.word-r.ensures, le-ltb _ _ h)
 
 pub reference_spec : {M : Type 1} → statement M
 reference_spec = tie.close (tie.spec word-requires returns returns-2)

@@ -6,13 +6,13 @@ is-last-requires : tie.Need-is_last-requires
 is-last-requires c κs = search rules
 
 last-word-requires : tie.Need-last_word-requires
-last-word-requires c κs = sym c.before.is_last.ensures ∙ c.if-is_last.true
+last-word-requires c κs = sym c.is_last.ensures ∙ c.if-is_last.true
 
 returns : tie.Need-returns-then-is_last
 returns c = search rules
 
 further-word-requires : tie.Need-further_word-requires
-further-word-requires c κs = sym c.before.is_last.ensures ∙ c.if-is_last.false
+further-word-requires c κs = sym c.is_last.ensures ∙ c.if-is_last.false
 
 returns-2 : tie.Need-returns
 returns-2 c = search rules

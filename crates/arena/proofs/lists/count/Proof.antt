@@ -16,32 +16,23 @@ decreases-loop work list node₀ k₀ node k =
 
 loop-holds : tie.Need-loop-node-init invariant-loop decreases-loop
 loop-holds c =
-    count-begins c.before.args.work.now c.before.args.list
+    count-begins c.args.work.now c.args.list
 
 add-k : tie.Need-overflow_add-k invariant-loop decreases-loop
 add-k c =
-    let at-if1 = c.before in
-    let at-word = at-if1.before in
-    let at-loop = at-word.before in
-    let a = at-loop.before.before.args in omega (arith, at-loop.loop-node.invariant.low, reference_at-falls a.work.now at-loop.loop-node.node 1 (kind-some a.work.now at-loop.loop-node.node _ at-word.word.ensures at-if1.loop-node-test.true))
+    let a = c.args in omega (arith, c.loop-node.invariant.low, reference_at-falls a.work.now c.loop-node.node 1 (kind-some a.work.now c.loop-node.node _ c.word.ensures c.loop-node-test.true))
 
 loop-less : tie.Need-loop-node-smaller invariant-loop decreases-loop
 loop-less c =
-    let at-if1 = c.before in
-    let at-word = at-if1.before in
-    let at-loop = at-word.before in
-    let a = at-loop.before.before.args in omega (arith, c.reference-node.ensures, reference_at-falls a.work.now at-loop.loop-node.node 1 (kind-some a.work.now at-loop.loop-node.node _ at-word.word.ensures at-if1.loop-node-test.true))
+    let a = c.args in omega (arith, c.reference-node.ensures, reference_at-falls a.work.now c.loop-node.node 1 (kind-some a.work.now c.loop-node.node _ c.word.ensures c.loop-node-test.true))
 
 loop-again : tie.Need-loop-node-preserved invariant-loop decreases-loop
 loop-again c =
-    let at-if1 = c.before in
-    let at-word = at-if1.before in
-    let at-loop = at-word.before in
-    let a = at-loop.before.before.args in count-more a.work.now at-loop.loop-node.node _ at-word.word.ensures a.list at-loop.loop-node.k _ at-if1.loop-node-test.true c.reference-node.ensures at-loop.loop-node.invariant
+    let a = c.args in count-more a.work.now c.loop-node.node _ c.word.ensures a.list c.loop-node.k _ c.loop-node-test.true c.reference-node.ensures c.loop-node.invariant
 
 returns : tie.Need-returns invariant-loop decreases-loop
 returns c =
-    let a = c.before.before.before.before.args in count_none a.work.now c.before.before.loop-node.node _ c.before.word.ensures a.list c.before.before.loop-node.k c.loop-node-test.false c.before.before.loop-node.invariant
+    let a = c.args in count_none a.work.now c.loop-node.node _ c.word.ensures a.list c.loop-node.k c.loop-node-test.false c.loop-node.invariant
 
 pub count_spec : {M : Type 1} → statement M
 count_spec =

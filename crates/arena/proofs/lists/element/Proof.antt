@@ -6,7 +6,7 @@ use Rattle.std.proofs.Common.{rules}
 
 returns : tie.Need-returns
 returns c =
-    let a = c.before.before.before.args in skip_first a.work.now a.list a.i _ _ c.before.skip-node.ensures c.first.ensures
+    let a = c.args in skip_first a.work.now a.list a.i _ _ c.skip-node.ensures c.first.ensures
 
 pub element_spec : {M : Type 1} → statement M
 element_spec =

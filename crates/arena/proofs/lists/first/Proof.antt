@@ -10,7 +10,7 @@ word-requires c κs =
 
 returns : tie.Need-returns-then-word-ne-PAIR
 returns c =
-    let a = c.before.before.before.args in first-none a.work.now a.node _ c.before.word.ensures c.if-word-ne-PAIR.true
+    let a = c.args in first-none a.work.now a.node _ c.word.ensures c.if-word-ne-PAIR.true
 
 reference-requires : tie.Need-reference-requires
 reference-requires c κs =
@@ -18,7 +18,7 @@ reference-requires c κs =
 
 returns-2 : tie.Need-returns
 returns-2 c =
-    let a = c.before.before.before.before.args in first_some a.work.now a.node _ c.before.before.word.ensures c.before.if-word-ne-PAIR.false _ c.reference.ensures
+    let a = c.args in first_some a.work.now a.node _ c.word.ensures c.if-word-ne-PAIR.false _ c.reference.ensures
 
 pub first_spec : {M : Type 1} → statement M
 first_spec = tie.close (tie.spec word-requires returns reference-requires returns-2)

@@ -9,15 +9,13 @@ word-requires c κs = search rules
 
 returns : tie.Need-returns-then-kind-eq-EMPTY
 returns c =
-    let a = c.before.before.before.args in
-    let word = c.before.word-kind in
-    list-empty a.work.now a.node _ word.ensures c.if-kind-eq-EMPTY.true
+    let a = c.args in
+    list-empty a.work.now a.node _ c.word-kind.ensures c.if-kind-eq-EMPTY.true
 
 returns-2 : tie.Need-returns
 returns-2 c =
-    let a = c.before.before.before.args in
-    let word = c.before.word-kind in
-    list-pair a.work.now a.node _ word.ensures c.if-kind-eq-EMPTY.false
+    let a = c.args in
+    list-pair a.work.now a.node _ c.word-kind.ensures c.if-kind-eq-EMPTY.false
 
 pub is_list_spec : {M : Type 1} → statement M
 is_list_spec = tie.close (tie.spec word-requires returns returns-2)

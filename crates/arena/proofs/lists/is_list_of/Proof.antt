@@ -12,13 +12,13 @@ count-requires c κs = search rules
 
 returns : tie.Need-returns-then-is_list
 returns c =
-    let a = c.before.before.before.before.args in
-    list_of a.work.now a.node a.n _ c.before.before.is_list.ensures _ c.before.if-is_list.true c.count.ensures
+    let a = c.args in
+    list_of a.work.now a.node a.n _ c.is_list.ensures _ c.if-is_list.true c.count.ensures
 
 returns-2 : tie.Need-returns
 returns-2 c =
-    let a = c.before.before.before.args in
-    list-not a.work.now a.node a.n _ c.before.is_list.ensures c.if-is_list.false
+    let a = c.args in
+    list-not a.work.now a.node a.n _ c.is_list.ensures c.if-is_list.false
 
 pub is_list_of_spec : {M : Type 1} → statement M
 is_list_of_spec = tie.close (tie.spec is-list-requires count-requires returns returns-2)

@@ -15,15 +15,15 @@ decreases-loop work list n node₀ k₀ node k =
 
 loop-holds : tie.Need-loop-k-init invariant-loop decreases-loop
 loop-holds c =
-    skip-begins c.before.args.work.now c.before.args.list c.before.args.n
+    skip-begins c.args.work.now c.args.list c.args.n
 
 loop-again : tie.Need-loop-k-preserved invariant-loop decreases-loop
 loop-again c =
-    let a = c.before.before.before.before.args in skip-more a.work.now a.list a.n c.before.before.loop-k.node c.before.before.loop-k.k _ c.before.loop-k-test.true c.rest-node.ensures c.before.before.loop-k.invariant
+    let a = c.args in skip-more a.work.now a.list a.n c.loop-k.node c.loop-k.k _ c.loop-k-test.true c.rest-node.ensures c.loop-k.invariant
 
 returns : tie.Need-returns invariant-loop decreases-loop
 returns c =
-    let a = c.before.before.before.args in skip-ends a.work.now a.list a.n c.before.loop-k.node c.before.loop-k.k c.loop-k-test.false c.before.loop-k.invariant
+    let a = c.args in skip-ends a.work.now a.list a.n c.loop-k.node c.loop-k.k c.loop-k-test.false c.loop-k.invariant
 
 pub skip_spec : {M : Type 1} → statement M
 skip_spec =

@@ -9,7 +9,7 @@ word-requires c κs = search rules
 
 returns : tie.Need-returns
 returns c =
-    let a = c.before.before.args in
+    let a = c.args in
     name-test a.work.now a.node _ c.word.ensures
 
 pub is_name_spec : {M : Type 1} → statement M

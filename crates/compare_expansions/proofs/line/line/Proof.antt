@@ -13,14 +13,12 @@ use Rattle.compare_expansions.specs.Line.{line_of, recipe-laid, refusal-room, pr
 returns : tie.Need-shape_of-out-in-Text
 unfolding line_of
 returns c =
-    let at-refused = c.before.before in
-    let at-answer = at-refused.before.before.before.before in
-    line-printed _ _ _ _ _ (recipe-laid _ ∙ ap line_of (sym at-answer.answer-1.given.1)) (refusal-room _ _ (search rules) (omega arith)) at-answer.before.before.before.requires at-refused.refused.ensures
+    line-printed _ _ _ _ _ (recipe-laid _ ∙ ap line_of (sym c.in-Recipe.is)) (refusal-room _ _ (search rules) (omega arith)) c.requires c.refused.ensures
 
 returns-2 : tie.Need-returns-2
 unfolding line_of
 returns-2 c =
-    printed-is _ _ _ _ _ (ap line_of (sym c.before.before.before.before.before.answer-in-Text-1.given.1)) c.before.before.verdict.ensures
+    printed-is _ _ _ _ _ (ap line_of (sym c.before.before.before.before.before.answer2.given.1)) c.before.before.verdict.ensures
 
 pub line_spec : {M : Type 1} → statement M
 line_spec =

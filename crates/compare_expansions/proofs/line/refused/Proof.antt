@@ -15,22 +15,19 @@ use Rattle.writer.specs.LaidLaws.{left_is, place-full, place-room, place-then}
 
 returns : tie.Need-wide-requires
 returns c =
-    place-full c.before.before.before.copy-a.ensures _ c.if-a.true
+    place-full c.copy-a.ensures _ c.if-a.true
 
 numbered-requires : tie.Need-shape_of-out-then-b
 numbered-requires c κs =
-    place-room c.before.before.before.before.before.copy-a.ensures c.before.before.if-a.false
+    place-room c.copy-a.ensures c.if-a.false
 
 returns-2 : tie.Need-copy-requires
 returns-2 c =
-    let at-numbered = c.before.before.before in
-    let at_wide = at-numbered.before.before in
-    let at-if1 = at_wide.before in
-    place-then at-if1.before.before.before.copy-a.ensures at-if1.if-a.false (place-full (left_is (ap (λ (n : ℕ). 32 ∷ numeral n) at_wide.wide.ensures) at-numbered.numbered-b.ensures) _ c.if-b.true)
+    place-then c.copy-a.ensures c.if-a.false (place-full (left_is (ap (λ (n : ℕ). 32 ∷ numeral n) c.wide.ensures) c.numbered-b.ensures) _ c.if-b.true)
 
 copy-requires-2 : tie.Need-shape_of-out
 copy-requires-2 c κs =
-    place-room c.before.before.before.before.numbered-b.ensures c.before.if-b.false
+    place-room c.numbered-b.ensures c.if-b.false
 
 returns-3 : tie.Need-returns-3
 returns-3 c =
@@ -39,7 +36,7 @@ returns-3 c =
     let at-numbered = at-if2.before.before.before in
     let at_wide = at-numbered.before.before in
     let at-if1 = at_wide.before in
-    place-then at-if1.before.before.before.copy-a.ensures at-if1.if-a.false (place-then (left_is (ap (λ (n : ℕ). 32 ∷ numeral n) at_wide.wide.ensures) at-numbered.numbered-b.ensures) at-if2.if-b.false at-copy2.copy.ensures)
+    place-then at-if1.before.before.before.copy.ensures at-if1.if1.false (place-then (left_is (ap (λ (n : ℕ). 32 ∷ numeral n) at_wide.wide.ensures) at-numbered.numbered.ensures) at-if2.if2.false at-copy2.copy2.ensures)
 
 pub refused_spec : {M : Type 1} → statement M
 refused_spec =

@@ -15,23 +15,21 @@ use Rattle.compare_expansions.specs.Line.{yes-laid, no-laid, text-laid, refusal-
 returns : tie.Need-shape_of-out-in-Refused
 unfolding verdict_of
 returns c =
-    let at_copy = c.before.before in
-    let at-enum-told = at_copy.before.before.before in
-    line-printed _ _ _ _ _ (yes-laid ∙ ap (λ x. verdict_line (verdict_of x)) (sym at-enum-told.enum_told-1.given.1)) (omega arith) at-enum-told.before.before.before.requires at_copy.copy.ensures
+    line-printed _ _ _ _ _ (yes-laid ∙ ap (λ x. verdict_line (verdict_of x)) (sym c.in-Yes.is)) (omega arith) c.requires c.copy.ensures
 
 returns-2 : tie.Need-returns-2
 unfolding verdict_of
 returns-2 c =
     let at-copy2 = c.before.before in
     let at-enum-told2 = at-copy2.before.before.before in
-    line-printed _ _ _ _ _ (no-laid ∙ ap (λ x. verdict_line (verdict_of x)) (sym at-enum-told2.enum_told-in-No-1.given.1)) (omega arith) at-enum-told2.before.before.before.requires at-copy2.copy-in-No.ensures
+    line-printed _ _ _ _ _ (no-laid ∙ ap (λ x. verdict_line (verdict_of x)) (sym at-enum-told2.enum-told2.given.1)) (omega arith) at-enum-told2.before.before.before.requires at-copy2.copy2.ensures
 
 returns-3 : tie.Need-returns-3
 unfolding verdict_of
 returns-3 c =
     let at-refused = c.before.before in
     let at-answer = at-refused.before.before.before.before in
-    line-printed _ _ _ _ _ (text-laid _ ∙ ap (λ x. verdict_line (verdict_of x)) (sym at-answer.answer-1.given.1)) (refusal-room _ _ (search rules) (omega arith)) at-answer.before.before.before.requires at-refused.refused.ensures
+    line-printed _ _ _ _ _ (text-laid _ ∙ ap (λ x. verdict_line (verdict_of x)) (sym at-answer.answer.given.1)) (refusal-room _ _ (search rules) (omega arith)) at-answer.before.before.before.requires at-refused.refused.ensures
 
 pub verdict_spec : {M : Type 1} → statement M
 verdict_spec =

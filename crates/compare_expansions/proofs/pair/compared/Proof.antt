@@ -16,42 +16,39 @@ use Rattle.compare_expansions.specs.PairLaws.{compared-read, compared-refused}
 
 mul_words : tie.Need-overflow_mul-words
 mul_words c =
-    let h : 3 * c.before.i-1.given.0.0 ≤ length c.before.before.before.before.before.before.before.read.new.1.0 =
-    (items-front _ _ _ _ _ _ c.before.before.before.before.before.before.before.read.ensures _ _ c.before.i-1.given.1).0 in
+    let h : 3 * c.in-Read.i ≤ length c.read.new.items =
+    (items-front _ _ _ _ _ _ c.read.ensures _ _ c.in-Read.is).0 in
     record { fits = omega arith }
 
 mul-bytes : tie.Need-overflow_mul-bytes
 mul-bytes c =
-    let h : 64 * c.before.i-1.given.0.1.0 ≤ length c.before.before.before.before.before.before.before.read.new.1.1.0 =
-    (names-front _ _ _ _ _ _ c.before.before.before.before.before.before.before.read.ensures _ _ c.before.i-1.given.1).0 in
+    let h : 64 * c.in-Read.n ≤ length c.read.new.names =
+    (names-front _ _ _ _ _ _ c.read.ensures _ _ c.in-Read.is).0 in
     record { fits = omega arith }
 
 slice-reshare-prefix-held : tie.Need-slice_bounds-held-end
 slice-reshare-prefix-held c =
-    (items-front _ _ _ _ _ _ c.before.before.before.before.before.before.before.read.ensures _ _ c.before.i-1.given.1).0
+    (items-front _ _ _ _ _ _ c.read.ensures _ _ c.in-Read.is).0
 
 slice-aggregate-held : tie.Need-slice_bounds-held-end-in-Read
 slice-aggregate-held c =
-    sym (length-take-le _ _ (items-front _ _ _ _ _ _ c.before.before.before.before.before.before.before.before.read.ensures _ _ c.before.before.i-1.given.1).0)
+    sym (length-take-le _ _ (items-front _ _ _ _ _ _ c.read.ensures _ _ c.in-Read.is).0)
 
 slice-reshare-prefix-held-2 : tie.Need-slice_bounds-held-end-in-Read-2
 slice-reshare-prefix-held-2 c =
-    (names-front _ _ _ _ _ _ c.before.before.before.before.before.before.before.before.read.ensures _ _ c.before.before.i-1.given.1).0
+    (names-front _ _ _ _ _ _ c.read.ensures _ _ c.in-Read.is).0
 
 slice-aggregate-held-2 : tie.Need-slice_bounds-held-end-in-Read-3
 slice-aggregate-held-2 c =
-    let at_i = c.before.before.before in
-    sym (length-take-le _ _ (names-front _ _ _ _ _ _ at_i.before.before.before.before.before.before.read.ensures _ _ at_i.i-1.given.1).0)
+    sym (length-take-le _ _ (names-front _ _ _ _ _ _ c.read.ensures _ _ c.in-Read.is).0)
 
 returns : tie.Need-returns-in-Read
 returns c =
-    let at_held = c.before.before.before.before.before.before.before.before in
-    let at_i = at_held.before.before.before.before.before.before.before.before in
-    compared-read _ _ _ _ _ _ at_i.before.before.before.before.before.before.read.ensures _ _ _ _ _ _ at_i.i-1.given.1 _ at_held.held.ensures
+    compared-read _ _ _ _ _ _ c.read.ensures _ _ _ _ _ _ c.in-Read.is _ c.held.ensures
 
 returns-2 : tie.Need-returns-in-Refused
 returns-2 c =
-    compared-refused _ _ _ _ _ _ c.before.before.before.before.before.before.before.read.ensures _ _ _ _ _ c.before.ground-1.given.1
+    compared-refused _ _ _ _ _ _ c.read.ensures _ _ _ _ _ c.in-Refused.is
 
 pub compared_spec : {M : Type 1} → statement M
 compared_spec =

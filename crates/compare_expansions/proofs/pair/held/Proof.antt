@@ -14,24 +14,19 @@ use Rattle.compare_expansions.specs.PairLaws.{held-accepted, held-refused}
 
 slice-reshare-prefix-compare : tie.Need-slice_bounds-compare-end
 slice-reshare-prefix-compare c =
-    (term-front _ _ _ _ _ _ _ c.before.before.before.before.before.before.before.before.expand.ensures _ _ _ c.before.before.l-1.given.1 _ c.wide-end.ensures).0
+    (term-front _ _ _ _ _ _ _ c.expand.ensures _ _ _ c.in-Accepted.is _ c.wide-end.ensures).0
 
 slice-aggregate-compare : tie.Need-slice_bounds-compare-end-in-Accepted
 slice-aggregate-compare c =
-    let at_wide = c.before in
-    let at-l = at_wide.before.before in
-    sym (length-take-le _ _ (term-front _ _ _ _ _ _ _ at-l.before.before.before.before.before.before.expand.ensures _ _ _ at-l.l-1.given.1 _ at_wide.wide-end.ensures).0)
+    sym (length-take-le _ _ (term-front _ _ _ _ _ _ _ c.expand.ensures _ _ _ c.in-Accepted.is _ c.wide-end.ensures).0)
 
 returns : tie.Need-returns-in-Accepted
 returns c =
-    let at-compare = c.before.before.before.before in
-    let at_wide = at-compare.before.before.before.before in
-    let at-l = at_wide.before.before in
-    held-accepted _ _ _ _ _ _ _ at-l.before.before.before.before.before.before.expand.ensures _ _ _ at-l.l-1.given.1 _ at_wide.wide-end.ensures _ _ _ _ _ at-compare.compare-about.ensures.verdict
+    held-accepted _ _ _ _ _ _ _ c.expand.ensures _ _ _ c.in-Accepted.is _ c.wide-end.ensures _ _ _ _ _ c.compare-about.ensures.verdict
 
 returns-2 : tie.Need-returns-in-Refused
 returns-2 c =
-    held-refused _ _ _ _ _ _ _ c.before.before.before.before.before.before.before.expand.ensures _ _ _ c.before.g-1.given.1 _ _
+    held-refused _ _ _ _ _ _ _ c.expand.ensures _ _ _ c.in-Refused.is _ _
 
 pub held_spec : {M : Type 1} → statement M
 held_spec =

@@ -13,11 +13,11 @@ returns c =
 
 returns-2 : tie.Need-returns-then-k-base
 returns-2 c =
-    rw (lt-ltb _ _ c.before.if-k-bound.false, noted-below _ _ _ c.if-k-base.true)
+    rw (lt-ltb _ _ c.if-k-bound.false, noted-below _ _ _ c.if-k-base.true)
 
 returns-3 : tie.Need-returns-then-i-flags
 returns-3 c =
-    rw (lt-ltb _ _ c.before.before.if-k-bound.false, noted-past _ _ _ c.before.if-k-base.false c.if-i-flags.true)
+    rw (lt-ltb _ _ c.if-k-bound.false, noted-past _ _ _ c.if-k-base.false c.if-i-flags.true)
 
 shared-slice-read-result : tie.Need-bounds-flags-i
 shared-slice-read-result c =
@@ -25,7 +25,7 @@ shared-slice-read-result c =
 
 returns-4 : tie.Need-returns
 returns-4 c =
-    rw (lt-ltb _ _ c.before.before.before.if-k-bound.false, noted-flag _ _ c.before.before.before.before.args.flags.now c.before.before.if-k-base.false c.before.if-i-flags.false)
+    rw (lt-ltb _ _ c.if-k-bound.false, noted-flag _ _ c.args.flags.now c.if-k-base.false c.if-i-flags.false)
 
 pub in_scope_spec : {M : Type 1} → statement M
 in_scope_spec = tie.close (tie.spec returns returns-2 returns-3 shared-slice-read-result returns-4)

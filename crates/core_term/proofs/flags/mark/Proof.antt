@@ -24,21 +24,19 @@ decreases-loop flags₀ base from to value k₀ flags k =
 loop-holds : tie.Need-loop-k-init invariant-loop decreases-loop
 unfolding marked
 loop-holds c =
-    let e : c.before.args.from - c.before.args.from ≡ 0 = omega arith in (refl, omega arith, omega arith, rw e)
+    let e : c.args.from - c.args.from ≡ 0 = omega arith in (refl, omega arith, omega arith, rw e)
 
 loop-again : tie.Need-loop-k-preserved invariant-loop decreases-loop
 loop-again c =
-    let at_set = c.before.before in
-    let at-loop = at_set.before.before.before in
-    let a = at-loop.before.before.args in let l = at-loop.loop-k in let e = at_set.set.ensures ∙ ap (λ (s : List ℕ). put a.base l.k a.value s) l.invariant.3 ∙ marked_more a.base a.from l.k a.value a.flags.now l.invariant.1 in (at_set.set.auto.0 ∙ l.invariant.0, omega arith, omega arith, e)
+    let a = c.args in let e = c.set.ensures ∙ ap (λ (s : List ℕ). put a.base c.loop-k.k a.value s) c.loop-k.invariant.3 ∙ marked_more a.base a.from c.loop-k.k a.value a.flags.now c.loop-k.invariant.1 in (c.set.auto.flags ∙ c.loop-k.invariant.0, omega arith, omega arith, e)
 
 same_length : tie.Need-shape_of-flags invariant-loop decreases-loop
 same_length c =
-    c.before.loop-k.invariant.0
+    c.loop-k.invariant.0
 
 returns : tie.Need-returns invariant-loop decreases-loop
 returns c =
-    let a = c.before.before.before.args in let l = c.before.loop-k in let e : l.k - a.from ≡ a.to - a.from = omega arith in l.invariant.3 ∙ ap (λ (n : ℕ). marked a.base a.from n a.value a.flags.now) e
+    let a = c.args in let e : c.loop-k.k - a.from ≡ a.to - a.from = omega arith in c.loop-k.invariant.3 ∙ ap (λ (n : ℕ). marked a.base a.from n a.value a.flags.now) e
 
 pub mark_spec : {M : Type 1} → statement M
 mark_spec =

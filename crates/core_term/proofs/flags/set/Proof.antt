@@ -13,7 +13,7 @@ returns c =
 
 returns-2 : tie.Need-returns-then-i-flags
 returns-2 c =
-    sym (put-past _ _ _ _ c.before.if-k-base.false c.if-i-flags.true)
+    sym (put-past _ _ _ _ c.if-k-base.false c.if-i-flags.true)
 
 slice-write-flags : tie.Need-bounds-flags-i
 slice-write-flags c =
@@ -25,7 +25,7 @@ same_length c =
 
 returns-3 : tie.Need-returns
 returns-3 c =
-    sym (put_in _ _ _ _ c.before.if-k-base.false)
+    sym (put_in _ _ _ _ c.if-k-base.false)
 
 pub set_spec : {M : Type 1} → statement M
 set_spec = tie.close (tie.spec returns returns-2 slice-write-flags same_length returns-3)

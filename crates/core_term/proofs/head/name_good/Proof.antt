@@ -15,27 +15,19 @@ returns c =
 
 returns-2 : tie.Need-returns-then-not-tabled
 returns-2 c =
-    sym (good-free _ _ _ c.before.if-n-ge-NAMES.false (not-true c.before.before.before.args.tabled c.if-not-tabled.true))
+    sym (good-free _ _ _ c.if-n-ge-NAMES.false (not-true c.args.tabled c.if-not-tabled.true-raw))
 
 returns-3 : tie.Need-returns-then-names-start
 returns-3 c =
-    sym (good-short _ _ _ c.before.before.if-n-ge-NAMES.false (not-false c.before.before.before.before.args.tabled c.before.if-not-tabled.false) c.if-names-start.true)
+    sym (good-short _ _ _ c.if-n-ge-NAMES.false (not-false c.args.tabled c.if-not-tabled.false-raw) c.if-names-start.true)
 
 returns-4 : tie.Need-returns-then-length-ge1
 returns-4 c =
-    let at_size = c.before in
-    let at-if3 = at_size.before.before in
-    let at-if2 = at-if3.before in
-    let at-if1 = at-if2.before in
-    sym (good-some _ _ _ _ at_size.size-length.ensures at-if1.if-n-ge-NAMES.false (not-false at-if1.before.before.args.tabled at-if2.if-not-tabled.false) at-if3.if-names-start.false c.if-length-ge1.true)
+    sym (good-some _ _ _ _ c.size-length.ensures c.if-n-ge-NAMES.false (not-false c.args.tabled c.if-not-tabled.false-raw) c.if-names-start.false c.if-length-ge1.true)
 
 returns-5 : tie.Need-returns-else-length-ge1
 returns-5 c =
-    let at_size = c.before in
-    let at-if3 = at_size.before.before in
-    let at-if2 = at-if3.before in
-    let at-if1 = at-if2.before in
-    sym (good-empty _ _ _ _ at_size.size-length.ensures at-if1.if-n-ge-NAMES.false (not-false at-if1.before.before.args.tabled at-if2.if-not-tabled.false) at-if3.if-names-start.false c.if-length-ge1.false)
+    sym (good-empty _ _ _ _ c.size-length.ensures c.if-n-ge-NAMES.false (not-false c.args.tabled c.if-not-tabled.false-raw) c.if-names-start.false c.if-length-ge1.false)
 
 pub name_good_spec : {M : Type 1} → statement M
 name_good_spec =

@@ -29,23 +29,15 @@ loop-holds c =
 
 returns : tie.Need-returns-then-not-name_good invariant-loop decreases-loop
 returns c =
-    let at-name-good = c.before in
-    let at_wide = at-name-good.before in
-    let at-loop-test = at_wide.before.before in
-    let at-loop = at-loop-test.before in
-    names-bad _ at-loop.before.before.before.args.formals.now _ at-loop.loop-i.invariant.1 at-loop-test.loop-i-test.true (sym (ap (good_name _ _) at_wide.wide.ensures) ∙ sym at-name-good.name_good.ensures ∙ not-true _ c.if-not-name_good.true)
+    names-bad _ c.args.formals.now _ c.loop-i.invariant.1 c.loop-i-test.true (sym (ap (good_name _ _) c.wide.ensures) ∙ sym c.name_good.ensures ∙ not-true _ c.if-not-name_good.true-raw)
 
 loop-again : tie.Need-loop-i-preserved invariant-loop decreases-loop
 loop-again c =
-    let at-name-good = c.before in
-    let at_wide = at-name-good.before in
-    let at-loop-test = at_wide.before.before in
-    let at-loop = at-loop-test.before in
-    (omega (arith, at-loop-test.loop-i-test.true), names-next _ at-loop.before.before.before.args.formals.now _ at-loop.loop-i.invariant.1 at-loop-test.loop-i-test.true (sym (ap (good_name _ _) at_wide.wide.ensures) ∙ sym at-name-good.name_good.ensures ∙ not-false _ c.if-not-name_good.false))
+    (omega (arith, c.loop-i-test.true), names-next _ c.args.formals.now _ c.loop-i.invariant.1 c.loop-i-test.true (sym (ap (good_name _ _) c.wide.ensures) ∙ sym c.name_good.ensures ∙ not-false _ c.if-not-name_good.false-raw))
 
 returns-2 : tie.Need-returns invariant-loop decreases-loop
 returns-2 c =
-    names-end _ c.before.before.before.before.args.formals.now c.before.loop-i.i c.before.loop-i.invariant.1 (omega (arith, c.before.loop-i.invariant.0, c.loop-i-test.false))
+    names-end _ c.args.formals.now c.loop-i.i c.loop-i.invariant.1 (omega (arith, c.loop-i.invariant.0, c.loop-i-test.false))
 
 pub names_good_spec : {M : Type 1} → statement M
 names_good_spec =

@@ -20,93 +20,75 @@ use Rattle.core_term.specs.Code.HeadLaws.{head-quoted, head-none, head-constant,
 returns : tie.Need-returns-then-quoted
 unfolding node_in is_datum_node
 returns c =
-    let at-node = c.before.before in
-    let args' = at-node.before.before.before.before.before.args in
-    head-quoted _ _ _ _ _ _ args'.words.now args'.node _ _ (ap (node_in args'.words.now) at-node.node-1.given.1) refl c.if-quoted.true
+    let args' = c.args in
+    head-quoted _ _ _ _ _ _ args'.words.now args'.node _ _ (ap (node_in args'.words.now) c.in-Variable.is) refl c.if-quoted.true
 
 returns-2 : tie.Need-returns-then-quoted-2
 unfolding node_in is_datum_node
 returns-2 c =
-    let at-node2 = c.before.before in
-    let args' = at-node2.before.before.before.before.before.args in
-    head-quoted _ _ _ _ _ _ args'.words.now args'.node _ _ (ap (node_in args'.words.now) at-node2.node-in-Operation-1.given.1) refl c.if-quoted-2.true
+    let args' = c.args in
+    head-quoted _ _ _ _ _ _ args'.words.now args'.node _ _ (ap (node_in args'.words.now) c.in-Operation.is) refl c.if-quoted-2.true
 
 returns-3 : tie.Need-returns-then-quoted-3
 unfolding node_in is_datum_node
 returns-3 c =
-    let at-node4 = c.before.before in
-    let args' = at-node4.before.before.before.before.before.args in
-    head-quoted _ _ _ _ _ _ args'.words.now args'.node _ _ (ap (node_in args'.words.now) at-node4.node-in-Lambda-1.given.1) refl c.if-quoted-3.true
+    let args' = c.args in
+    head-quoted _ _ _ _ _ _ args'.words.now args'.node _ _ (ap (node_in args'.words.now) c.in-Lambda.is) refl c.if-quoted-3.true
 
 returns-4 : tie.Need-returns-then-wide-bound
 returns-4 c =
-    let at-wide3 = c.before in
-    let at-if3 = at-wide3.before in
-    let at-node4 = at-if3.before.before in
-    lambda-other _ _ _ _ _ _ _ _ at-node4.before.before.before.before.before.requires _ _ at-node4.node-in-Lambda-1.given.1 at-if3.if-quoted-3.false (λ e. c.if-wide-bound.true (at-wide3.wide-in-Lambda.ensures ∙ e))
+    lambda-other _ _ _ _ _ _ _ _ c.requires _ _ c.in-Lambda.is c.if-quoted-3.false (λ e. c.if-wide-bound.true (c.wide-in-Lambda.ensures ∙ e))
 
 part-names-good-end : tie.Need-slice_bounds-names_good-end
 part-names-good-end c =
-    let at-node4 = c.before.before.before.before.before in
-    let at-args = at-node4.before.before.before.before.before in
-    omega (arith, c.wide-end.ensures, lambda-room 0 0 (λ n. true) [] 0 true at-args.args.words.now at-args.args.node at-args.requires _ _ at-node4.node-in-Lambda-1.given.1)
+    omega (arith, c.wide-end.ensures, lambda-room 0 0 (λ n. true) [] 0 true c.args.words.now c.args.node c.requires _ _ c.in-Lambda.is)
 
 returns-5 : tie.Need-returns-else-quoted
 returns-5 c =
-    rw (c.before.before.before.before.before.node-1.given.1, c.stand.ensures, c.before.in_scope.ensures, c.before.before.wide.ensures) (head-variable _ _ _ _ _ _ _ _ c.before.before.before.if-quoted.false)
+    rw (c.in-Variable.is, c.stand.ensures, c.in_scope.ensures, c.wide.ensures) (head-variable _ _ _ _ _ _ _ _ c.if-quoted.false)
 
 returns-6 : tie.Need-returns-else-quoted-2
 returns-6 c =
-    rw (c.before.before.before.before.node-in-Operation-1.given.1, c.stand-in-Operation.ensures) (head-operation _ _ _ _ _ _ _ _ c.before.before.if-quoted-2.false)
+    rw (c.in-Operation.is, c.stand-in-Operation.ensures) (head-operation _ _ _ _ _ _ _ _ c.if-quoted-2.false)
 
 returns-7 : tie.Need-returns-in-Integer
 unfolding node_in
 returns-7 c =
-    let at-args = c.before.before.before.before.before in
-    head-constant _ _ _ _ _ _ at-args.args.words.now at-args.args.node at-args.requires _ _ (ap (node_in at-args.args.words.now) c.enum_told-1.given.1)
+    head-constant _ _ _ _ _ _ c.args.words.now c.args.node c.requires _ _ (ap (node_in c.args.words.now) c.in-Integer.is)
 
 returns-8 : tie.Need-returns-in-Boolean
 unfolding node_in
 returns-8 c =
-    let at-args = c.before.before.before.before.before in
-    head-constant _ _ _ _ _ _ at-args.args.words.now at-args.args.node at-args.requires _ _ (ap (node_in at-args.args.words.now) c.enum_told-in-Boolean-1.given.1)
+    head-constant _ _ _ _ _ _ c.args.words.now c.args.node c.requires _ _ (ap (node_in c.args.words.now) c.in-Boolean.is)
 
 returns-9 : tie.Need-returns-in-Decimal
 unfolding node_in
 returns-9 c =
-    let at-args = c.before.before.before.before.before in
-    head-constant _ _ _ _ _ _ at-args.args.words.now at-args.args.node at-args.requires _ _ (ap (node_in at-args.args.words.now) c.enum_told-in-Decimal-1.given.1)
+    head-constant _ _ _ _ _ _ c.args.words.now c.args.node c.requires _ _ (ap (node_in c.args.words.now) c.in-Decimal.is)
 
 returns-10 : tie.Need-returns-in-Name
 returns-10 c =
-    rw (c.before.before.before.before.node-in-Name-1.given.1, c.stand-in-Name.ensures, c.before.name_good.ensures, c.before.before.wide-in-Name.ensures) (head-name _ _ _ _ _ _ _ _)
+    rw (c.in-Name.is, c.stand-in-Name.ensures, c.name_good.ensures, c.wide-in-Name.ensures) (head-name _ _ _ _ _ _ _ _)
 
 returns-11 : tie.Need-returns-in-List
 returns-11 c =
-    rw c.enum_told-in-List-1.given.1 (head-list _ _ _ _ _ _ _ _)
+    rw c.in-List.is (head-list _ _ _ _ _ _ _ _)
 
 returns-12 : tie.Need-returns-in-If
 returns-12 c =
-    rw (c.before.enum_told-in-If-1.given.1, c.stand-in-If.ensures) (head-if _ _ _ _ _ _ _)
+    rw (c.in-If.is, c.stand-in-If.ensures) (head-if _ _ _ _ _ _ _)
 
 returns-13 : tie.Need-returns-else-wide-bound
 returns-13 c =
-    let at-wide5 = c.before in
-    let at-names-good = at-wide5.before in
-    let at-wide4 = at-names-good.before.before in
-    let at-if4 = at-wide4.before in
-    let at-wide3 = at-if4.before in
-    let at-if3 = at-wide3.before in
-    let at-node4 = at-if3.before.before in
-    rw (c.stand-in-Lambda.ensures, at-names-good.names_good.ensures) (head-lambda _ _ _ _ _ _ _ _ at-node4.before.before.before.before.before.requires _ _ at-node4.node-in-Lambda-1.given.1 _ _ at-wide4.wide-end.ensures at-wide5.wide-in-Lambda-2.ensures at-if3.if-quoted-3.false (sym at-wide3.wide-in-Lambda.ensures ∙ at-if4.if-wide-bound.false))
+    rw (c.stand-in-Lambda.ensures, c.names_good.ensures) (head-lambda _ _ _ _ _ _ _ _ c.requires _ _ c.in-Lambda.is _ _ c.wide-end.ensures c.wide-in-Lambda-2.ensures c.if-quoted-3.false (sym c.wide-in-Lambda.ensures ∙ c.if-wide-bound.false))
 
 returns-14 : tie.Need-returns-in-Application
 returns-14 c =
-    rw (c.before.enum_told-in-Application-1.given.1, c.stand-in-Application.ensures) (head-application _ _ _ _ _ _ _ _)
+    rw (c.in-Application.is, c.stand-in-Application.ensures) (head-application _ _ _ _ _ _ _ _)
 
 returns-15 : tie.Need-returns-in-None
 returns-15 c =
-    rw c.enum_told-in-None-1.given.1 (head-none _ _ _ _ _ _ _)
+    rw c.in-None.is (head-none _ _ _ _ _ _ _)
 
 pub standing_spec : {M : Type 1} → statement M
 standing_spec =

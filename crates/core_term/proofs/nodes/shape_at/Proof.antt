@@ -5,7 +5,7 @@ use Rattle.core_term.specs.Code.OpenedLaws.{shaped-opened}
 
 returns : tie.Need-returns
 returns c =
-    shaped-opened _ _ c.before.read.ensures _ c.shape_of.ensures
+    shaped-opened _ _ c.read.ensures _ c.shape_of.ensures
 
 pub shape_at_spec : {M : Type 1} → statement M
 shape_at_spec =

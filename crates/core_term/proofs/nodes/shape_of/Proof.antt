@@ -13,57 +13,57 @@ use Rattle.core_term.specs.Code.Opened.{shape_by, shape_in}
 returns : tie.Need-returns-in-Variable
 unfolding shape_in
 returns c =
-    c.shaped.ensures ∙ sym (ap shape_in c.before.enum_told-1.given.1)
+    c.shaped.ensures ∙ sym (ap shape_in c.in-Variable.is)
 
 returns-2 : tie.Need-returns-in-Operation
 unfolding shape_in
 returns-2 c =
-    c.shaped-in-Operation.ensures ∙ sym (ap shape_in c.before.enum_told-in-Operation-1.given.1)
+    c.shaped-in-Operation.ensures ∙ sym (ap shape_in c.in-Operation.is)
 
 returns-3 : tie.Need-returns-in-Integer
 unfolding shape_in
 returns-3 c =
-    c.shaped-in-Integer.ensures ∙ sym (ap shape_in c.before.enum_told-in-Integer-1.given.1)
+    c.shaped-in-Integer.ensures ∙ sym (ap shape_in c.in-Integer.is)
 
 returns-4 : tie.Need-returns-in-Boolean
 unfolding shape_in
 returns-4 c =
-    c.shaped-in-Boolean.ensures ∙ sym (ap shape_in c.before.enum_told-in-Boolean-1.given.1)
+    c.shaped-in-Boolean.ensures ∙ sym (ap shape_in c.in-Boolean.is)
 
 returns-5 : tie.Need-returns-in-Decimal
 unfolding shape_in
 returns-5 c =
-    c.shaped-in-Decimal.ensures ∙ sym (ap shape_in c.before.enum_told-in-Decimal-1.given.1)
+    c.shaped-in-Decimal.ensures ∙ sym (ap shape_in c.in-Decimal.is)
 
 returns-6 : tie.Need-returns-in-Name
 unfolding shape_in
 returns-6 c =
-    c.shaped-in-Name.ensures ∙ sym (ap shape_in c.before.enum_told-in-Name-1.given.1)
+    c.shaped-in-Name.ensures ∙ sym (ap shape_in c.in-Name.is)
 
 returns-7 : tie.Need-returns-in-List
 unfolding shape_in
 returns-7 c =
-    c.shaped-in-List.ensures ∙ ap (λ (n : ℕ). shape_by 2 0 n true) c.before.wide.ensures ∙ sym (ap shape_in c.before.before.before.node-1.given.1)
+    c.shaped-in-List.ensures ∙ ap (λ (n : ℕ). shape_by 2 0 n true) c.wide.ensures ∙ sym (ap shape_in c.in-List.is)
 
 returns-8 : tie.Need-returns-in-If
 unfolding shape_in
 returns-8 c =
-    c.shaped-in-If.ensures ∙ sym (ap shape_in c.before.enum_told-in-If-1.given.1)
+    c.shaped-in-If.ensures ∙ sym (ap shape_in c.in-If.is)
 
 returns-9 : tie.Need-returns-in-Lambda
 unfolding shape_in
 returns-9 c =
-    c.shaped-in-Lambda.ensures ∙ ap₂ (λ (m : ℕ) (n : ℕ). shape_by (3 + m) n 1 false) c.before.before.wide-in-Lambda.ensures c.before.wide-in-Lambda-2.ensures ∙ sym (ap shape_in c.before.before.before.before.node-in-Lambda-1.given.1)
+    c.shaped-in-Lambda.ensures ∙ ap₂ (λ (m : ℕ) (n : ℕ). shape_by (3 + m) n 1 false) c.wide-in-Lambda.ensures c.wide-in-Lambda-2.ensures ∙ sym (ap shape_in c.in-Lambda.is)
 
 returns-10 : tie.Need-returns-in-Application
 unfolding shape_in
 returns-10 c =
-    c.shaped-in-Application.ensures ∙ ap (λ (n : ℕ). shape_by 2 0 (n + 1) false) c.before.wide-in-Application.ensures ∙ sym (ap shape_in c.before.before.before.node-in-Application-1.given.1)
+    c.shaped-in-Application.ensures ∙ ap (λ (n : ℕ). shape_by 2 0 (n + 1) false) c.wide-in-Application.ensures ∙ sym (ap shape_in c.in-Application.is)
 
 returns-11 : tie.Need-returns-in-None
 unfolding shape_in
 returns-11 c =
-    c.shaped-in-None.ensures ∙ sym (ap shape_in c.before.enum_told-in-None-1.given.1)
+    c.shaped-in-None.ensures ∙ sym (ap shape_in c.in-None.is)
 
 pub shape_of_spec : {M : Type 1} → statement M
 shape_of_spec =

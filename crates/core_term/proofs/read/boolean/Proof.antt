@@ -12,11 +12,11 @@ shared-slice-read-a c =
 
 returns : tie.Need-returns-then-a-gt1
 returns c =
-    opened-no-boolean _ c.before.before.requires.0 c.before.before.requires.1 c.if-a-gt1.true
+    opened-no-boolean _ c.requires.0 c.requires.1 c.if-a-gt1.true
 
 returns-2 : tie.Need-returns
 returns-2 c =
-    opened-boolean _ c.before.before.requires.0 c.before.before.requires.1 c.if-a-gt1.false
+    opened-boolean _ c.requires.0 c.requires.1 c.if-a-gt1.false
 
 pub boolean_spec : {M : Type 1} → statement M
 boolean_spec = tie.close (tie.spec shared-slice-read-a returns returns-2)

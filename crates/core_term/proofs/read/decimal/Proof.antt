@@ -10,7 +10,7 @@ use Rattle.core_term.specs.Code.OpenedLaws.{opened-none, opened-decimal, opened-
 
 returns : tie.Need-returns-then-words-lt3
 returns c =
-    opened-none _ (decimal-short _ c.before.requires c.if-words-lt3.true)
+    opened-none _ (decimal-short _ c.requires c.if-words-lt3.true)
 
 shared-slice-read-places : tie.Need-bounds-words-2
 shared-slice-read-places c =
@@ -18,11 +18,11 @@ shared-slice-read-places c =
 
 returns-2 : tie.Need-returns-then-places-lt1
 returns-2 c =
-    opened-no-decimal _ c.before.before.if-words-lt3.false c.before.before.before.requires (outside_below 1 4 _ c.if-places-lt1.true)
+    opened-no-decimal _ c.if-words-lt3.false c.requires (outside_below 1 4 _ c.if-places-lt1.true)
 
 returns-3 : tie.Need-returns-then-places-gt-PLACES
 returns-3 c =
-    opened-no-decimal _ c.before.before.before.if-words-lt3.false c.before.before.before.before.requires (outside_above 1 4 _ c.if-places-gt-PLACES.true)
+    opened-no-decimal _ c.if-words-lt3.false c.requires (outside_above 1 4 _ c.if-places-gt-PLACES.true)
 
 shared-slice-read-t6 : tie.Need-bounds-words-1
 shared-slice-read-t6 c =
@@ -30,10 +30,7 @@ shared-slice-read-t6 c =
 
 returns-4 : tie.Need-returns
 returns-4 c =
-    let at-if3 = c.before in
-    let at-if2 = at-if3.before in
-    let at-if1 = at-if2.before.before in
-    opened-decimal _ at-if1.if-words-lt3.false at-if1.before.requires at-if2.if-places-lt1.false at-if3.if-places-gt-PLACES.false
+    opened-decimal _ c.if-words-lt3.false c.requires c.if-places-lt1.false c.if-places-gt-PLACES.false
 
 pub decimal_spec : {M : Type 1} → statement M
 decimal_spec =

@@ -16,7 +16,7 @@ returns c =
 
 returns-2 : tie.Need-returns-then-code-eq-IF
 returns-2 c =
-    opened-if _ (omega (arith, c.before.before.if-words-eq0.false)) c.if-code-eq-IF.true
+    opened-if _ (omega (arith, c.if-words-eq0.false)) c.if-code-eq-IF.true
 
 returns-3 : tie.Need-returns-then-code-eq-LAMBDA
 returns-3 c =
@@ -28,7 +28,7 @@ returns-4 c =
 
 returns-5 : tie.Need-returns-then-words-lt2
 returns-5 c =
-    opened-none _ (short-missing _ c.before.before.before.if-code-eq-IF.false c.if-words-lt2.true)
+    opened-none _ (short-missing _ c.if-code-eq-IF.false c.if-words-lt2.true)
 
 returns-6 : tie.Need-returns-then-code-eq-BOOLEAN
 returns-6 c =
@@ -36,39 +36,31 @@ returns-6 c =
 
 returns-7 : tie.Need-returns-then-code-eq-VARIABLE
 returns-7 c =
-    opened-variable _ c.before.before.before.if-words-lt2.false c.if-code-eq-VARIABLE.true
+    opened-variable _ c.if-words-lt2.false c.if-code-eq-VARIABLE.true
 
 returns-8 : tie.Need-returns-then-code-eq-OPERATION
 returns-8 c =
-    opened-operation _ c.before.before.before.before.if-words-lt2.false c.if-code-eq-OPERATION.true
+    opened-operation _ c.if-words-lt2.false c.if-code-eq-OPERATION.true
 
 returns-9 : tie.Need-returns-then-code-eq-INTEGER
 returns-9 c =
-    opened-integer _ c.before.before.before.before.before.if-words-lt2.false c.if-code-eq-INTEGER.true
+    opened-integer _ c.if-words-lt2.false c.if-code-eq-INTEGER.true
 
 returns-10 : tie.Need-returns-then-code-eq-NAME
 returns-10 c =
-    opened-name _ c.before.before.before.before.before.before.if-words-lt2.false c.if-code-eq-NAME.true
+    opened-name _ c.if-words-lt2.false c.if-code-eq-NAME.true
 
 returns-11 : tie.Need-returns-then-code-eq-LIST
 returns-11 c =
-    opened-list _ c.before.before.before.before.before.before.before.if-words-lt2.false c.if-code-eq-LIST.true
+    opened-list _ c.if-words-lt2.false c.if-code-eq-LIST.true
 
 returns-12 : tie.Need-returns-then-code-eq-APPLICATION
 returns-12 c =
-    opened-application _ c.before.before.before.before.before.before.before.before.if-words-lt2.false c.if-code-eq-APPLICATION.true
+    opened-application _ c.if-words-lt2.false c.if-code-eq-APPLICATION.true
 
 returns-13 : tie.Need-returns
 returns-13 c =
-    let at-if11 = c.before in
-    let at-if10 = at-if11.before in
-    let at-if9 = at-if10.before in
-    let at-if8 = at-if9.before in
-    let at-if7 = at-if8.before in
-    let at-if6 = at-if7.before.before in
-    let at-if4 = at-if6.before.before in
-    let at-if3 = at-if4.before in
-    opened-past _ (past-codes _ at-if7.if-code-eq-VARIABLE.false at-if8.if-code-eq-OPERATION.false at-if9.if-code-eq-INTEGER.false at-if6.if-code-eq-BOOLEAN.false at-if10.if-code-eq-NAME.false at-if11.if-code-eq-LIST.false at-if3.before.if-code-eq-IF.false at-if3.if-code-eq-LAMBDA.false c.if-code-eq-APPLICATION.false at-if4.if-code-eq-DECIMAL.false)
+    opened-past _ (past-codes _ c.if-code-eq-VARIABLE.false c.if-code-eq-OPERATION.false c.if-code-eq-INTEGER.false c.if-code-eq-BOOLEAN.false c.if-code-eq-NAME.false c.if-code-eq-LIST.false c.if-code-eq-IF.false c.if-code-eq-LAMBDA.false c.if-code-eq-APPLICATION.false c.if-code-eq-DECIMAL.false)
 
 pub read_spec : {M : Type 1} → statement M
 read_spec =

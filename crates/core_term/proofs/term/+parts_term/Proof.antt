@@ -61,83 +61,58 @@ parts-μ-loop words names flags₀ walk bound within quoted at₀ left₀ now₀
 
 parts-loop-holds : (t : ℕ) → parts-lts.Need-loop-left-init (P t) (parts_at t) parts.Post parts-Inv-loop parts-μ-loop
 parts-loop-holds t c =
-    let at_mark = c.before.before in
-    let pre' = at_mark.before.before.before.before.before.requires in
-    walk_start _ _ _ _ _ _ _ _ _ _ refl (set-clear _ _ _ _ _ _ pre'.1.1 pre'.1.0 at_mark.mark.ensures) pre'.1.3 pre'.1.2
+    let pre' = c.requires in
+    walk_start _ _ _ _ _ _ _ _ _ _ refl (set-clear _ _ _ _ _ _ pre'.1.1 pre'.1.0 c.mark.ensures) pre'.1.3 pre'.1.2
 
 parts-same-length : (t : ℕ) → parts-lts.Need-shape_of-flags-in_default (P t) (parts_at t) parts.Post parts-Inv-loop parts-μ-loop
 parts-same-length t c =
-    let at-term = c.before.before.before.before in
-    let at-loop = at-term.before.before.before.before in
-    at-term.term.auto.1.1.0 ∙ ap length at-loop.loop-left.invariant.same ∙ at-loop.before.before.before.mark.auto.0
+    c.term.auto.flags ∙ ap length c.loop-left.invariant.same ∙ c.mark.auto.flags
 
 parts-returns : (t : ℕ) → parts-lts.Need-returns-in_default (P t) (parts_at t) parts.Post parts-Inv-loop parts-μ-loop
 parts-returns t c =
-    let at-term = c.before.before.before.before in
-    let at-loop = at-term.before.before.before.before in
-    let at_mark = at-loop.before.before.before in
-    let at-args = at_mark.before.before.before.before.before in
-    (set-row _ _ _ _ _ _ at-args.requires.1.1 at-args.requires.1.0 at_mark.mark.ensures _ at-args.args.shape.quoted at-args.args.within at-args.args.words.now at-args.args.shape.own at-args.args.shape.parts C.No (walk-stop _ _ _ _ _ _ _ _ _ _ _ _ _ at-loop.loop-left.invariant (omega arith) (shaped-none _ _ _ _ _ _ at-term.term.ensures.0 c.enum_told-1.given.1)), tt)
+    (set-row _ _ _ _ _ _ c.requires.1.1 c.requires.1.0 c.mark.ensures _ c.args.shape.quoted c.args.within c.args.words.now c.args.shape.own c.args.shape.parts C.No (walk-stop _ _ _ _ _ _ _ _ _ _ _ _ _ c.loop-left.invariant (omega arith) (shaped-none _ _ _ _ _ _ c.term.ensures.0 c.in_default.is)), tt)
 
 parts-add-at : (t : ℕ) → parts-lts.Need-overflow_add-at (P t) (parts_at t) parts.Post parts-Inv-loop parts-μ-loop
 parts-add-at t c =
-    omega (arith, walk-next _ _ _ _ _ _ _ _ _ _ _ _ _ c.before.before.before.before.before.before.before.before.before.loop-left.invariant _ _ (shaped-term _ _ _ _ _ _ c.before.before.before.before.before.term.ensures.0 _ _ c.before.used-1.given.1) (omega arith))
+    omega (arith, walk-next _ _ _ _ _ _ _ _ _ _ _ _ _ c.loop-left.invariant _ _ (shaped-term _ _ _ _ _ _ c.term.ensures.0 _ _ c.in-Term.is) (omega arith))
 
 parts-loop-again : (t : ℕ) → parts-lts.Need-loop-left-preserved (P t) (parts_at t) parts.Post parts-Inv-loop parts-μ-loop
 parts-loop-again t c =
-    let at-used = c.before in
-    let at-term = at-used.before.before.before.before in
-    walk-on _ _ _ _ _ _ _ _ _ _ _ _ _ at-term.before.before.before.before.loop-left.invariant _ _ (shaped-term _ _ _ _ _ _ at-term.term.ensures.0 _ _ at-used.used-1.given.1) (omega arith) _ (kept-term _ _ _ _ _ at-term.term.ensures.1 at-used.used-1.given.1)
+    walk-on _ _ _ _ _ _ _ _ _ _ _ _ _ c.loop-left.invariant _ _ (shaped-term _ _ _ _ _ _ c.term.ensures.0 _ _ c.in-Term.is) (omega arith) _ (kept-term _ _ _ _ _ c.term.ensures.1 c.in-Term.is)
 
 parts-same-length-2 : (t : ℕ) → parts-lts.Need-shape_of-flags (P t) (parts_at t) parts.Post parts-Inv-loop parts-μ-loop
 parts-same-length-2 t c =
-    let at-mark2 = c.before.before in
-    let at-loop = at-mark2.before.before.before in
-    at-mark2.mark-2.auto.0 ∙ ap length at-loop.loop-left.invariant.same ∙ at-loop.before.before.before.mark.auto.0
+    c.mark-2.auto.flags ∙ ap length c.loop-left.invariant.same ∙ c.mark.auto.flags
 
 parts-returns-2 : (t : ℕ) → parts-lts.Need-returns (P t) (parts_at t) parts.Post parts-Inv-loop parts-μ-loop
 parts-returns-2 t c =
-    let at-mark2 = c.before.before in
-    let at-loop = at-mark2.before.before.before in
-    let at_mark = at-loop.before.before.before in
-    let pre' = at_mark.before.before.before.before.before.requires in
-    (set-row _ _ _ _ _ _ pre'.1.1 pre'.1.0 at_mark.mark.ensures _ _ _ _ _ _ (C.Term _ _) (walk_end _ _ _ _ _ _ _ _ _ _ _ _ _ at-loop.loop-left.invariant (omega arith)), set-undone _ _ _ _ _ _ pre'.1.1 pre'.1.0 at_mark.mark.ensures _ _ at-loop.loop-left.invariant.same at-mark2.mark-2.ensures)
+    let pre' = c.requires in
+    (set-row _ _ _ _ _ _ pre'.1.1 pre'.1.0 c.mark.ensures _ _ _ _ _ _ (C.Term _ _) (walk_end _ _ _ _ _ _ _ _ _ _ _ _ _ c.loop-left.invariant (omega arith)), set-undone _ _ _ _ _ _ pre'.1.1 pre'.1.0 c.mark.ensures _ _ c.loop-left.invariant.same c.mark-2.ensures)
 
 term-standing-requires : (t : ℕ) → term-lts.Need-standing-requires (T t) (term-at t) term.Post
 term-standing-requires t c κs =
-    c.before.read-node.ensures
+    c.read-node.ensures
 
 term-returns : (t : ℕ) → term-lts.Need-returns-in_default (T t) (term-at t) term.Post
 term-returns t c =
-    (walk_none _ _ _ _ _ _ _ _ c.before.before.before.before.read-node.ensures (sym c.enum_told-1.given.1 ∙ c.before.before.standing.ensures), tt)
+    (walk_none _ _ _ _ _ _ _ _ c.read-node.ensures (sym c.in_default.is ∙ c.standing.ensures), tt)
 
 term-returns-2 : (t : ℕ) → term-lts.Need-returns-then-shape-eq0 (T t) (term-at t) term.Post
 term-returns-2 t c =
-    let at-shape-of = c.before.before in
-    let at-within = at-shape-of.before.before in
-    let at-standing = at-within.before.before in
-    (walk-leaf _ _ _ _ _ _ _ _ at-standing.before.before.read-node.ensures _ (sym at-within.within-1.given.1 ∙ at-standing.standing.ensures) _ at-shape-of.shape_of-shape.ensures c.if-shape-eq0.true, refl)
+    (walk-leaf _ _ _ _ _ _ _ _ c.read-node.ensures _ (sym c.in-Node.is ∙ c.standing.ensures) _ c.shape_of-shape.ensures c.if-shape-eq0.true, refl)
 
 term-parts-requires : (t : ℕ) → term-lts.Need-parts-requires (T t) (term-at t) term.Post
 term-parts-requires t c κs =
-    let at-shape-of = c.before.before.before in
-    let at-within = at-shape-of.before.before in
-    let at-standing = at-within.before.before in
-    let at_read = at-standing.before.before in
-    let pre' = at_read.before.before.before.before.requires in
-    let o = walk-own _ _ _ _ _ _ _ _ at_read.read-node.ensures _ (sym at-within.within-1.given.1 ∙ at-standing.standing.ensures) _ at-shape-of.shape_of-shape.ensures in (omega (arith, pre'.0), (pre'.1, walk-within _ _ _ _ _ _ _ _ at_read.read-node.ensures _ (sym at-within.within-1.given.1 ∙ at-standing.standing.ensures) _ at-shape-of.shape_of-shape.ensures, o.0, o.1))
+    let pre' = c.requires in
+    let o = walk-own _ _ _ _ _ _ _ _ c.read-node.ensures _ (sym c.in-Node.is ∙ c.standing.ensures) _ c.shape_of-shape.ensures in (omega (arith, pre'.0), (pre'.1, walk-within _ _ _ _ _ _ _ _ c.read-node.ensures _ (sym c.in-Node.is ∙ c.standing.ensures) _ c.shape_of-shape.ensures, o.0, o.1))
 
 term-same-length-3 : (t : ℕ) → term-lts.Need-shape_of-flags (T t) (term-at t) term.Post
 term-same-length-3 t c =
-    c.before.before.parts.auto.1.1.0
+    c.parts.auto.flags
 
 term-returns-3 : (t : ℕ) → term-lts.Need-returns (T t) (term-at t) term.Post
 term-returns-3 t c =
-    let at-parts = c.before.before in
-    let at-shape-of = at-parts.before.before.before.before in
-    let at-within = at-shape-of.before.before in
-    let at-standing = at-within.before.before in
-    (walk-parts _ _ _ _ _ _ _ _ at-standing.before.before.read-node.ensures _ (sym at-within.within-1.given.1 ∙ at-standing.standing.ensures) _ at-shape-of.shape_of-shape.ensures at-parts.parts.result at-parts.parts.ensures.0, at-parts.parts.ensures.1)
+    (walk-parts _ _ _ _ _ _ _ _ c.read-node.ensures _ (sym c.in-Node.is ∙ c.standing.ensures) _ c.shape_of-shape.ensures c.parts.result c.parts.ensures.0, c.parts.ensures.1)
 
 pub +parts_term_spec : {M : Type 1} → statement M
 +parts_term_spec = close μ-parts μ-term (λ t. parts-lts.spec (P t)

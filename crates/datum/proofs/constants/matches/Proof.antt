@@ -14,12 +14,12 @@ returns c =
 returns-2 : tie.Need-returns-then-first-first2
 unfolding C.matches
 returns-2 c =
-    rw (eq-eqb _ _ c.before.if-kind-kind2.false, ne_eqb _ _ c.if-first-first2.true) refl
+    rw (eq-eqb _ _ c.if-kind-kind2.false, ne_eqb _ _ c.if-first-first2.true) refl
 
 returns-3 : tie.Need-returns
 unfolding C.matches
 returns-3 c =
-    rw (eq-eqb _ _ c.before.if-kind-kind2.false, eq-eqb _ _ c.if-first-first2.false) refl
+    rw (eq-eqb _ _ c.if-kind-kind2.false, eq-eqb _ _ c.if-first-first2.false) refl
 
 pub matches_spec : {M : Type 1} → statement M
 matches_spec =

@@ -31,72 +31,72 @@ agree-claims t = (word-reads.Asked, word-reads.Learnt, reference-reads.Asked, re
 
 agree-returns : (t : ℕ) → agree-lts.Need-returns-then-tag-lt-PAIR (agree-claims t) (agree_at t) agree.Post
 agree-returns t c =
-    let a = c.before.before.before.args in agree-leaf a.work.now a.env.now a.t a.round _ c.before.word-tag.ensures (λ z. omega arith) (λ z. omega arith)
+    let a = c.args in agree-leaf a.work.now a.env.now a.t a.round _ c.word-tag.ensures (λ z. omega arith) (λ z. omega arith)
 
 agree-returns-2 : (t : ℕ) → agree-lts.Need-returns-then-tag-gt-ELLIPSIS (agree-claims t) (agree_at t) agree.Post
 agree-returns-2 t c =
-    let a = c.before.before.before.before.args in agree-leaf a.work.now a.env.now a.t a.round _ c.before.before.word-tag.ensures (λ z. omega arith) (λ z. omega arith)
+    let a = c.args in agree-leaf a.work.now a.env.now a.t a.round _ c.word-tag.ensures (λ z. omega arith) (λ z. omega arith)
 
 agree-agree-requires : (t : ℕ) → agree-lts.Need-agree-requires (agree-claims t) (agree_at t) agree.Post
 agree-agree-requires t c κs =
-    let a = c.before.before.before.before.before.before.before.args in
-    let l = tag-falls a.work.now a.t _ c.before.before.before.before.before.word-tag.ensures 3 _ (λ z. omega arith) c.before.before.reference-head.ensures in
-    let p = parts-plain a.work.now a.t _ c.before.before.before.before.before.word-tag.ensures c.before.before.before.before.before.before.before.requires.1 _ _ (omega arith) (omega arith) c.before.before.reference-head.ensures c.before.reference-rest.ensures in
-    (omega (arith, l, c.before.before.before.before.before.before.before.requires.0), p.0)
+    let a = c.args in
+    let l = tag-falls a.work.now a.t _ c.word-tag.ensures 3 _ (λ z. omega arith) c.reference-head.ensures in
+    let p = parts-plain a.work.now a.t _ c.word-tag.ensures c.requires.1 _ _ (omega arith) (omega arith) c.reference-head.ensures c.reference-rest.ensures in
+    (omega (arith, l, c.requires.0), p.0)
 
 agree-returns-3 : (t : ℕ) → agree-lts.Need-returns-then-not-agree (agree-claims t) (agree_at t) agree.Post
 agree-returns-3 t c =
-    let a = c.before.before.before.before.before.before.before.before.before.args in
-    agree-head-no a.work.now a.env.now a.t a.round _ c.before.before.before.before.before.before.before.word-tag.ensures _ _ c.before.before.before.before.reference-head.ensures c.before.before.before.reference-rest.ensures c.before.before.if-tag-eq-PAIR.true _ c.before.agree.ensures (not-true _ c.if-not-agree.true)
+    let a = c.args in
+    agree-head-no a.work.now a.env.now a.t a.round _ c.word-tag.ensures _ _ c.reference-head.ensures c.reference-rest.ensures c.if-tag-eq-PAIR.true _ c.agree.ensures (not-true _ c.if-not-agree.true-raw)
 
 agree-agree-requires-2 : (t : ℕ) → agree-lts.Need-agree-requires-then-tag-eq-PAIR (agree-claims t) (agree_at t) agree.Post
 agree-agree-requires-2 t c κs =
-    let a = c.before.before.before.before.before.before.before.before.before.args in
-    let l = tag-falls a.work.now a.t _ c.before.before.before.before.before.before.before.word-tag.ensures 2 _ (λ z. omega arith) c.before.before.before.reference-rest.ensures in
-    let p = parts-plain a.work.now a.t _ c.before.before.before.before.before.before.before.word-tag.ensures c.before.before.before.before.before.before.before.before.before.requires.1 _ _ (omega arith) (omega arith) c.before.before.before.before.reference-head.ensures c.before.before.before.reference-rest.ensures in
-    (omega (arith, l, c.before.before.before.before.before.before.before.before.before.requires.0), p.1)
+    let a = c.args in
+    let l = tag-falls a.work.now a.t _ c.word-tag.ensures 2 _ (λ z. omega arith) c.reference-rest.ensures in
+    let p = parts-plain a.work.now a.t _ c.word-tag.ensures c.requires.1 _ _ (omega arith) (omega arith) c.reference-head.ensures c.reference-rest.ensures in
+    (omega (arith, l, c.requires.0), p.1)
 
 agree-returns-4 : (t : ℕ) → agree-lts.Need-returns-then-tag-eq-PAIR (agree-claims t) (agree_at t) agree.Post
 agree-returns-4 t c =
-    let a = c.before.before.before.before.before.before.before.before.before.before.args in
-    agree-tail a.work.now a.env.now a.t a.round _ c.before.before.before.before.before.before.before.before.word-tag.ensures _ _ c.before.before.before.before.before.reference-head.ensures c.before.before.before.before.reference-rest.ensures c.before.before.before.if-tag-eq-PAIR.true _ _ c.before.before.agree.ensures (not-false _ c.before.if-not-agree.false) c.agree-then-tag-eq-PAIR.ensures
+    let a = c.args in
+    agree-tail a.work.now a.env.now a.t a.round _ c.word-tag.ensures _ _ c.reference-head.ensures c.reference-rest.ensures c.if-tag-eq-PAIR.true _ _ c.agree.ensures (not-false _ c.if-not-agree.false-raw) c.agree-then-tag-eq-PAIR.ensures
 
 agree-counted-requires : (t : ℕ) → agree-lts.Need-counted-requires (agree-claims t) (agree_at t) agree.Post
 agree-counted-requires t c κs =
-    let a = c.before.before.before.before.before.before.before.args in
-    (parts-plain a.work.now a.t _ c.before.before.before.before.before.word-tag.ensures c.before.before.before.before.before.before.before.requires.1 _ _ (omega arith) (omega arith) c.before.before.reference-head.ensures c.before.reference-rest.ensures).0
+    let a = c.args in
+    (parts-plain a.work.now a.t _ c.word-tag.ensures c.requires.1 _ _ (omega arith) (omega arith) c.reference-head.ensures c.reference-rest.ensures).0
 
 agree-returns-5 : (t : ℕ) → agree-lts.Need-returns-in_default (agree-claims t) (agree_at t) agree.Post
 agree-returns-5 t c =
-    let a = c.before.before.before.before.before.before.before.before.before.before.args in
-    let p = parts-plain a.work.now a.t _ c.before.before.before.before.before.before.before.before.word-tag.ensures c.before.before.before.before.before.before.before.before.before.before.requires.1 _ _ (omega arith) (omega arith) c.before.before.before.before.before.reference-head.ensures c.before.before.before.before.reference-rest.ensures in
-    agree_differ a.work.now a.env.now a.t a.round _ c.before.before.before.before.before.before.before.before.word-tag.ensures _ _ c.before.before.before.before.before.reference-head.ensures c.before.before.before.before.reference-rest.ensures (omega (arith, c.before.before.before.before.before.before.before.if-tag-lt-PAIR.false, c.before.before.before.before.before.before.if-tag-gt-ELLIPSIS.false, c.before.before.before.if-tag-eq-PAIR.false)) p.0 (reached-differ _ _ _ _ _ c.enum_told-1.given.1 c.before.before.counted.ensures)
+    let a = c.args in
+    let p = parts-plain a.work.now a.t _ c.word-tag.ensures c.requires.1 _ _ (omega arith) (omega arith) c.reference-head.ensures c.reference-rest.ensures in
+    agree_differ a.work.now a.env.now a.t a.round _ c.word-tag.ensures _ _ c.reference-head.ensures c.reference-rest.ensures (omega (arith, c.if-tag-lt-PAIR.false, c.if-tag-gt-ELLIPSIS.false, c.if-tag-eq-PAIR.false)) p.0 (reached-differ _ _ _ _ _ c.in_default.is c.counted.ensures)
 
 agree-agree-requires-3 : (t : ℕ) → agree-lts.Need-agree-requires-2 (agree-claims t) (agree_at t) agree.Post
 agree-agree-requires-3 t c κs =
-    let a = c.before.before.before.before.before.before.before.before.before.before.before.args in
-    let l = tag-falls a.work.now a.t _ c.before.before.before.before.before.before.before.before.before.word-tag.ensures 3 _ (λ z. omega arith) c.before.before.before.before.before.before.reference-head.ensures in
-    let p = parts-plain a.work.now a.t _ c.before.before.before.before.before.before.before.before.before.word-tag.ensures c.before.before.before.before.before.before.before.before.before.before.before.requires.1 _ _ (omega arith) (omega arith) c.before.before.before.before.before.before.reference-head.ensures c.before.before.before.before.before.reference-rest.ensures in
-    (omega (arith, l, c.before.before.before.before.before.before.before.before.before.before.before.requires.0), p.0)
+    let a = c.args in
+    let l = tag-falls a.work.now a.t _ c.word-tag.ensures 3 _ (λ z. omega arith) c.reference-head.ensures in
+    let p = parts-plain a.work.now a.t _ c.word-tag.ensures c.requires.1 _ _ (omega arith) (omega arith) c.reference-head.ensures c.reference-rest.ensures in
+    (omega (arith, l, c.requires.0), p.0)
 
 agree-returns-6 : (t : ℕ) → agree-lts.Need-returns-then-not-agree-2 (agree-claims t) (agree_at t) agree.Post
 agree-returns-6 t c =
-    let a = c.before.before.before.before.before.before.before.before.before.before.before.before.before.args in
-    let p = parts-plain a.work.now a.t _ c.before.before.before.before.before.before.before.before.before.before.before.word-tag.ensures c.before.before.before.before.before.before.before.before.before.before.before.before.before.requires.1 _ _ (omega arith) (omega arith) c.before.before.before.before.before.before.before.before.reference-head.ensures c.before.before.before.before.before.before.before.reference-rest.ensures in
-    agree-copies-no a.work.now a.env.now a.t a.round _ c.before.before.before.before.before.before.before.before.before.before.before.word-tag.ensures _ _ c.before.before.before.before.before.before.before.before.reference-head.ensures c.before.before.before.before.before.before.before.reference-rest.ensures (omega (arith, c.before.before.before.before.before.before.before.before.before.before.if-tag-lt-PAIR.false, c.before.before.before.before.before.before.before.before.before.if-tag-gt-ELLIPSIS.false, c.before.before.before.before.before.before.if-tag-eq-PAIR.false)) p.0 _ (reached-of _ _ _ _ _ _ c.before.before.before.c-1.given.1 c.before.before.before.before.before.counted.ensures) _ c.before.agree-2.ensures (not-true _ c.if-not-agree-2.true)
+    let a = c.args in
+    let p = parts-plain a.work.now a.t _ c.word-tag.ensures c.requires.1 _ _ (omega arith) (omega arith) c.reference-head.ensures c.reference-rest.ensures in
+    agree-copies-no a.work.now a.env.now a.t a.round _ c.word-tag.ensures _ _ c.reference-head.ensures c.reference-rest.ensures (omega (arith, c.if-tag-lt-PAIR.false, c.if-tag-gt-ELLIPSIS.false, c.if-tag-eq-PAIR.false)) p.0 _ (reached-of _ _ _ _ _ _ c.in-Of.is c.counted.ensures) _ c.agree-2.ensures (not-true _ c.if-not-agree-2.true-raw)
 
 agree-agree-requires-4 : (t : ℕ) → agree-lts.Need-agree-requires-3 (agree-claims t) (agree_at t) agree.Post
 agree-agree-requires-4 t c κs =
-    let a = c.before.before.before.before.before.before.before.before.before.before.before.before.before.args in
-    let l = tag-falls a.work.now a.t _ c.before.before.before.before.before.before.before.before.before.before.before.word-tag.ensures 2 _ (λ z. omega arith) c.before.before.before.before.before.before.before.reference-rest.ensures in
-    let p = parts-plain a.work.now a.t _ c.before.before.before.before.before.before.before.before.before.before.before.word-tag.ensures c.before.before.before.before.before.before.before.before.before.before.before.before.before.requires.1 _ _ (omega arith) (omega arith) c.before.before.before.before.before.before.before.before.reference-head.ensures c.before.before.before.before.before.before.before.reference-rest.ensures in
-    (omega (arith, l, c.before.before.before.before.before.before.before.before.before.before.before.before.before.requires.0), p.1)
+    let a = c.args in
+    let l = tag-falls a.work.now a.t _ c.word-tag.ensures 2 _ (λ z. omega arith) c.reference-rest.ensures in
+    let p = parts-plain a.work.now a.t _ c.word-tag.ensures c.requires.1 _ _ (omega arith) (omega arith) c.reference-head.ensures c.reference-rest.ensures in
+    (omega (arith, l, c.requires.0), p.1)
 
 agree-returns-7 : (t : ℕ) → agree-lts.Need-returns (agree-claims t) (agree_at t) agree.Post
 agree-returns-7 t c =
-    let a = c.before.before.before.before.before.before.before.before.before.before.before.before.before.before.args in
-    let p = parts-plain a.work.now a.t _ c.before.before.before.before.before.before.before.before.before.before.before.before.word-tag.ensures c.before.before.before.before.before.before.before.before.before.before.before.before.before.before.requires.1 _ _ (omega arith) (omega arith) c.before.before.before.before.before.before.before.before.before.reference-head.ensures c.before.before.before.before.before.before.before.before.reference-rest.ensures in
-    agree-rest a.work.now a.env.now a.t a.round _ c.before.before.before.before.before.before.before.before.before.before.before.before.word-tag.ensures _ _ c.before.before.before.before.before.before.before.before.before.reference-head.ensures c.before.before.before.before.before.before.before.before.reference-rest.ensures (omega (arith, c.before.before.before.before.before.before.before.before.before.before.before.if-tag-lt-PAIR.false, c.before.before.before.before.before.before.before.before.before.before.if-tag-gt-ELLIPSIS.false, c.before.before.before.before.before.before.before.if-tag-eq-PAIR.false)) p.0 _ (reached-of _ _ _ _ _ _ c.before.before.before.before.c-1.given.1 c.before.before.before.before.before.before.counted.ensures) _ c.before.before.agree-2.ensures _ (not-false _ c.before.if-not-agree-2.false) c.agree-3.ensures
+    let a = c.args in
+    let p = parts-plain a.work.now a.t _ c.word-tag.ensures c.requires.1 _ _ (omega arith) (omega arith) c.reference-head.ensures c.reference-rest.ensures in
+    agree-rest a.work.now a.env.now a.t a.round _ c.word-tag.ensures _ _ c.reference-head.ensures c.reference-rest.ensures (omega (arith, c.if-tag-lt-PAIR.false, c.if-tag-gt-ELLIPSIS.false, c.if-tag-eq-PAIR.false)) p.0 _ (reached-of _ _ _ _ _ _ c.in-Of.is c.counted.ensures) _ c.agree-2.ensures _ (not-false _ c.if-not-agree-2.false-raw) c.agree-3.ensures
 
 pub +agree_spec : {M : Type 1} → statement M
 +agree_spec = close μ-agree λ t. agree-lts.spec (agree-claims t)

@@ -10,19 +10,19 @@ use Rattle.environments.specs.ReachedLaws.{reached-begins, reached-once}
 
 returns : tie.Need-returns-then-n-eq0
 returns c =
-    let a = c.before.before.before.before.before.args in subst (λ (o : Round). CountedIn a.work.now a.env.now a.e o (Of 0)) (sym (c.before.before.round-1.given.1 ∙ ap Copies c.if-n-eq0.true)) (reached-begins a.work.now a.env.now a.e)
+    let a = c.args in subst (λ (o : Round). CountedIn a.work.now a.env.now a.e o (Of 0)) (sym (c.in-Copies.is ∙ ap Copies c.if-n-eq0.true)) (reached-begins a.work.now a.env.now a.e)
 
 reached-requires : tie.Need-reached-requires
 reached-requires c κs =
-    (omega (arith, c.if-n-eq0.false), c.before.before.before.before.before.requires)
+    (omega (arith, c.if-n-eq0.false), c.requires)
 
 returns-2 : tie.Need-returns-in-Nothing
 returns-2 c =
-    let a = c.before.before.before.before.args in subst (λ (o : Round). CountedIn a.work.now a.env.now a.e o c.copies.result) (sym c.before.enum_told-1.given.1) (reached-once a.work.now a.env.now a.e c.copies.result c.copies.ensures)
+    let a = c.args in subst (λ (o : Round). CountedIn a.work.now a.env.now a.e o c.copies.result) (sym c.in-Nothing.is) (reached-once a.work.now a.env.now a.e c.copies.result c.copies.ensures)
 
 returns-3 : tie.Need-returns-else-n-eq0
 returns-3 c =
-    let a = c.before.before.before.before.before.before.args in subst (λ (o : Round). CountedIn a.work.now a.env.now a.e o c.reached.result) (sym c.before.before.before.round-1.given.1) c.reached.ensures
+    let a = c.args in subst (λ (o : Round). CountedIn a.work.now a.env.now a.e o c.reached.result) (sym c.in-Copies.is) c.reached.ensures
 
 pub counted_spec : {M : Type 1} → statement M
 counted_spec =

@@ -6,7 +6,7 @@ use Rattle.environments.specs.AgreeLaws.{agrees-whole}
 
 returns : tie.Need-returns
 returns c =
-    let a = c.before.before.args in agrees-whole a.work.now a.env.now a.t _ c.agree.ensures
+    let a = c.args in agrees-whole a.work.now a.env.now a.t _ c.agree.ensures
 
 pub lengths_agree_spec : {M : Type 1} → statement M
 lengths_agree_spec =

@@ -15,7 +15,7 @@ enum-known-x c =
 returns : tie.Need-returns-then-c-d
 unfolding most larger
 returns c =
-    rw (c.before.before.x-1.given.1, lt-ltb _ _ c.if-c-d.true) refl
+    rw (c.in-Length.is, lt-ltb _ _ c.if-c-d.true) refl
 
 enum-told-2 : tie.Need-enum_told-in-Differ
 enum-told-2 c =
@@ -24,17 +24,17 @@ enum-told-2 c =
 returns-2 : tie.Need-returns-in-None
 unfolding most
 returns-2 c =
-    rw c.enum_told-1.given.1 refl
+    rw c.in-None.is refl
 
 returns-3 : tie.Need-returns-else-c-d
 unfolding most larger
 returns-3 c =
-    rw (c.before.before.x-1.given.1, le-ltb _ _ c.if-c-d.false) refl
+    rw (c.in-Length.is, le-ltb _ _ c.if-c-d.false) refl
 
 returns-4 : tie.Need-returns-in-Differ
 unfolding most
 returns-4 c =
-    rw c.enum_told-in-Differ-1.given.1 refl
+    rw c.in-Differ.is refl
 
 pub most_spec : {M : Type 1} → statement M
 most_spec =

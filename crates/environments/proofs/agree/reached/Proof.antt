@@ -20,66 +20,66 @@ decreases-loop work env e n drive still table₀ moving largest₀ i₀ table la
 
 mark-requires : tie.Need-mark-requires invariant-loop decreases-loop
 mark-requires c κs =
-    (omega arith, refl, c.before.before.requires.1)
+    (omega arith, refl, c.requires.1)
 
 gather-requires : tie.Need-gather-still-requires invariant-loop decreases-loop
 gather-requires c κs =
-    (c.before.before.mark.auto.1.1.1.0, omega arith, omega arith)
+    (c.mark.auto.marks, omega arith, omega arith)
 
 any-requires : tie.Need-any-requires invariant-loop decreases-loop
 any-requires c κs =
-    (c.before.before.before.before.mark.auto.1.1.1.0, omega arith, omega arith)
+    (c.mark.auto.marks, omega arith, omega arith)
 
 returns : tie.Need-returns-then-not-any invariant-loop decreases-loop
 returns c =
-    let a = c.before.before.before.before.before.before.before.before.before.before.args in
-    let unmarked = c.before.before.any.ensures (not-true _ c.before.if-not-any.true) in
-    let told = still-drives a.work.now a.env.now _ _ a.e c.before.before.before.before.before.before.before.before.before.before.requires.1 marks-none c.before.before.before.before.before.before.before.mark.ensures _ c.before.before.before.before.gather-still.ensures unmarked in
-    let same = still-same a.work.now a.env.now _ _ a.e c.before.before.before.before.before.before.before.before.before.before.requires.1 marks-none c.before.before.before.before.before.before.before.mark.ensures _ c.before.before.before.before.gather-still.ensures unmarked in
-    subst (CountedIn a.work.now a.env.now a.e (Copies a.n)) (sym c.most.ensures) (reached-still a.work.now a.env.now a.e _ told same a.n c.before.before.before.before.before.before.before.before.before.before.requires.0)
+    let a = c.args in
+    let unmarked = c.any.ensures (not-true _ c.if-not-any.true-raw) in
+    let told = still-drives a.work.now a.env.now _ _ a.e c.requires.1 marks-none c.mark.ensures _ c.gather-still.ensures unmarked in
+    let same = still-same a.work.now a.env.now _ _ a.e c.requires.1 marks-none c.mark.ensures _ c.gather-still.ensures unmarked in
+    subst (CountedIn a.work.now a.env.now a.e (Copies a.n)) (sym c.most.ensures) (reached-still a.work.now a.env.now a.e _ told same a.n c.requires.0)
 
 keep-requires : tie.Need-keep-requires invariant-loop decreases-loop
 keep-requires c κs =
-    c.before.before.before.before.before.before.before.before.mark.auto.1.1.1.0
+    c.mark.auto.marks
 
 loop-holds : tie.Need-loop-i-init invariant-loop decreases-loop
 loop-holds c =
-    let a = c.before.before.before.before.before.before.before.before.before.before.before.before.before.before.before.args in
-    (omega arith, reached-begins a.work.now a.env.now a.e, record { kept = _; keeps = c.before.before.before.keep.ensures; moves = c.begin-moving.ensures.2; along = c.begin-moving.ensures.0 a.work.now })
+    let a = c.args in
+    (omega arith, reached-begins a.work.now a.env.now a.e, record { kept = _; keeps = c.keep.ensures; moves = c.begin-moving.ensures.2; along = c.begin-moving.ensures.0 a.work.now })
 
 enter-requires : tie.Need-enter-requires invariant-loop decreases-loop
 enter-requires c κs =
-    let a = c.before.before.before.before.before.before.before.before.before.before.before.before.before.before.before.before.before.before.args in
-    let g = c.before.before.loop-i.invariant.2 in moving-along a.work.now g.kept _ c.before.before.loop-i.i _ g.along g.moves
+    let a = c.args in
+    let g = c.loop-i.invariant.2 in moving-along a.work.now g.kept _ c.loop-i.i _ g.along g.moves
 
 gather-requires-2 : tie.Need-gather-x-requires invariant-loop decreases-loop
 gather-requires-2 c κs =
-    (c.before.before.before.before.before.before.before.before.before.before.before.before.before.before.before.before.before.before.mark.auto.1.1.1.0, omega arith, omega arith)
+    (c.mark.auto.marks, omega arith, omega arith)
 
 returns-2 : tie.Need-returns-in_default invariant-loop decreases-loop
 returns-2 c =
-    let a = c.before.before.before.before.before.before.before.before.before.before.before.before.before.before.before.before.before.before.before.before.before.before.before.before.before.args in
-    let g = c.before.before.before.before.before.before.before.before.before.loop-i.invariant.2 in
-    let goes = c.before.before.before.before.before.before.enter.ensures.goes g.kept c.before.before.before.before.before.before.before.before.before.loop-i.i g.along in
-    let told = gathered-tells a.work.now a.env.now _ _ a.e c.before.before.before.before.before.before.before.before.before.before.before.before.before.before.before.before.before.before.before.before.before.before.before.before.before.requires.1 marks-none c.before.before.before.before.before.before.before.before.before.before.before.before.before.before.before.before.before.before.before.before.before.before.mark.ensures _ c.before.before.before.before.before.before.before.before.before.before.before.before.before.before.before.before.before.before.before.gather-still.ensures c.before.before.before.before.before.before.before.before.before.loop-i.i g.kept _ _ c.before.before.before.gather-x.ensures g.keeps goes.1 in
-    reached-differs a.work.now a.env.now a.e c.before.before.before.before.before.before.before.before.before.loop-i.i _ told c.before.before.before.before.before.before.before.before.before.loop-i.largest a.n (sym c.before.before.most-in-loop-i.ensures ∙ c.enum_told-1.given.1) (omega arith)
+    let a = c.args in
+    let g = c.loop-i.invariant.2 in
+    let goes = c.enter.ensures.goes g.kept c.loop-i.i g.along in
+    let told = gathered-tells a.work.now a.env.now _ _ a.e c.requires.1 marks-none c.mark.ensures _ c.gather-still.ensures c.loop-i.i g.kept _ _ c.gather-x.ensures g.keeps goes.1 in
+    reached-differs a.work.now a.env.now a.e c.loop-i.i _ told c.loop-i.largest a.n (sym c.most-in-loop-i.ensures ∙ c.in_default.is) (omega arith)
 
 add-i : tie.Need-overflow_add-i invariant-loop decreases-loop
 add-i c =
-    record { fits = omega (arith, c.before.before.before.before.before.before.before.before.before.before.before.before.before.before.before.before.before.before.before.before.before.before.before.before.before.before.ranges, c.before.before.before.before.before.before.before.before.before.loop-i-test.true) }
+    record { fits = omega (arith, c.ranges, c.loop-i-test.true) }
 
 loop-again : tie.Need-loop-i-preserved invariant-loop decreases-loop
 loop-again c =
-    let a = c.before.before.before.before.before.before.before.before.before.before.before.before.before.before.before.before.before.before.before.before.before.before.before.before.before.before.args in
-    let g = c.before.before.before.before.before.before.before.before.before.before.loop-i.invariant.2 in
-    let goes = c.before.before.before.before.before.before.before.enter.ensures.goes g.kept c.before.before.before.before.before.before.before.before.before.before.loop-i.i g.along in
-    let told = gathered-tells a.work.now a.env.now _ _ a.e c.before.before.before.before.before.before.before.before.before.before.before.before.before.before.before.before.before.before.before.before.before.before.before.before.before.before.requires.1 marks-none c.before.before.before.before.before.before.before.before.before.before.before.before.before.before.before.before.before.before.before.before.before.before.before.mark.ensures _ c.before.before.before.before.before.before.before.before.before.before.before.before.before.before.before.before.before.before.before.before.gather-still.ensures c.before.before.before.before.before.before.before.before.before.before.loop-i.i g.kept _ _ c.before.before.before.before.gather-x.ensures g.keeps goes.1 in
-    (omega arith, reached-more a.work.now a.env.now a.e c.before.before.before.before.before.before.before.before.before.before.loop-i.i _ told c.before.before.before.before.before.before.before.before.before.before.loop-i.largest _ (sym c.before.before.before.most-in-loop-i.ensures ∙ c.before.c-1.given.1) c.before.before.before.before.before.before.before.before.before.before.loop-i.invariant.1, record { kept = g.kept; keeps = g.keeps; moves = g.moves; along = goes.0 })
+    let a = c.args in
+    let g = c.loop-i.invariant.2 in
+    let goes = c.enter.ensures.goes g.kept c.loop-i.i g.along in
+    let told = gathered-tells a.work.now a.env.now _ _ a.e c.requires.1 marks-none c.mark.ensures _ c.gather-still.ensures c.loop-i.i g.kept _ _ c.gather-x.ensures g.keeps goes.1 in
+    (omega arith, reached-more a.work.now a.env.now a.e c.loop-i.i _ told c.loop-i.largest _ (sym c.most-in-loop-i.ensures ∙ c.in-Of.is) c.loop-i.invariant.1, record { kept = g.kept; keeps = g.keeps; moves = g.moves; along = goes.0 })
 
 returns-3 : tie.Need-returns invariant-loop decreases-loop
 returns-3 c =
-    let a = c.before.before.before.before.before.before.before.before.before.before.before.before.before.before.before.before.before.args in
-    let e : c.before.loop-i.i ≡ a.n = omega arith in subst (λ (k : ℕ). Reached a.work.now a.env.now a.e (Copies k) c.before.loop-i.largest) e c.before.loop-i.invariant.1
+    let a = c.args in
+    let e : c.loop-i.i ≡ a.n = omega arith in subst (λ (k : ℕ). Reached a.work.now a.env.now a.e (Copies k) c.loop-i.largest) e c.loop-i.invariant.1
 
 pub reached_spec : {M : Type 1} → statement M
 reached_spec =

@@ -33,40 +33,36 @@ bind-claims t = (word-reads.Asked, word-reads.Learnt, bind-variable-reads.Asked,
 
 bind-returns : (t : ℕ) → bind-lts.Need-returns-then-tag-eq-VARIABLE (bind-claims t) (bind-at t) bind.Post
 bind-returns t c =
-    let a = c.before.before.before.before.before.before.args in pattern-variable a.work.now a.p _ c.before.before.before.before.word-tag.ensures a.env.now a.u _ _ c.before.before.before.if-tag-eq-VARIABLE.true c.before.before.word-k.ensures c.bind_variable.ensures
+    let a = c.args in pattern-variable a.work.now a.p _ c.word-tag.ensures a.env.now a.u _ _ c.if-tag-eq-VARIABLE.true c.word-k.ensures c.bind_variable.ensures
 
 bind-bind-requires : (t : ℕ) → bind-lts.Need-bind-requires (bind-claims t) (bind-at t) bind.Post
 bind-bind-requires t c κs =
-    let a = c.before.before.before.before.before.before.before.before.before.before.args in let l = tag-falls a.work.now a.p _ c.before.before.before.before.before.before.before.before.word-tag.ensures 2 _ (λ z. omega arith) c.before.before.before.before.before.before.reference-rest.ensures in omega (arith, l)
+    let a = c.args in let l = tag-falls a.work.now a.p _ c.word-tag.ensures 2 _ (λ z. omega arith) c.reference-rest.ensures in omega (arith, l)
 
 bind-returns-2 : (t : ℕ) → bind-lts.Need-returns-then-tag-eq-ELLIPSIS (bind-claims t) (bind-at t) bind.Post
 bind-returns-2 t c =
-    let a = c.before.before.before.before.before.before.before.before.before.before.args in
-    let word = c.before.before.before.before.before.before.before.before.word-tag in
-    let reference = c.before.before.before.before.before.before.reference-rest in
-    let reference2 = c.before.before.before.before.before.reference-head in
-    let if2 = c.before.before.before.before.if-tag-eq-ELLIPSIS in
+    let a = c.args in
     let list = whole-list a.work.now _ _ _ _ _ _ c.bind_list.ensures in
-    elim c.before.before.before.if-rest-ne0.branch [
-      | inl y ↦ pattern-ellipsis a.work.now a.p _ word.ensures a.env.now _ _ reference.ensures reference2.ensures _ _ if2.true a.u _ y.1.ensures (subst (Binds a.work.now _ _ _) (sym y.5) (whole-binds a.work.now _ _ _ _ y.4.ensures)) list
-      | inr y ↦ pattern-last a.work.now a.p _ word.ensures a.env.now _ _ reference.ensures reference2.ensures _ _ if2.true a.u y.0.left y.1 list
+    elim c.if-rest-ne0.branch [
+      | inl y ↦ pattern-ellipsis a.work.now a.p _ c.word-tag.ensures a.env.now _ _ c.reference-rest.ensures c.reference-head.ensures _ _ c.if-tag-eq-ELLIPSIS.true a.u _ y.1.ensures (subst (Binds a.work.now _ _ _) (sym y.5) (whole-binds a.work.now _ _ _ _ y.4.ensures)) list
+      | inr y ↦ pattern-last a.work.now a.p _ c.word-tag.ensures a.env.now _ _ c.reference-rest.ensures c.reference-head.ensures _ _ c.if-tag-eq-ELLIPSIS.true a.u y.0.left y.1 list
     ]
 
 bind-returns-3 : (t : ℕ) → bind-lts.Need-returns-then-tag-ne-PAIR (bind-claims t) (bind-at t) bind.Post
 bind-returns-3 t c =
-    let a = c.before.before.before.before.before.before.before.args in pattern-none a.work.now a.p _ c.before.before.before.before.before.word-tag.ensures a.env.now a.u c.before.before.before.before.if-tag-eq-VARIABLE.false c.if-tag-ne-PAIR.true c.before.if-tag-eq-ELLIPSIS.false
+    let a = c.args in pattern-none a.work.now a.p _ c.word-tag.ensures a.env.now a.u c.if-tag-eq-VARIABLE.false c.if-tag-ne-PAIR.true c.if-tag-eq-ELLIPSIS.false
 
 bind-bind-requires-2 : (t : ℕ) → bind-lts.Need-bind-requires-2 (bind-claims t) (bind-at t) bind.Post
 bind-bind-requires-2 t c κs =
-    let a = c.before.before.before.before.before.before.before.before.before.before.args in let l = tag-falls a.work.now a.p _ c.before.before.before.before.before.before.before.before.word-tag.ensures 2 _ (λ z. omega arith) c.before.before.before.before.before.before.reference-rest.ensures in omega (arith, l)
+    let a = c.args in let l = tag-falls a.work.now a.p _ c.word-tag.ensures 2 _ (λ z. omega arith) c.reference-rest.ensures in omega (arith, l)
 
 bind-bind-requires-3 : (t : ℕ) → bind-lts.Need-bind-requires-3 (bind-claims t) (bind-at t) bind.Post
 bind-bind-requires-3 t c κs =
-    let a = c.before.before.before.before.before.before.before.before.before.before.before.before.before.before.args in let l = tag-falls a.work.now a.p _ c.before.before.before.before.before.before.before.before.before.before.before.before.word-tag.ensures 3 _ (λ z. omega arith) c.before.before.before.before.before.before.before.before.before.reference-head.ensures in omega (arith, l)
+    let a = c.args in let l = tag-falls a.work.now a.p _ c.word-tag.ensures 3 _ (λ z. omega arith) c.reference-head.ensures in omega (arith, l)
 
 bind-returns-4 : (t : ℕ) → bind-lts.Need-returns (bind-claims t) (bind-at t) bind.Post
 bind-returns-4 t c =
-    let a = c.before.before.before.before.before.before.before.before.before.before.before.before.before.before.before.args in pattern-pair a.work.now a.p _ c.before.before.before.before.before.before.before.before.before.before.before.before.before.word-tag.ensures a.env.now _ _ c.before.before.before.before.before.before.before.before.before.before.before.reference-rest.ensures c.before.before.before.before.before.before.before.before.before.before.reference-head.ensures _ _ c.before.before.before.before.before.before.before.before.if-tag-ne-PAIR.false a.u _ _ c.before.before.before.before.before.before.before.rest-tail.ensures (whole-binds a.work.now _ _ _ _ c.before.before.before.before.bind-2.ensures) c.before.before.before.first-first.ensures (whole-binds a.work.now _ _ _ _ c.bind-3.ensures)
+    let a = c.args in pattern-pair a.work.now a.p _ c.word-tag.ensures a.env.now _ _ c.reference-rest.ensures c.reference-head.ensures _ _ c.if-tag-ne-PAIR.false a.u _ _ c.rest-tail.ensures (whole-binds a.work.now _ _ _ _ c.bind-2.ensures) c.first-first.ensures (whole-binds a.work.now _ _ _ _ c.bind-3.ensures)
 
 pub +bind_spec : {M : Type 1} → statement M
 +bind_spec = close μ-bind λ t. bind-lts.spec (bind-claims t)

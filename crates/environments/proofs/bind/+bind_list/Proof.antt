@@ -30,27 +30,27 @@ bind-list-claims t = (word-reads.Asked, word-reads.Learnt, bind-variable-reads.A
 
 bind-list-returns : (t : ℕ) → bind-list-lts.Need-returns-then-tag-eq-VARIABLE (bind-list-claims t) (bind-list-at t) bind-list.Post
 bind-list-returns t c =
-    let a = c.before.before.before.before.before.before.args in list-variable a.work.now a.p _ c.before.before.before.before.word-tag.ensures a.env.now a.list a.first a.second _ _ c.before.before.before.if-tag-eq-VARIABLE.true c.before.before.word-k.ensures c.bind_variable.ensures
+    let a = c.args in list-variable a.work.now a.p _ c.word-tag.ensures a.env.now a.list a.first a.second _ _ c.if-tag-eq-VARIABLE.true c.word-k.ensures c.bind_variable.ensures
 
 bind-list-returns-2 : (t : ℕ) → bind-list-lts.Need-returns-then-tag-lt-PAIR (bind-list-claims t) (bind-list-at t) bind-list.Post
 bind-list-returns-2 t c =
-    let a = c.before.before.before.before.args in list-none a.work.now a.p _ c.before.before.word-tag.ensures a.env.now a.list a.first a.second c.before.if-tag-eq-VARIABLE.false (λ z. omega arith) (λ z. omega arith)
+    let a = c.args in list-none a.work.now a.p _ c.word-tag.ensures a.env.now a.list a.first a.second c.if-tag-eq-VARIABLE.false (λ z. omega arith) (λ z. omega arith)
 
 bind-list-returns-3 : (t : ℕ) → bind-list-lts.Need-returns-then-tag-gt-ELLIPSIS (bind-list-claims t) (bind-list-at t) bind-list.Post
 bind-list-returns-3 t c =
-    let a = c.before.before.before.before.before.args in list-none a.work.now a.p _ c.before.before.before.word-tag.ensures a.env.now a.list a.first a.second c.before.before.if-tag-eq-VARIABLE.false (λ z. omega arith) (λ z. omega arith)
+    let a = c.args in list-none a.work.now a.p _ c.word-tag.ensures a.env.now a.list a.first a.second c.if-tag-eq-VARIABLE.false (λ z. omega arith) (λ z. omega arith)
 
 bind-list-bind-list-requires : (t : ℕ) → bind-list-lts.Need-bind_list-requires (bind-list-claims t) (bind-list-at t) bind-list.Post
 bind-list-bind-list-requires t c κs =
-    let a = c.before.before.before.before.before.before.before.before.args in let l = tag-falls a.work.now a.p _ c.before.before.before.before.before.before.word-tag.ensures 2 _ (λ z. omega arith) c.before.before.reference-rest.ensures in omega (arith, l)
+    let a = c.args in let l = tag-falls a.work.now a.p _ c.word-tag.ensures 2 _ (λ z. omega arith) c.reference-rest.ensures in omega (arith, l)
 
 bind-list-bind-list-requires-2 : (t : ℕ) → bind-list-lts.Need-bind_list-requires-2 (bind-list-claims t) (bind-list-at t) bind-list.Post
 bind-list-bind-list-requires-2 t c κs =
-    let a = c.before.before.before.before.before.before.before.before.before.before.before.before.before.args in let l = tag-falls a.work.now a.p _ c.before.before.before.before.before.before.before.before.before.before.before.word-tag.ensures 3 _ (λ z. omega arith) c.before.before.before.reference-head.ensures in omega (arith, l)
+    let a = c.args in let l = tag-falls a.work.now a.p _ c.word-tag.ensures 3 _ (λ z. omega arith) c.reference-head.ensures in omega (arith, l)
 
 bind-list-returns-4 : (t : ℕ) → bind-list-lts.Need-returns (bind-list-claims t) (bind-list-at t) bind-list.Post
 bind-list-returns-4 t c =
-    let a = c.before.before.before.before.before.before.before.before.before.before.before.before.before.before.args in list-both a.work.now a.p _ c.before.before.before.before.before.before.before.before.before.before.before.before.word-tag.ensures a.env.now _ _ c.before.before.before.before.before.before.before.before.reference-rest.ensures c.before.before.before.before.reference-head.ensures _ _ (omega arith) (omega arith) a.list a.first a.second _ c.before.before.before.inner_second-inner.ensures (whole-list a.work.now _ _ _ _ _ _ c.before.before.before.before.before.bind_list.ensures) (whole-list a.work.now _ _ _ _ _ _ c.bind_list-2.ensures)
+    let a = c.args in list-both a.work.now a.p _ c.word-tag.ensures a.env.now _ _ c.reference-rest.ensures c.reference-head.ensures _ _ (omega arith) (omega arith) a.list a.first a.second _ c.inner_second-inner.ensures (whole-list a.work.now _ _ _ _ _ _ c.bind_list.ensures) (whole-list a.work.now _ _ _ _ _ _ c.bind_list-2.ensures)
 
 pub +bind_list_spec : {M : Type 1} → statement M
 +bind_list_spec = close μ-bind-list λ t. bind-list-lts.spec (bind-list-claims t)

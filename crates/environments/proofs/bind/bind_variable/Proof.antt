@@ -7,7 +7,7 @@ use Rattle.environments.specs.BindLaws.{one-past, one-stored}
 
 returns : tie.Need-returns-then-k-ge-VARIABLES
 returns c =
-    one-past c.before.args.k _ c.before.args.env.now c.if-k-ge-VARIABLES.true
+    one-past c.args.k _ c.args.env.now c.if-k-ge-VARIABLES.true
 
 put-requires : tie.Need-put-requires
 put-requires c κs =
@@ -16,7 +16,7 @@ put-requires c κs =
 returns-2 : tie.Need-returns
 unfolding bound
 returns-2 c =
-    one-stored c.before.before.before.args.k _ c.before.before.before.args.env.now _ c.put.ensures
+    one-stored c.args.k _ c.args.env.now _ c.put.ensures
 
 pub bind_variable_spec : {M : Type 1} → statement M
 bind_variable_spec = tie.close (tie.spec returns put-requires returns-2)

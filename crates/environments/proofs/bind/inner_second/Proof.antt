@@ -8,15 +8,15 @@ use Rattle.environments.specs.BindLaws.{inner-plain, inner-known, inner-own}
 
 returns : tie.Need-returns-then-tag-ne-ELLIPSIS
 returns c =
-    let a = c.before.args in inner-plain a.tag a.p a.second c.if-tag-ne-ELLIPSIS.true
+    let a = c.args in inner-plain a.tag a.p a.second c.if-tag-ne-ELLIPSIS.true
 
 returns-2 : tie.Need-returns-then-second-ne0
 returns-2 c =
-    let a = c.before.before.args in inner-known a.tag a.p a.second c.before.if-tag-ne-ELLIPSIS.false c.if-second-ne0.true
+    let a = c.args in inner-known a.tag a.p a.second c.if-tag-ne-ELLIPSIS.false c.if-second-ne0.true
 
 returns-3 : tie.Need-returns
 returns-3 c =
-    let a = c.before.before.args in inner-own a.tag a.p a.second c.before.if-tag-ne-ELLIPSIS.false c.if-second-ne0.false
+    let a = c.args in inner-own a.tag a.p a.second c.if-tag-ne-ELLIPSIS.false c.if-second-ne0.false
 
 pub inner_second_spec : {M : Type 1} → statement M
 inner_second_spec = tie.close (tie.spec returns returns-2 returns-3)

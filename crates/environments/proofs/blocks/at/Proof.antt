@@ -20,7 +20,7 @@ returns c =
 
 returns-2 : tie.Need-returns
 returns-2 c =
-    word-past c.before.args.work.now c.before.args.i c.if-i-work.false
+    word-past c.args.work.now c.args.i c.if-i-work.false
 
 pub at_spec : {M : Type 1} → statement M
 at_spec = tie.close (tie.spec mul-result shared-slice-read-result returns returns-2)

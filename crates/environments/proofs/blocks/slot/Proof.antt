@@ -11,9 +11,8 @@ use Rattle.environments.specs.BlockLaws.{slot-past, slot-in, slot-far, product-f
 
 returns : tie.Need-returns-then-count-i
 returns c =
-    let at_count = c.before in
-    let args' = at_count.before.before.args in
-    slot-past args'.work.now args'.block args'.s args'.i (omega (arith, at_count.count.ensures, c.if-count-i.true))
+    let args' = c.args in
+    slot-past args'.work.now args'.block args'.s args'.i (omega (arith, c.count.ensures, c.if-count-i.true))
 
 mul-before : tie.Need-overflow_mul-before
 mul-before c =
@@ -21,19 +20,13 @@ mul-before c =
 
 returns-2 : tie.Need-returns-then-work-before
 returns-2 c =
-    let at_at = c.before in
-    let at-if1 = at_at.before in
-    let at_count = at-if1.before in
-    let args' = at_count.before.before.args in
-    let l = c.if-work-before.true in slot-far args'.work.now args'.block args'.s args'.i (omega (arith, at_count.count.ensures, at-if1.if-count-i.false)) (subst (λ (n : ℕ). length args'.work.now ≤ args'.i * n) at_at.at-width.ensures l)
+    let args' = c.args in
+    let l = c.if-work-before.true in slot-far args'.work.now args'.block args'.s args'.i (omega (arith, c.count.ensures, c.if-count-i.false)) (subst (λ (n : ℕ). length args'.work.now ≤ args'.i * n) c.at-width.ensures l)
 
 returns-3 : tie.Need-returns
 returns-3 c =
-    let at_at = c.before.before in
-    let at-if1 = at_at.before in
-    let at_count = at-if1.before in
-    let args' = at_count.before.before.args in
-    c.at.ensures ∙ ap (λ (n : ℕ). word_in args'.work.now (args'.block + 2 + (args'.i * n + args'.s))) at_at.at-width.ensures ∙ slot-in args'.work.now args'.block args'.s args'.i (omega (arith, at_count.count.ensures, at-if1.if-count-i.false))
+    let args' = c.args in
+    c.at.ensures ∙ ap (λ (n : ℕ). word_in args'.work.now (args'.block + 2 + (args'.i * n + args'.s))) c.at-width.ensures ∙ slot-in args'.work.now args'.block args'.s args'.i (omega (arith, c.count.ensures, c.if-count-i.false))
 
 pub slot_spec : {M : Type 1} → statement M
 slot_spec =

@@ -25,22 +25,18 @@ enum-told-2 c =
 
 returns : tie.Need-returns-in-None
 returns c =
-    let at-drivers = c.before.before in
-    let args' = at-drivers.before.before.args in
-    counted_none args'.work.now args'.env.now args'.e args'.inner _ at-drivers.drivers.ensures c.enum_told-1.given.1
+    let args' = c.args in
+    counted_none args'.work.now args'.env.now args'.e args'.inner _ c.drivers.ensures c.in-None.is
 
 returns-2 : tie.Need-returns-in-Length
 returns-2 c =
-    let at_c = c.before in
-    let at-drivers = at_c.before.before in
-    let args' = at-drivers.before.before.args in
-    counted-some args'.work.now args'.env.now args'.e args'.inner _ at-drivers.drivers.ensures _ at_c.c-1.given.1
+    let args' = c.args in
+    counted-some args'.work.now args'.env.now args'.e args'.inner _ c.drivers.ensures _ c.in-Length.is
 
 returns-3 : tie.Need-returns-in-Differ
 returns-3 c =
-    let at-drivers = c.before.before in
-    let args' = at-drivers.before.before.args in
-    counted-differ args'.work.now args'.env.now args'.e args'.inner _ at-drivers.drivers.ensures c.enum_told-in-Differ-1.given.1
+    let args' = c.args in
+    counted-differ args'.work.now args'.env.now args'.e args'.inner _ c.drivers.ensures c.in-Differ.is
 
 pub copies_spec : {M : Type 1} → statement M
 copies_spec =

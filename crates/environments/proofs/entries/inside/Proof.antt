@@ -18,12 +18,12 @@ at-requires c κs =
 returns : tie.Need-returns-then-x-eq1
 unfolding inside
 returns c =
-    rw (c.at.ensures, c.before.before.if-x-eq1.true) refl
+    rw (c.at.ensures, c.if-x-eq1.true) refl
 
 returns-2 : tie.Need-returns
 unfolding inside
 returns-2 c =
-    rw (ne_eqb c.before.before.before.args.x.level 1 c.if-x-eq1.false) refl
+    rw (ne_eqb c.args.x.level 1 c.if-x-eq1.false) refl
 
 pub inside_spec : {M : Type 1} → statement M
 inside_spec = tie.close (tie.spec cast-at at-requires returns returns-2)

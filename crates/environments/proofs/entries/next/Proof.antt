@@ -10,20 +10,18 @@ use Rattle.environments.specs.Columns.{advance}
 returns : tie.Need-returns-then-x-eq1
 unfolding advance
 returns c =
-    rw (c.wrapping_add_u32.ensures, c.before.if-x-eq1.true) refl
+    rw (c.wrapping_add_u32.ensures, c.if-x-eq1.true) refl
 
 returns-2 : tie.Need-returns-then-x-eq2
 unfolding advance
 returns-2 c =
-    rw (c.wrapping_add_u32-then-x-eq2.ensures, c.before.if-x-eq2.true) refl
+    rw (c.wrapping_add_u32-then-x-eq2.ensures, c.if-x-eq2.true) refl
 
 returns-3 : tie.Need-returns
 unfolding advance
 returns-3 c =
-    let at-if2 = c.before in
-    let at-if1 = at-if2.before.before in
-    let args' = at-if1.before.before.args in
-    rw (c.wrapping_add_u32-2.ensures, ne_eqb args'.x.level 1 at-if1.if-x-eq1.false, ne_eqb args'.x.level 2 at-if2.if-x-eq2.false) refl
+    let args' = c.args in
+    rw (c.wrapping_add_u32-2.ensures, ne_eqb args'.x.level 1 c.if-x-eq1.false, ne_eqb args'.x.level 2 c.if-x-eq2.false) refl
 
 pub next_spec : {M : Type 1} → statement M
 next_spec =

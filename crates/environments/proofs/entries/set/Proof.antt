@@ -11,7 +11,7 @@ use Rattle.environments.specs.ColumnLaws.{set_past, set-kept, set-stored}
 
 returns : tie.Need-returns-then-k-ge-VARIABLES
 returns c =
-    set_past c.before.args.k c.before.args.x c.before.args.env.now c.if-k-ge-VARIABLES.true
+    set_past c.args.k c.args.x c.args.env.now c.if-k-ge-VARIABLES.true
 
 get-requires : tie.Need-get-old-requires
 get-requires c κs =
@@ -19,9 +19,8 @@ get-requires c κs =
 
 returns-2 : tie.Need-returns-then-old-ne0
 returns-2 c =
-    let at-get = c.before.before in
-    let args' = at-get.before.before.before.before.args in
-    set-kept args'.k args'.x args'.env.now (λ z. c.if-old-ne0.true (ap (λ (y : Entry). y.level) at-get.get-old.ensures ∙ z))
+    let args' = c.args in
+    set-kept args'.k args'.x args'.env.now (λ z. c.if-old-ne0.true (ap (λ (y : Entry). y.level) c.get-old.ensures ∙ z))
 
 put-requires : tie.Need-put-requires
 put-requires c κs =
@@ -29,10 +28,8 @@ put-requires c κs =
 
 returns-3 : tie.Need-returns
 returns-3 c =
-    let at-if2 = c.before in
-    let at-get = at-if2.before.before in
-    let args' = at-get.before.before.before.before.args in
-    set-stored args'.k args'.x args'.env.now _ (sym (ap (λ (y : Entry). y.level) at-get.get-old.ensures) ∙ at-if2.if-old-ne0.false) c.put.ensures
+    let args' = c.args in
+    set-stored args'.k args'.x args'.env.now _ (sym (ap (λ (y : Entry). y.level) c.get-old.ensures) ∙ c.if-old-ne0.false) c.put.ensures
 
 pub set_spec : {M : Type 1} → statement M
 set_spec = tie.close (tie.spec returns get-requires returns-2 put-requires returns-3)

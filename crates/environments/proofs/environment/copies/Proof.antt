@@ -10,45 +10,42 @@ use Rattle.environments.specs.EntryLaws.{next-most, copies-out, copies-flat, cop
 
 returns : tie.Need-returns-then-k-ge-VARIABLES
 returns c =
-    let a = c.before.before.before.args in
-    copies-out a.work.now a.env.now a.k a.d c.before.table-1.given.0 c.if-k-ge-VARIABLES.true
+    let a = c.args in
+    copies-out a.work.now a.env.now a.k a.d c.table-1.given.0 c.if-k-ge-VARIABLES.true
 
 add-i : tie.Need-overflow_add-i
 add-i c =
-    omega (arith, c.next_level.ensures, next-most c.before.before.before.before.args.d, c.before.before.table-1.given.0, c.before.if-k-ge-VARIABLES.false)
+    omega (arith, c.next_level.ensures, next-most c.args.d, c.table-1.given.0, c.if-k-ge-VARIABLES.false)
 
 add-ellipsis : tie.Need-overflow_add-ellipsis
 add-ellipsis c =
-    omega (arith, c.next_level.ensures, next-most c.before.before.before.before.args.d, c.before.before.table-1.given.0, c.before.if-k-ge-VARIABLES.false)
+    omega (arith, c.next_level.ensures, next-most c.args.d, c.table-1.given.0, c.if-k-ge-VARIABLES.false)
 
 mul-ellipsis : tie.Need-offset_bounds-table-i
 mul-ellipsis c =
-    omega (arith, c.next_level.ensures, next-most c.before.before.before.before.args.d, c.before.before.table-1.given.0, c.before.if-k-ge-VARIABLES.false)
+    omega (arith, c.next_level.ensures, next-most c.args.d, c.table-1.given.0, c.if-k-ge-VARIABLES.false)
 
 shared-slice-read-ellipsis : tie.Need-bounds-table-i
 shared-slice-read-ellipsis c =
-    let level = c.before.next_level in
-    omega (arith, level.ensures, next-most c.before.before.before.before.before.args.d, c.before.before.before.table-1.given.0, c.before.before.if-k-ge-VARIABLES.false)
+    omega (arith, c.next_level.ensures, next-most c.args.d, c.table-1.given.0, c.if-k-ge-VARIABLES.false)
 
 returns-2 : tie.Need-returns-then-ellipsis-eq0
 returns-2 c =
-    let a = c.before.before.before.before.before.before.args in
-    copies-flat a.work.now a.env.now a.k a.d _ _ c.before.before.next_level.ensures refl c.if-ellipsis-eq0.true
+    let a = c.args in
+    copies-flat a.work.now a.env.now a.k a.d _ _ c.next_level.ensures refl c.if-ellipsis-eq0.true
 
 mul-share : tie.Need-offset_bounds-table-i-2
 mul-share c =
-    let level = c.before.before.next_level in
-    omega (arith, level.ensures, next-most c.before.before.before.before.before.before.args.d, c.before.before.before.before.table-1.given.0, c.before.before.before.if-k-ge-VARIABLES.false)
+    omega (arith, c.next_level.ensures, next-most c.args.d, c.table-1.given.0, c.if-k-ge-VARIABLES.false)
 
 shared-slice-read-share : tie.Need-bounds-table-i-2
 shared-slice-read-share c =
-    let level = c.before.before.before.next_level in
-    omega (arith, level.ensures, next-most c.before.before.before.before.before.before.before.args.d, c.before.before.before.before.before.table-1.given.0, c.before.before.before.before.if-k-ge-VARIABLES.false)
+    omega (arith, c.next_level.ensures, next-most c.args.d, c.table-1.given.0, c.if-k-ge-VARIABLES.false)
 
 returns-3 : tie.Need-returns
 returns-3 c =
-    let a = c.before.before.before.before.before.before.before.before.args in
-    copies-in a.work.now a.env.now a.k a.d _ _ c.before.before.before.before.next_level.ensures refl c.before.before.if-ellipsis-eq0.false _ c.share.ensures
+    let a = c.args in
+    copies-in a.work.now a.env.now a.k a.d _ _ c.next_level.ensures refl c.if-ellipsis-eq0.false _ c.share.ensures
 
 pub copies_spec : {M : Type 1} → statement M
 copies_spec =

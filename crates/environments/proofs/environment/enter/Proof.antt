@@ -15,36 +15,35 @@ decreases-loop work moving table₀ k₀ table k =
 
 loop-holds : tie.Need-loop-k-init invariant-loop decreases-loop
 loop-holds c =
-    (omega arith, c.table-1.given.0.1, enter-begins c.before.before.args.work.now c.before.before.args.env.now)
+    (omega arith, c.table-1.given.0.1, enter-begins c.args.work.now c.args.env.now)
 
 get-requires : tie.Need-get-x-requires invariant-loop decreases-loop
 get-requires c κs =
-    (c.before.before.loop-k.invariant.1, omega (arith, c.before.before.before.before.before.requires.among))
+    (c.loop-k.invariant.1, omega (arith, c.requires.among))
 
 cast-next : tie.Need-overflow_cast-k invariant-loop decreases-loop
 cast-next c =
-    omega (arith, c.before.before.before.before.before.before.before.before.before.requires.among)
+    omega (arith, c.requires.among)
 
 next-requires : tie.Need-next-requires invariant-loop decreases-loop
 next-requires c κs =
-    c.before.if-x-ne0.true
+    c.if-x-ne0.true
 
 put-requires : tie.Need-put-requires invariant-loop decreases-loop
 put-requires c κs =
-    (c.before.before.before.before.before.before.before.loop-k.invariant.1, omega (arith, c.before.before.before.before.before.before.before.before.before.before.requires.among))
+    (c.loop-k.invariant.1, omega (arith, c.requires.among))
 
 loop-again : tie.Need-loop-k-preserved invariant-loop decreases-loop
 loop-again c =
-    let a = c.before.before.before.before.before.before.before.before.args in
-    let l = c.before.before.before.before.before.loop-k in
+    let a = c.args in
     ⊎_elim
-    (λ w. rw w.6 (omega arith, w.3.kept.0 ∙ l.invariant.1, enter-next a.work.now a.env.now l.k _ _ l.invariant.2 c.before.before.get-x.ensures _ _ w.0.taken w.2.ensures w.3.ensures))
-    (λ w. rw w.1 (omega arith, l.invariant.1, enter-flat a.work.now a.env.now l.k _ _ l.invariant.2 c.before.before.get-x.ensures w.0.left))
+    (λ w. rw w.6 (omega arith, w.3.kept.0 ∙ c.loop-k.invariant.1, enter-next a.work.now a.env.now c.loop-k.k _ _ c.loop-k.invariant.2 c.get-x.ensures _ _ w.0.taken w.2.ensures w.3.ensures))
+    (λ w. rw w.1 (omega arith, c.loop-k.invariant.1, enter-flat a.work.now a.env.now c.loop-k.k _ _ c.loop-k.invariant.2 c.get-x.ensures w.0.left))
     c.if-x-ne0.branch
 
 returns : tie.Need-returns invariant-loop decreases-loop
 returns c =
-    let a = c.before.before.before.before.args in entered_all a.work.now a.env.now a.moving c.before.loop-k.k _ c.before.before.before.before.requires (omega arith) c.before.loop-k.invariant.2
+    let a = c.args in entered_all a.work.now a.env.now a.moving c.loop-k.k _ c.requires (omega arith) c.loop-k.invariant.2
 
 pub enter_spec : {M : Type 1} → statement M
 enter_spec =

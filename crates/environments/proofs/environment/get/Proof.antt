@@ -6,7 +6,7 @@ use Rattle.environments.specs.EntryLaws.{entry-is}
 
 returns : tie.Need-returns
 returns c =
-    entry-is c.before.before.before.before.before.before.before.args.env.now c.before.before.before.before.before.before.before.args.k
+    entry-is c.args.env.now c.args.k
 
 pub get_spec : {M : Type 1} → statement M
 get_spec =

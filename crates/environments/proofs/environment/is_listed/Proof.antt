@@ -23,11 +23,11 @@ returns-3 c =
 
 shared-slice-read-q : tie.Need-bounds-table-k
 shared-slice-read-q c =
-    omega (arith, c.before.before.before.before.before.before.before.table-1.given.0, c.before.if-k-ge-VARIABLES.false)
+    omega (arith, c.table-1.given.0, c.if-k-ge-VARIABLES.false)
 
 returns-4 : tie.Need-returns
 returns-4 c =
-    listed-is c.before.before.before.before.before.before.before.before.before.before.before.args.work.now c.before.before.before.before.before.before.before.before.before.before.before.args.env.now c.before.before.before.before.before.before.before.before.before.before.before.args.e _ _ _ _ _ c.before.before.before.before.before.before.before.before.word.ensures c.before.before.before.before.before.before.before.if-word-ne-VARIABLE.false c.before.before.before.before.before.before.word-2.ensures c.before.before.before.before.before.if-word-ne1.false c.before.before.before.before.word-k.ensures c.before.reference-element.ensures c.word-3.ensures
+    listed-is c.args.work.now c.args.env.now c.args.e _ _ _ _ _ c.word.ensures c.if-word-ne-VARIABLE.false c.word-2.ensures c.if-word-ne1.false c.word-k.ensures c.reference-element.ensures c.word-3.ensures
 
 pub is_listed_spec : {M : Type 1} → statement M
 is_listed_spec =

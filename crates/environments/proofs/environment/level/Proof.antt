@@ -5,11 +5,11 @@ use Rattle.environments.specs.EntryLaws.{level-small, level-more}
 
 returns : tie.Need-returns-then-d-lt2
 returns c =
-    level-small c.before.args.d c.if-d-lt2.true
+    level-small c.args.d c.if-d-lt2.true
 
 returns-2 : tie.Need-returns
 returns-2 c =
-    level-more c.before.args.d c.if-d-lt2.false
+    level-more c.args.d c.if-d-lt2.false
 
 pub level_spec : {M : Type 1} → statement M
 level_spec = tie.close (tie.spec returns returns-2)

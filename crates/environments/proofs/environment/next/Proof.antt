@@ -23,7 +23,7 @@ rest-requires-2 c κs =
 returns : tie.Need-returns
 unfolding next_of
 returns c =
-    let a = c.before.before.before.before.before.args in next-is a.work.now a.k a.x _ _ _ _ c.before.before.before.before.before.requires c.before.before.before.within-one.ensures c.before.before.within-two.ensures c.before.rest-along.ensures c.rest-across.ensures
+    let a = c.args in next-is a.work.now a.k a.x _ _ _ _ c.requires c.within-one.ensures c.within-two.ensures c.rest-along.ensures c.rest-across.ensures
 
 pub next_spec : {M : Type 1} → statement M
 next_spec =

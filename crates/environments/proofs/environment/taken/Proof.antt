@@ -6,23 +6,23 @@ use Rattle.environments.specs.EntryLaws.{level-most, taken_out, taken_in}
 
 returns : tie.Need-returns-then-k-ge-VARIABLES
 returns c =
-    taken_out c.before.before.args.env.now c.before.before.args.k c.before.before.args.d c.before.table-1.given.0 c.if-k-ge-VARIABLES.true
+    taken_out c.args.env.now c.args.k c.args.d c.table-1.given.0 c.if-k-ge-VARIABLES.true
 
 add-result : tie.Need-overflow_add-result
 add-result c =
-    omega (arith, c.level.ensures, level-most c.before.before.before.args.d)
+    omega (arith, c.level.ensures, level-most c.args.d)
 
 mul-result-2 : tie.Need-offset_bounds-table-k
 mul-result-2 c =
-    omega (arith, c.level.ensures, level-most c.before.before.before.args.d)
+    omega (arith, c.level.ensures, level-most c.args.d)
 
 shared-slice-read-result : tie.Need-bounds-table-k
 shared-slice-read-result c =
-    omega (arith, c.before.level.ensures, level-most c.before.before.before.before.args.d, c.before.before.before.table-1.given.0)
+    omega (arith, c.level.ensures, level-most c.args.d, c.table-1.given.0)
 
 returns-2 : tie.Need-returns
 returns-2 c =
-    taken_in c.before.before.before.before.args.env.now c.before.before.before.before.args.k c.before.before.before.before.args.d _ c.before.level.ensures
+    taken_in c.args.env.now c.args.k c.args.d _ c.level.ensures
 
 pub taken_spec : {M : Type 1} → statement M
 taken_spec =

@@ -11,7 +11,7 @@ use Rattle.environments.specs.EntryLaws.{within-flat, within-part}
 
 returns : tie.Need-returns-then-q-eq0
 returns c =
-    let a = c.before.before.args in within-flat a.work.now a.q a.k a.list a.before c.if-q-eq0.true
+    let a = c.args in within-flat a.work.now a.q a.k a.list a.before c.if-q-eq0.true
 
 reference-requires : tie.Need-reference-element-requires
 reference-requires c κs =
@@ -27,7 +27,7 @@ part-requires c κs =
 
 returns-2 : tie.Need-returns
 returns-2 c =
-    let a = c.before.before.before.before.before.args in within-part a.work.now a.q a.k a.list a.before _ _ _ c.before.before.before.if-q-eq0.false c.before.before.reference-element.ensures c.before.first-first.ensures c.part.ensures
+    let a = c.args in within-part a.work.now a.q a.k a.list a.before _ _ _ c.if-q-eq0.false c.reference-element.ensures c.first-first.ensures c.part.ensures
 
 pub within_spec : {M : Type 1} → statement M
 within_spec =

@@ -48,152 +48,67 @@ fill-rows-claims t = (first_reads.Asked, first_reads.Learnt, rest-reads.Asked, r
 
 fill-slice-write-work : (t : ℕ) → fill-lts.Need-bounds-work-x (fill-claims t) (fill-at t) fill.Post
 fill-slice-write-work t c =
-    let at-if1 = c.before in
-    let at-word = at-if1.before in
-    let at-args = at-word.before.before.before in
-    row_inside at-args.args.work.now at-args.args.p at-args.args.u at-args.args.x _ at-word.word-tag.ensures at-args.requires.1 at-if1.if-tag-eq-VARIABLE.true
+    row_inside c.args.work.now c.args.p c.args.u c.args.x _ c.word-tag.ensures c.requires.1 c.if-tag-eq-VARIABLE.true
 
 fill-add-t19 : (t : ℕ) → fill-lts.Need-overflow_add-result (fill-claims t) (fill-at t) fill.Post
 fill-add-t19 t c =
-    let at-if1 = c.before.before in
-    let at-word = at-if1.before in
-    let at-args = at-word.before.before.before in
-    let s = variable-small at-args.args.work.now at-args.args.p at-args.args.u at-args.args.x _ at-word.word-tag.ensures at-args.requires.1 at-if1.if-tag-eq-VARIABLE.true in omega (arith, s)
+    let s = variable-small c.args.work.now c.args.p c.args.u c.args.x _ c.word-tag.ensures c.requires.1 c.if-tag-eq-VARIABLE.true in omega (arith, s)
 
 fill-returns : (t : ℕ) → fill-lts.Need-returns-then-tag-eq-VARIABLE (fill-claims t) (fill-at t) fill.Post
 fill-returns t c =
-    let at-if1 = c.before.before in
-    let at-word = at-if1.before in
-    let at-args = at-word.before.before.before in
-    filled-variable at-args.args.work.now at-args.args.p at-args.args.u at-args.args.x _ at-word.word-tag.ensures at-args.requires.1 at-if1.if-tag-eq-VARIABLE.true
+    filled-variable c.args.work.now c.args.p c.args.u c.args.x _ c.word-tag.ensures c.requires.1 c.if-tag-eq-VARIABLE.true
 
 fill-open-block-requires : (t : ℕ) → fill-lts.Need-open_block-b-requires (fill-claims t) (fill-at t) fill.Post
 fill-open-block-requires t c κs =
-    let at-if2 = c.before in
-    let at-reference2 = at-if2.before in
-    let at-reference = at-reference2.before.before in
-    let at-word = at-reference.before.before.before in
-    let at-args = at-word.before.before.before in
-    ellipsis-openable at-args.args.work.now at-args.args.p at-args.args.u at-args.args.x _ at-word.word-tag.ensures at-args.requires.1 _ _ at-reference.reference-rest.ensures at-reference2.reference-head.ensures at-if2.if-tag-eq-ELLIPSIS.true
+    ellipsis-openable c.args.work.now c.args.p c.args.u c.args.x _ c.word-tag.ensures c.requires.1 _ _ c.reference-rest.ensures c.reference-head.ensures c.if-tag-eq-ELLIPSIS.true
 
 fill-add-t28 : (t : ℕ) → fill-lts.Need-overflow_add-x (fill-claims t) (fill-at t) fill.Post
 fill-add-t28 t c =
-    let at-open-block = c.before.before.before.before in
-    let at-if2 = at-open-block.before.before in
-    let at-reference2 = at-if2.before in
-    let at-reference = at-reference2.before.before in
-    let at-word = at-reference.before.before.before in
-    let at-args = at-word.before.before.before in
-    let s = rows-small at-args.args.work.now at-args.args.p at-args.args.u at-args.args.x _ at-word.word-tag.ensures at-args.requires.1 _ _ at-reference.reference-rest.ensures at-reference2.reference-head.ensures at-if2.if-tag-eq-ELLIPSIS.true _ _ _ at-open-block.open_block-b.ensures at-open-block.open_block-b.auto.0 in omega (arith, s)
+    let s = rows-small c.args.work.now c.args.p c.args.u c.args.x _ c.word-tag.ensures c.requires.1 _ _ c.reference-rest.ensures c.reference-head.ensures c.if-tag-eq-ELLIPSIS.true _ _ _ c.open_block-b.ensures c.open_block-b.auto.work in omega (arith, s)
 
 fill-fill-rows-requires : (t : ℕ) → fill-lts.Need-fill_rows-y-requires (fill-claims t) (fill-at t) fill.Post
 fill-fill-rows-requires t c κs =
-    let at-open-block = c.before.before.before.before in
-    let at-if2 = at-open-block.before.before in
-    let at-reference2 = at-if2.before in
-    let at-reference = at-reference2.before.before in
-    let at-word = at-reference.before.before.before in
-    let at-args = at-word.before.before.before in
-    let l = part_falls at-args.args.work.now at-args.args.p _ at-word.word-tag.ensures 3 _ (λ z. omega arith) at-reference2.reference-head.ensures in (omega (arith, l, at-args.requires.0), ellipsis-rows at-args.args.work.now at-args.args.p at-args.args.u at-args.args.x _ at-word.word-tag.ensures at-args.requires.1 _ _ at-reference.reference-rest.ensures at-reference2.reference-head.ensures at-if2.if-tag-eq-ELLIPSIS.true _ _ _ at-open-block.open_block-b.ensures at-open-block.open_block-b.auto.0)
+    let l = part_falls c.args.work.now c.args.p _ c.word-tag.ensures 3 _ (λ z. omega arith) c.reference-head.ensures in (omega (arith, l, c.requires.0), ellipsis-rows c.args.work.now c.args.p c.args.u c.args.x _ c.word-tag.ensures c.requires.1 _ _ c.reference-rest.ensures c.reference-head.ensures c.if-tag-eq-ELLIPSIS.true _ _ _ c.open_block-b.ensures c.open_block-b.auto.work)
 
 fill-slice-write-work-2 : (t : ℕ) → fill-lts.Need-bounds-work-x-then-tag-eq-ELLIPSIS (fill-claims t) (fill-at t) fill.Post
 fill-slice-write-work-2 t c =
-    let at-fill-rows = c.before.before.before in
-    let at-open-block = at-fill-rows.before.before.before.before.before in
-    let at-if2 = at-open-block.before.before in
-    let at-reference2 = at-if2.before in
-    let at-reference = at-reference2.before.before in
-    let at-word = at-reference.before.before.before in
-    let at-args = at-word.before.before.before in
-    slot-inside at-args.args.work.now at-args.args.p at-args.args.u at-args.args.x _ at-word.word-tag.ensures at-args.requires.1 _ _ at-reference.reference-rest.ensures at-reference2.reference-head.ensures at-if2.if-tag-eq-ELLIPSIS.true _ _ _ at-open-block.open_block-b.ensures at-open-block.open_block-b.auto.0 _ _ _ at-fill-rows.fill_rows-y.ensures at-fill-rows.fill_rows-y.auto.0
+    slot-inside c.args.work.now c.args.p c.args.u c.args.x _ c.word-tag.ensures c.requires.1 _ _ c.reference-rest.ensures c.reference-head.ensures c.if-tag-eq-ELLIPSIS.true _ _ _ c.open_block-b.ensures c.open_block-b.auto.work _ _ _ c.fill_rows-y.ensures c.fill_rows-y.auto.work
 
 fill-add-t28-2 : (t : ℕ) → fill-lts.Need-overflow_add-x-then-tag-eq-ELLIPSIS (fill-claims t) (fill-at t) fill.Post
 fill-add-t28-2 t c =
-    let at-fill-rows = c.before.before.before.before.before in
-    let at-open-block = at-fill-rows.before.before.before.before.before in
-    let at-if2 = at-open-block.before.before in
-    let at-reference2 = at-if2.before in
-    let at-reference = at-reference2.before.before in
-    let at-word = at-reference.before.before.before in
-    let at-args = at-word.before.before.before in
-    let s = slot_small at-args.args.work.now at-args.args.p at-args.args.u at-args.args.x _ at-word.word-tag.ensures at-args.requires.1 _ _ at-reference.reference-rest.ensures at-reference2.reference-head.ensures at-if2.if-tag-eq-ELLIPSIS.true _ _ _ at-open-block.open_block-b.ensures at-open-block.open_block-b.auto.0 _ _ _ at-fill-rows.fill_rows-y.ensures at-fill-rows.fill_rows-y.auto.0 in omega (arith, s)
+    let s = slot_small c.args.work.now c.args.p c.args.u c.args.x _ c.word-tag.ensures c.requires.1 _ _ c.reference-rest.ensures c.reference-head.ensures c.if-tag-eq-ELLIPSIS.true _ _ _ c.open_block-b.ensures c.open_block-b.auto.work _ _ _ c.fill_rows-y.ensures c.fill_rows-y.auto.work in omega (arith, s)
 
 fill-fill-requires : (t : ℕ) → fill-lts.Need-fill-requires (fill-claims t) (fill-at t) fill.Post
 fill-fill-requires t c κs =
-    let at-fill-rows = c.before.before.before.before.before in
-    let at-open-block = at-fill-rows.before.before.before.before.before in
-    let at-if2 = at-open-block.before.before in
-    let at-reference2 = at-if2.before in
-    let at-reference = at-reference2.before.before in
-    let at-word = at-reference.before.before.before in
-    let at-args = at-word.before.before.before in
-    let l = part_falls at-args.args.work.now at-args.args.p _ at-word.word-tag.ensures 2 _ (λ z. omega arith) at-reference.reference-rest.ensures in (omega (arith, l, at-args.requires.0), fillable-behind at-args.args.work.now at-args.args.p at-args.args.u at-args.args.x _ at-word.word-tag.ensures at-args.requires.1 _ _ at-reference.reference-rest.ensures at-reference2.reference-head.ensures at-if2.if-tag-eq-ELLIPSIS.true _ _ _ at-open-block.open_block-b.ensures at-open-block.open_block-b.auto.0 _ _ _ at-fill-rows.fill_rows-y.ensures at-fill-rows.fill_rows-y.auto.0)
+    let l = part_falls c.args.work.now c.args.p _ c.word-tag.ensures 2 _ (λ z. omega arith) c.reference-rest.ensures in (omega (arith, l, c.requires.0), fillable-behind c.args.work.now c.args.p c.args.u c.args.x _ c.word-tag.ensures c.requires.1 _ _ c.reference-rest.ensures c.reference-head.ensures c.if-tag-eq-ELLIPSIS.true _ _ _ c.open_block-b.ensures c.open_block-b.auto.work _ _ _ c.fill_rows-y.ensures c.fill_rows-y.auto.work)
 
 fill-same-length-2 : (t : ℕ) → fill-lts.Need-shape_of-work-then-tag-eq-ELLIPSIS (fill-claims t) (fill-at t) fill.Post
 fill-same-length-2 t c =
-    let at_fill_lem = c.before.before in
-    let at-fill-rows = at_fill_lem.before.before.before.before.before.before in
-    (simp length-set at at_fill_lem.fill.auto.0) ∙ at-fill-rows.fill_rows-y.auto.0 ∙ at-fill-rows.before.before.before.before.before.open_block-b.auto.0
+    (simp length-set at c.fill.auto.work) ∙ c.fill_rows-y.auto.work ∙ c.open_block-b.auto.work
 
 fill-returns-2 : (t : ℕ) → fill-lts.Need-returns-then-tag-eq-ELLIPSIS (fill-claims t) (fill-at t) fill.Post
 fill-returns-2 t c =
-    let at_fill_lem = c.before.before in
-    let at-fill-rows = at_fill_lem.before.before.before.before.before.before in
-    let at-open-block = at-fill-rows.before.before.before.before.before in
-    let at-if2 = at-open-block.before.before in
-    let at-reference2 = at-if2.before in
-    let at-reference = at-reference2.before.before in
-    let at-word = at-reference.before.before.before in
-    let at-args = at-word.before.before.before in
-    filled-ellipsis at-args.args.work.now at-args.args.p at-args.args.u at-args.args.x _ at-word.word-tag.ensures at-args.requires.1 _ _ at-reference.reference-rest.ensures at-reference2.reference-head.ensures at-if2.if-tag-eq-ELLIPSIS.true _ _ _ at-open-block.open_block-b.ensures at-open-block.open_block-b.auto.0 _ _ _ at-fill-rows.fill_rows-y.ensures at-fill-rows.fill_rows-y.auto.0 _ _ at_fill_lem.fill.ensures
+    filled-ellipsis c.args.work.now c.args.p c.args.u c.args.x _ c.word-tag.ensures c.requires.1 _ _ c.reference-rest.ensures c.reference-head.ensures c.if-tag-eq-ELLIPSIS.true _ _ _ c.open_block-b.ensures c.open_block-b.auto.work _ _ _ c.fill_rows-y.ensures c.fill_rows-y.auto.work _ _ c.fill.ensures
 
 fill-returns-3 : (t : ℕ) → fill-lts.Need-returns-then-tag-ne-PAIR (fill-claims t) (fill-at t) fill.Post
 fill-returns-3 t c =
-    let at-if2 = c.before in
-    let at-if1 = at-if2.before.before.before.before.before in
-    let at-word = at-if1.before in
-    let at-args = at-word.before.before.before in
-    filled_none at-args.args.work.now at-args.args.p at-args.args.u at-args.args.x _ at-word.word-tag.ensures at-args.requires.1 at-if1.if-tag-eq-VARIABLE.false c.if-tag-ne-PAIR.true at-if2.if-tag-eq-ELLIPSIS.false
+    filled_none c.args.work.now c.args.p c.args.u c.args.x _ c.word-tag.ensures c.requires.1 c.if-tag-eq-VARIABLE.false c.if-tag-ne-PAIR.true c.if-tag-eq-ELLIPSIS.false
 
 fill-fill-requires-2 : (t : ℕ) → fill-lts.Need-fill-y-requires (fill-claims t) (fill-at t) fill.Post
 fill-fill-requires-2 t c κs =
-    let at_rest = c.before in
-    let at_first = at_rest.before.before in
-    let at-if3 = at_first.before.before in
-    let at-reference2 = at-if3.before.before in
-    let at-reference = at-reference2.before.before in
-    let at-word = at-reference.before.before.before in
-    let at-args = at-word.before.before.before in
-    let l = part_falls at-args.args.work.now at-args.args.p _ at-word.word-tag.ensures 3 _ (λ z. omega arith) at-reference2.reference-head.ensures in (omega (arith, l, at-args.requires.0), fillable-head at-args.args.work.now at-args.args.p at-args.args.u at-args.args.x _ at-word.word-tag.ensures at-args.requires.1 _ _ _ _ at-reference2.reference-head.ensures at-reference.reference-rest.ensures at-if3.if-tag-ne-PAIR.false at_first.first-first.ensures at_rest.rest-tail.ensures)
+    let l = part_falls c.args.work.now c.args.p _ c.word-tag.ensures 3 _ (λ z. omega arith) c.reference-head.ensures in (omega (arith, l, c.requires.0), fillable-head c.args.work.now c.args.p c.args.u c.args.x _ c.word-tag.ensures c.requires.1 _ _ _ _ c.reference-head.ensures c.reference-rest.ensures c.if-tag-ne-PAIR.false c.first-first.ensures c.rest-tail.ensures)
 
 fill-fill-requires-3 : (t : ℕ) → fill-lts.Need-fill-requires-2 (fill-claims t) (fill-at t) fill.Post
 fill-fill-requires-3 t c κs =
-    let at-fill2 = c.before.before.before in
-    let at_rest = at-fill2.before.before in
-    let at_first = at_rest.before.before in
-    let at-if3 = at_first.before.before in
-    let at-reference2 = at-if3.before.before in
-    let at-reference = at-reference2.before.before in
-    let at-word = at-reference.before.before.before in
-    let at-args = at-word.before.before.before in
-    let l = part_falls at-args.args.work.now at-args.args.p _ at-word.word-tag.ensures 2 _ (λ z. omega arith) at-reference.reference-rest.ensures in (omega (arith, l, at-args.requires.0), fillable-rest at-args.args.work.now at-args.args.p at-args.args.u at-args.args.x _ at-word.word-tag.ensures at-args.requires.1 _ _ _ _ at-reference2.reference-head.ensures at-reference.reference-rest.ensures at-if3.if-tag-ne-PAIR.false at_first.first-first.ensures at_rest.rest-tail.ensures _ _ at-fill2.fill-y.auto.0 at-fill2.fill-y.ensures)
+    let l = part_falls c.args.work.now c.args.p _ c.word-tag.ensures 2 _ (λ z. omega arith) c.reference-rest.ensures in (omega (arith, l, c.requires.0), fillable-rest c.args.work.now c.args.p c.args.u c.args.x _ c.word-tag.ensures c.requires.1 _ _ _ _ c.reference-head.ensures c.reference-rest.ensures c.if-tag-ne-PAIR.false c.first-first.ensures c.rest-tail.ensures _ _ c.fill-y.auto.work c.fill-y.ensures)
 
 fill-same-length-4 : (t : ℕ) → fill-lts.Need-shape_of-work (fill-claims t) (fill-at t) fill.Post
 fill-same-length-4 t c =
-    c.before.before.fill-2.auto.0 ∙ c.before.before.before.before.before.before.fill-y.auto.0
+    c.fill-2.auto.work ∙ c.fill-y.auto.work
 
 fill-returns-4 : (t : ℕ) → fill-lts.Need-returns (fill-claims t) (fill-at t) fill.Post
 fill-returns-4 t c =
-    let at-fill3 = c.before.before in
-    let at-fill2 = at-fill3.before.before.before.before in
-    let at_rest = at-fill2.before.before in
-    let at_first = at_rest.before.before in
-    let at-if3 = at_first.before.before in
-    let at-reference2 = at-if3.before.before in
-    let at-reference = at-reference2.before.before in
-    let at-word = at-reference.before.before.before in
-    let at-args = at-word.before.before.before in
-    filled-pair at-args.args.work.now at-args.args.p at-args.args.u at-args.args.x _ at-word.word-tag.ensures at-args.requires.1 _ _ _ _ at-reference2.reference-head.ensures at-reference.reference-rest.ensures at-if3.if-tag-ne-PAIR.false at_first.first-first.ensures at_rest.rest-tail.ensures _ _ at-fill2.fill-y.auto.0 at-fill2.fill-y.ensures _ _ at-fill3.fill-2.ensures
+    filled-pair c.args.work.now c.args.p c.args.u c.args.x _ c.word-tag.ensures c.requires.1 _ _ _ _ c.reference-head.ensures c.reference-rest.ensures c.if-tag-ne-PAIR.false c.first-first.ensures c.rest-tail.ensures _ _ c.fill-y.auto.work c.fill-y.ensures _ _ c.fill-2.ensures
 
 abbrev fill-rows-Inv-loop : fill-rows-lts.invariant-loop-i
 fill-rows-Inv-loop work₀ p u c node₀ slot₀ top₀ i₀ work node slot top i =
@@ -205,40 +120,28 @@ fill-rows-μ-loop work₀ p u c node₀ slot₀ top₀ i₀ work node slot top i
 
 fill-rows-loop-holds : (t : ℕ) → fill-rows-lts.Need-loop-i-init (fill-rows-claims t) (fill-rows-at t) fill-rows.Post fill-rows-Inv-loop fill-rows-μ-loop
 fill-rows-loop-holds t c =
-    filling-begins c.before.args.work.now c.before.args.p c.before.args.u c.before.args.c c.before.args.x
+    filling-begins c.args.work.now c.args.p c.args.u c.args.c c.args.x
 
 fill-rows-fill-requires : (t : ℕ) → fill-rows-lts.Need-fill-y-requires (fill-rows-claims t) (fill-rows-at t) fill-rows.Post fill-rows-Inv-loop fill-rows-μ-loop
 fill-rows-fill-requires t c κs =
-    let at_rest = c.before in
-    let at_first = at_rest.before.before in
-    let at-loop-test = at_first.before.before in
-    let at-loop = at-loop-test.before in
-    let at-args = at-loop.before.before in
-    (omega (arith, at-args.requires.0), filling-asks at-args.args.work.now at-args.args.p at-args.args.u at-args.args.c at-args.args.x _ _ _ _ _ at-loop.loop-i.invariant at-args.requires.1 at-loop-test.loop-i-test.true _ _ at_first.first-first.ensures at_rest.rest-tail.ensures)
+    (omega (arith, c.requires.0), filling-asks c.args.work.now c.args.p c.args.u c.args.c c.args.x _ _ _ _ _ c.loop-i.invariant c.requires.1 c.loop-i-test.true _ _ c.first-first.ensures c.rest-tail.ensures)
 
 fill-rows-loop-less : (t : ℕ) → fill-rows-lts.Need-loop-i-smaller (fill-rows-claims t) (fill-rows-at t) fill-rows.Post fill-rows-Inv-loop fill-rows-μ-loop
 fill-rows-loop-less t c =
-    omega (arith, c.before.before.before.before.before.before.before.before.loop-i-test.true)
+    omega (arith, c.loop-i-test.true)
 
 fill-rows-loop-again : (t : ℕ) → fill-rows-lts.Need-loop-i-preserved (fill-rows-claims t) (fill-rows-at t) fill-rows.Post fill-rows-Inv-loop fill-rows-μ-loop
 fill-rows-loop-again t c =
-    let at_fill_lem = c.before.before in
-    let at_rest = at_fill_lem.before.before in
-    let at_first = at_rest.before.before in
-    let at-loop-test = at_first.before.before in
-    let at-loop = at-loop-test.before in
-    let at-args = at-loop.before.before in
-    filling-more at-args.args.work.now at-args.args.p at-args.args.u at-args.args.c at-args.args.x _ _ _ _ _ at-loop.loop-i.invariant at-args.requires.1 at-loop-test.loop-i-test.true _ _ at_first.first-first.ensures at_rest.rest-tail.ensures _ _ at_fill_lem.fill-y.auto.0 at_fill_lem.fill-y.ensures
+    filling-more c.args.work.now c.args.p c.args.u c.args.c c.args.x _ _ _ _ _ c.loop-i.invariant c.requires.1 c.loop-i-test.true _ _ c.first-first.ensures c.rest-tail.ensures _ _ c.fill-y.auto.work c.fill-y.ensures
 
 fill-rows-same-length : (t : ℕ) → fill-rows-lts.Need-shape_of-work (fill-rows-claims t) (fill-rows-at t) fill-rows.Post fill-rows-Inv-loop fill-rows-μ-loop
 fill-rows-same-length t c =
-    c.before.loop-i.invariant.long
+    c.loop-i.invariant.long
 
 fill-rows-returns : (t : ℕ) → fill-rows-lts.Need-returns (fill-rows-claims t) (fill-rows-at t) fill-rows.Post fill-rows-Inv-loop fill-rows-μ-loop
 fill-rows-returns t c =
-    let at-loop = c.before in
-    let args' = at-loop.before.before.args in
-    filling-ends args'.work.now args'.p args'.u args'.c args'.x _ _ _ _ _ at-loop.loop-i.invariant (omega (arith, c.loop-i-test.false))
+    let args' = c.args in
+    filling-ends args'.work.now args'.p args'.u args'.c args'.x _ _ _ _ _ c.loop-i.invariant (omega (arith, c.loop-i-test.false))
 
 pub +fill_fill_rows_spec : {M : Type 1} → statement M
 +fill_fill_rows_spec = close μ-fill μ-fill-rows (λ t. fill-lts.spec (fill-claims t)

@@ -27,74 +27,48 @@ slots-claims t = (word-reads.Asked, word-reads.Learnt, reference-reads.Asked, re
 
 slots-add-result : (t : ℕ) → slots-lts.Need-overflow_add-result (slots-claims t) (slots_at t) slots.Post
 slots-add-result t c =
-    let s = slots-variable c.before.before.before.args.work.now c.before.before.before.args.p _ c.before.word-tag.ensures c.if-tag-eq-VARIABLE.true in omega (arith, s, c.before.before.before.requires.1)
+    let s = slots-variable c.args.work.now c.args.p _ c.word-tag.ensures c.if-tag-eq-VARIABLE.true in omega (arith, s, c.requires.1)
 
 slots-returns : (t : ℕ) → slots-lts.Need-returns-then-tag-eq-VARIABLE (slots-claims t) (slots_at t) slots.Post
 slots-returns t c =
-    let s = slots-variable c.before.before.before.args.work.now c.before.before.before.args.p _ c.before.word-tag.ensures c.if-tag-eq-VARIABLE.true in omega (arith, s)
+    let s = slots-variable c.args.work.now c.args.p _ c.word-tag.ensures c.if-tag-eq-VARIABLE.true in omega (arith, s)
 
 slots-add-slots : (t : ℕ) → slots-lts.Need-overflow_add-n (slots-claims t) (slots_at t) slots.Post
 slots-add-slots t c =
-    let at-reference = c.before in
-    let at-word = at-reference.before.before in
-    let at-args = at-word.before.before in
-    let s = slots-ellipsis at-args.args.work.now at-args.args.p _ at-word.word-tag.ensures _ at-reference.reference-rest.ensures c.if-tag-eq-ELLIPSIS.true in omega (arith, s, at-args.requires.1)
+    let s = slots-ellipsis c.args.work.now c.args.p _ c.word-tag.ensures _ c.reference-rest.ensures c.if-tag-eq-ELLIPSIS.true in omega (arith, s, c.requires.1)
 
 slots-slots-requires : (t : ℕ) → slots-lts.Need-slots-requires (slots-claims t) (slots_at t) slots.Post
 slots-slots-requires t c κs =
-    let at-reference = c.before in
-    let at-word = at-reference.before.before in
-    let at-args = at-word.before.before in
-    let s = slots-ellipsis at-args.args.work.now at-args.args.p _ at-word.word-tag.ensures _ at-reference.reference-rest.ensures c.if-tag-eq-ELLIPSIS.true in
-    let l = part_falls at-args.args.work.now at-args.args.p _ at-word.word-tag.ensures 2 _ (λ z. omega arith) at-reference.reference-rest.ensures in
-    (omega (arith, l, at-args.requires.0), omega (arith, s, at-args.requires.1))
+    let s = slots-ellipsis c.args.work.now c.args.p _ c.word-tag.ensures _ c.reference-rest.ensures c.if-tag-eq-ELLIPSIS.true in
+    let l = part_falls c.args.work.now c.args.p _ c.word-tag.ensures 2 _ (λ z. omega arith) c.reference-rest.ensures in
+    (omega (arith, l, c.requires.0), omega (arith, s, c.requires.1))
 
 slots-returns-2 : (t : ℕ) → slots-lts.Need-returns-then-tag-eq-ELLIPSIS (slots-claims t) (slots_at t) slots.Post
 slots-returns-2 t c =
-    let at-if2 = c.before in
-    let at-reference = at-if2.before in
-    let at-word = at-reference.before.before in
-    let args' = at-word.before.before.args in
-    let s = slots-ellipsis args'.work.now args'.p _ at-word.word-tag.ensures _ at-reference.reference-rest.ensures at-if2.if-tag-eq-ELLIPSIS.true in omega (arith, s, c.slots.ensures)
+    let args' = c.args in
+    let s = slots-ellipsis args'.work.now args'.p _ c.word-tag.ensures _ c.reference-rest.ensures c.if-tag-eq-ELLIPSIS.true in omega (arith, s, c.slots.ensures)
 
 slots-returns-3 : (t : ℕ) → slots-lts.Need-returns-then-tag-ne-PAIR (slots-claims t) (slots_at t) slots.Post
 slots-returns-3 t c =
-    let at-if2 = c.before in
-    let at-if1 = at-if2.before.before in
-    let at-word = at-if1.before in
-    let args' = at-word.before.before.args in
-    let s = slots-none args'.work.now args'.p _ at-word.word-tag.ensures at-if1.if-tag-eq-VARIABLE.false c.if-tag-ne-PAIR.true at-if2.if-tag-eq-ELLIPSIS.false in omega (arith, s)
+    let args' = c.args in
+    let s = slots-none args'.work.now args'.p _ c.word-tag.ensures c.if-tag-eq-VARIABLE.false c.if-tag-ne-PAIR.true c.if-tag-eq-ELLIPSIS.false in omega (arith, s)
 
 slots-slots-requires-2 : (t : ℕ) → slots-lts.Need-slots-first-requires (slots-claims t) (slots_at t) slots.Post
 slots-slots-requires-2 t c κs =
-    let at-if3 = c.before in
-    let at-reference = at-if3.before.before in
-    let at-word = at-reference.before.before in
-    let at-args = at-word.before.before in
-    let s = slots-pair at-args.args.work.now at-args.args.p _ at-word.word-tag.ensures _ at-reference.reference-rest.ensures _ c.reference-head.ensures at-if3.if-tag-ne-PAIR.false in
-    let l = part_falls at-args.args.work.now at-args.args.p _ at-word.word-tag.ensures 3 _ (λ z. omega arith) c.reference-head.ensures in
-    (omega (arith, l, at-args.requires.0), omega (arith, s, at-args.requires.1))
+    let s = slots-pair c.args.work.now c.args.p _ c.word-tag.ensures _ c.reference-rest.ensures _ c.reference-head.ensures c.if-tag-ne-PAIR.false in
+    let l = part_falls c.args.work.now c.args.p _ c.word-tag.ensures 3 _ (λ z. omega arith) c.reference-head.ensures in
+    (omega (arith, l, c.requires.0), omega (arith, s, c.requires.1))
 
 slots-slots-requires-3 : (t : ℕ) → slots-lts.Need-slots-requires-2 (slots-claims t) (slots_at t) slots.Post
 slots-slots-requires-3 t c κs =
-    let at-reference2 = c.before in
-    let at-if3 = at-reference2.before in
-    let at-reference = at-if3.before.before in
-    let at-word = at-reference.before.before in
-    let at-args = at-word.before.before in
-    let s = slots-pair at-args.args.work.now at-args.args.p _ at-word.word-tag.ensures _ at-reference.reference-rest.ensures _ at-reference2.reference-head.ensures at-if3.if-tag-ne-PAIR.false in
-    let l = part_falls at-args.args.work.now at-args.args.p _ at-word.word-tag.ensures 2 _ (λ z. omega arith) at-reference.reference-rest.ensures in
-    (omega (arith, l, at-args.requires.0), omega (arith, s, c.slots-first.ensures, at-args.requires.1))
+    let s = slots-pair c.args.work.now c.args.p _ c.word-tag.ensures _ c.reference-rest.ensures _ c.reference-head.ensures c.if-tag-ne-PAIR.false in
+    let l = part_falls c.args.work.now c.args.p _ c.word-tag.ensures 2 _ (λ z. omega arith) c.reference-rest.ensures in
+    (omega (arith, l, c.requires.0), omega (arith, s, c.slots-first.ensures, c.requires.1))
 
 slots-returns-4 : (t : ℕ) → slots-lts.Need-returns (slots-claims t) (slots_at t) slots.Post
 slots-returns-4 t c =
-    let at-slots2 = c.before in
-    let at-reference2 = at-slots2.before in
-    let at-if3 = at-reference2.before in
-    let at-reference = at-if3.before.before in
-    let at-word = at-reference.before.before in
-    let args' = at-word.before.before.args in
-    let s = slots-pair args'.work.now args'.p _ at-word.word-tag.ensures _ at-reference.reference-rest.ensures _ at-reference2.reference-head.ensures at-if3.if-tag-ne-PAIR.false in omega (arith, s, at-slots2.slots-first.ensures, c.slots-2.ensures)
+    let args' = c.args in
+    let s = slots-pair args'.work.now args'.p _ c.word-tag.ensures _ c.reference-rest.ensures _ c.reference-head.ensures c.if-tag-ne-PAIR.false in omega (arith, s, c.slots-first.ensures, c.slots-2.ensures)
 
 pub +slots_spec : {M : Type 1} → statement M
 +slots_spec = close μ-slots λ t. slots-lts.spec (slots-claims t)

@@ -11,49 +11,27 @@ use Rattle.environments.specs.FillLaws.{opened-none, opened-slots, opened-room, 
 
 returns : tie.Need-returns-then-c-eq0
 returns c =
-    let at-share = c.before in
-    let at-args = at-share.before.before.before in
-    opened-none at-args.args.work.now at-args.args.p at-args.args.u at-args.args.top _ at-args.requires at-share.share-c.ensures c.if-c-eq0.true
+    opened-none c.args.work.now c.args.p c.args.u c.args.top _ c.requires c.share-c.ensures c.if-c-eq0.true
 
 slots-requires : tie.Need-slots-width-requires
 slots-requires c κs =
-    let at-reference = c.before in
-    let at-if1 = at-reference.before.before in
-    let at-share = at-if1.before in
-    let at-args = at-share.before.before.before in
-    opened-slots at-args.args.work.now at-args.args.p at-args.args.u at-args.args.top _ at-args.requires at-share.share-c.ensures _ at-if1.if-c-eq0.false at-reference.reference-element.ensures
+    opened-slots c.args.work.now c.args.p c.args.u c.args.top _ c.requires c.share-c.ensures _ c.if-c-eq0.false c.reference-element.ensures
 
 slice-write-work-3 : tie.Need-bounds-work-top-3
 slice-write-work-3 c =
-    let at-reference = c.before.before in
-    let at-if1 = at-reference.before.before in
-    let at-share = at-if1.before in
-    let at-args = at-share.before.before.before in
-    let r = opened-room at-args.args.work.now at-args.args.p at-args.args.u at-args.args.top _ at-args.requires at-share.share-c.ensures _ at-if1.if-c-eq0.false at-reference.reference-element.ensures _ c.slots-width.ensures in simp length-set (omega (arith, r.fits))
+    let r = opened-room c.args.work.now c.args.p c.args.u c.args.top _ c.requires c.share-c.ensures _ c.if-c-eq0.false c.reference-element.ensures _ c.slots-width.ensures in simp length-set (omega (arith, r.fits))
 
 mul-t25 : tie.Need-overflow_mul-result
 mul-t25 c =
-    let at-reference = c.before.before in
-    let at-if1 = at-reference.before.before in
-    let at-share = at-if1.before in
-    let at-args = at-share.before.before.before in
-    let r = opened-room at-args.args.work.now at-args.args.p at-args.args.u at-args.args.top _ at-args.requires at-share.share-c.ensures _ at-if1.if-c-eq0.false at-reference.reference-element.ensures _ c.slots-width.ensures in record { fits = omega (arith, r.small) }
+    let r = opened-room c.args.work.now c.args.p c.args.u c.args.top _ c.requires c.share-c.ensures _ c.if-c-eq0.false c.reference-element.ensures _ c.slots-width.ensures in record { fits = omega (arith, r.small) }
 
 add-t26 : tie.Need-overflow_add-result-3
 add-t26 c =
-    let at-reference = c.before.before in
-    let at-if1 = at-reference.before.before in
-    let at-share = at-if1.before in
-    let at-args = at-share.before.before.before in
-    let r = opened-room at-args.args.work.now at-args.args.p at-args.args.u at-args.args.top _ at-args.requires at-share.share-c.ensures _ at-if1.if-c-eq0.false at-reference.reference-element.ensures _ c.slots-width.ensures in record { fits = omega (arith, r.small) }
+    let r = opened-room c.args.work.now c.args.p c.args.u c.args.top _ c.requires c.share-c.ensures _ c.if-c-eq0.false c.reference-element.ensures _ c.slots-width.ensures in record { fits = omega (arith, r.small) }
 
 returns-2 : tie.Need-returns
 returns-2 c =
-    let at-reference = c.before.before in
-    let at-if1 = at-reference.before.before in
-    let at-share = at-if1.before in
-    let at-args = at-share.before.before.before in
-    opened_some at-args.args.work.now at-args.args.p at-args.args.u at-args.args.top _ at-args.requires at-share.share-c.ensures _ at-if1.if-c-eq0.false at-reference.reference-element.ensures _ c.slots-width.ensures
+    opened_some c.args.work.now c.args.p c.args.u c.args.top _ c.requires c.share-c.ensures _ c.if-c-eq0.false c.reference-element.ensures _ c.slots-width.ensures
 
 pub open_block_spec : {M : Type 1} → statement M
 open_block_spec =

@@ -30,39 +30,39 @@ drivers-claims t = (word-reads.Asked, word-reads.Learnt, copies-reads.Asked, cop
 
 drivers-returns : (t : ℕ) → drivers-lts.Need-returns-then-d-j (drivers-claims t) (drivers-at t) drivers.Post
 drivers-returns t c =
-    let a = c.before.before.before.before.before.args in drives-few a.work.now a.env.now a.t _ c.before.before.before.word-tag.ensures a.j _ _ c.before.before.if-tag-eq-VARIABLE.true c.before.word-d.ensures c.if-d-j.true
+    let a = c.args in drives-few a.work.now a.env.now a.t _ c.word-tag.ensures a.j _ _ c.if-tag-eq-VARIABLE.true c.word-d.ensures c.if-d-j.true
 
 drivers-returns-2 : (t : ℕ) → drivers-lts.Need-returns-then-tag-eq-VARIABLE (drivers-claims t) (drivers-at t) drivers.Post
 drivers-returns-2 t c =
-    let a = c.before.before.before.before.before.before.before.before.args in
-    λ w. c.also.ensures ∙ drives-one a.work.now a.env.now a.t _ c.before.before.before.before.before.before.word-tag.ensures a.j a.before _ _ _ c.before.before.before.before.before.if-tag-eq-VARIABLE.true c.before.before.before.before.word-d.ensures c.before.before.word-k.ensures (omega arith) c.before.copies.ensures w
+    let a = c.args in
+    λ w. c.also.ensures ∙ drives-one a.work.now a.env.now a.t _ c.word-tag.ensures a.j a.before _ _ _ c.if-tag-eq-VARIABLE.true c.word-d.ensures c.word-k.ensures (omega arith) c.copies.ensures w
 
 drivers-returns-3 : (t : ℕ) → drivers-lts.Need-returns-then-tag-lt-PAIR (drivers-claims t) (drivers-at t) drivers.Post
 drivers-returns-3 t c =
-    let a = c.before.before.before.before.args in drives-none a.work.now a.env.now a.t _ c.before.before.word-tag.ensures a.j _ c.before.if-tag-eq-VARIABLE.false (λ z. omega arith) (λ z. omega arith)
+    let a = c.args in drives-none a.work.now a.env.now a.t _ c.word-tag.ensures a.j _ c.if-tag-eq-VARIABLE.false (λ z. omega arith) (λ z. omega arith)
 
 drivers-returns-4 : (t : ℕ) → drivers-lts.Need-returns-then-tag-gt-ELLIPSIS (drivers-claims t) (drivers-at t) drivers.Post
 drivers-returns-4 t c =
-    let a = c.before.before.before.before.before.args in drives-none a.work.now a.env.now a.t _ c.before.before.before.word-tag.ensures a.j _ c.before.before.if-tag-eq-VARIABLE.false (λ z. omega arith) (λ z. omega arith)
+    let a = c.args in drives-none a.work.now a.env.now a.t _ c.word-tag.ensures a.j _ c.if-tag-eq-VARIABLE.false (λ z. omega arith) (λ z. omega arith)
 
 drivers-deeper-requires : (t : ℕ) → drivers-lts.Need-deeper-i-requires (drivers-claims t) (drivers-at t) drivers.Post
 drivers-deeper-requires t c κs =
-    let a = c.before.before.before.before.before.before.args in let l = tag-falls a.work.now a.t _ c.before.before.before.before.word-tag.ensures 3 _ (λ z. omega arith) c.reference-head.ensures in omega (arith, l, c.before.before.before.before.before.before.requires.1)
+    let a = c.args in let l = tag-falls a.work.now a.t _ c.word-tag.ensures 3 _ (λ z. omega arith) c.reference-head.ensures in omega (arith, l, c.requires.1)
 
 drivers-drivers-requires : (t : ℕ) → drivers-lts.Need-drivers-first-requires (drivers-claims t) (drivers-at t) drivers.Post
 drivers-drivers-requires t c κs =
-    let a = c.before.before.before.before.before.before.before.before.args in let l = tag-falls a.work.now a.t _ c.before.before.before.before.before.before.word-tag.ensures 3 _ (λ z. omega arith) c.before.before.reference-head.ensures in (omega (arith, l, c.before.before.before.before.before.before.before.before.requires.0), omega (arith, l, c.before.before.before.before.before.before.before.before.requires.1, c.before.deeper-i.ensures, deeper-most c.before.before.before.before.before.before.word-tag.result a.j))
+    let a = c.args in let l = tag-falls a.work.now a.t _ c.word-tag.ensures 3 _ (λ z. omega arith) c.reference-head.ensures in (omega (arith, l, c.requires.0), omega (arith, l, c.requires.1, c.deeper-i.ensures, deeper-most c.word-tag.result a.j))
 
 drivers-drivers-requires-2 : (t : ℕ) → drivers-lts.Need-drivers-requires (drivers-claims t) (drivers-at t) drivers.Post
 drivers-drivers-requires-2 t c κs =
-    let a = c.before.before.before.before.before.before.before.before.before.before.before.args in let l = tag-falls a.work.now a.t _ c.before.before.before.before.before.before.before.before.before.word-tag.ensures 2 _ (λ z. omega arith) c.before.reference-rest.ensures in (omega (arith, l, c.before.before.before.before.before.before.before.before.before.before.before.requires.0), omega (arith, l, c.before.before.before.before.before.before.before.before.before.before.before.requires.1))
+    let a = c.args in let l = tag-falls a.work.now a.t _ c.word-tag.ensures 2 _ (λ z. omega arith) c.reference-rest.ensures in (omega (arith, l, c.requires.0), omega (arith, l, c.requires.1))
 
 drivers-returns-5 : (t : ℕ) → drivers-lts.Need-returns (drivers-claims t) (drivers-at t) drivers.Post
 drivers-returns-5 t c =
-    let a = c.before.before.before.before.before.before.before.before.before.before.before.before.args in
-    let first = whole-drives a.work.now _ _ _ _ _ c.before.before.before.drivers-first.ensures in
+    let a = c.args in
+    let first = whole-drives a.work.now _ _ _ _ _ c.drivers-first.ensures in
     let later = whole-drives a.work.now _ _ _ _ _ c.drivers.ensures in
-    drives-both a.work.now a.env.now a.t _ c.before.before.before.before.before.before.before.before.before.before.word-tag.ensures a.j _ _ _ (omega arith) (omega arith) c.before.before.before.before.before.deeper-i.ensures c.before.before.before.before.before.before.reference-head.ensures c.before.before.reference-rest.ensures _ _ _ first later
+    drives-both a.work.now a.env.now a.t _ c.word-tag.ensures a.j _ _ _ (omega arith) (omega arith) c.deeper-i.ensures c.reference-head.ensures c.reference-rest.ensures _ _ _ first later
 
 pub +drivers_spec : {M : Type 1} → statement M
 +drivers_spec = close μ-drivers λ t. drivers-lts.spec (drivers-claims t)

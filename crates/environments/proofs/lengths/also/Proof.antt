@@ -6,19 +6,19 @@ use Rattle.environments.specs.Lengths.{also}
 
 returns : tie.Need-returns-then-c-length
 unfolding also
-returns c = rw (c.before.before.before-1.given.1, eq-eqb _ _ c.if-c-length.true) refl
+returns c = rw (c.in-Length.is, eq-eqb _ _ c.if-c-length.true) refl
 
 returns-2 : tie.Need-returns-in-None
 unfolding also
-returns-2 c = rw c.enum_told-1.given.1 refl
+returns-2 c = rw c.in-None.is refl
 
 returns-3 : tie.Need-returns-else-c-length
 unfolding also
-returns-3 c = rw (c.before.before.before-1.given.1, ne_eqb _ _ c.if-c-length.false) refl
+returns-3 c = rw (c.in-Length.is, ne_eqb _ _ c.if-c-length.false) refl
 
 returns-4 : tie.Need-returns-in-Differ
 unfolding also
-returns-4 c = rw c.enum_told-in-Differ-1.given.1 refl
+returns-4 c = rw c.in-Differ.is refl
 
 pub also_spec : {M : Type 1} → statement M
 also_spec =

@@ -6,15 +6,15 @@ use Rattle.environments.specs.LengthLaws.{copies-none, copies-some, copies-diffe
 
 returns : tie.Need-returns-in-None
 returns c =
-    let a = c.before.before.before.before.before.args in copies-none a.work.now a.env.now a.e _ (whole-drives a.work.now _ _ _ _ _ c.before.before.drivers.ensures) c.enum_told-1.given.1
+    let a = c.args in copies-none a.work.now a.env.now a.e _ (whole-drives a.work.now _ _ _ _ _ c.drivers.ensures) c.in-None.is
 
 returns-2 : tie.Need-returns-in-Length
 returns-2 c =
-    let a = c.before.before.before.before.before.before.args in copies-some a.work.now a.env.now a.e _ (whole-drives a.work.now _ _ _ _ _ c.before.before.before.drivers.ensures) _ c.before.c-1.given.1
+    let a = c.args in copies-some a.work.now a.env.now a.e _ (whole-drives a.work.now _ _ _ _ _ c.drivers.ensures) _ c.in-Length.is
 
 returns-3 : tie.Need-returns-in-Differ
 returns-3 c =
-    let a = c.before.before.before.before.before.args in copies-differ a.work.now a.env.now a.e _ (whole-drives a.work.now _ _ _ _ _ c.before.before.drivers.ensures) c.enum_told-in-Differ-1.given.1
+    let a = c.args in copies-differ a.work.now a.env.now a.e _ (whole-drives a.work.now _ _ _ _ _ c.drivers.ensures) c.in-Differ.is
 
 pub copies_spec : {M : Type 1} → statement M
 copies_spec =

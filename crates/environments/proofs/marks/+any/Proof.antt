@@ -30,15 +30,15 @@ any-returns t c =
 
 any-place-requires : (t : ℕ) → any-lts.Need-place-requires (any-claims t) (any_at t) any.Post
 any-place-requires t c κs =
-    (omega (arith, c.before.before.requires.1.2), c.before.before.requires.1.1)
+    (omega (arith, c.requires.1.2), c.requires.1.1)
 
 any-mul-if2 : (t : ℕ) → any-lts.Need-offset_bounds-marks-place (any-claims t) (any_at t) any.Post
 any-mul-if2 t c =
-    omega (arith, c.place.ensures, c.before.before.before.requires.1.1, c.before.before.before.requires.1.2)
+    omega (arith, c.place.ensures, c.requires.1.1, c.requires.1.2)
 
 any-shared-slice-read-if2 : (t : ℕ) → any-lts.Need-bounds-marks-place (any-claims t) (any_at t) any.Post
 any-shared-slice-read-if2 t c =
-    omega (arith, c.before.place.ensures, c.before.before.before.before.requires.1.0, c.before.before.before.before.requires.1.1, c.before.before.before.before.requires.1.2)
+    omega (arith, c.place.ensures, c.requires.1.0, c.requires.1.1, c.requires.1.2)
 
 any-returns-2 : (t : ℕ) → any-lts.Need-returns-then-marks-place-eq1 (any-claims t) (any_at t) any.Post
 any-returns-2 t c =
@@ -46,12 +46,12 @@ any-returns-2 t c =
 
 any-any-requires : (t : ℕ) → any-lts.Need-any-requires (any-claims t) (any_at t) any.Post
 any-any-requires t c κs =
-    (omega (arith, c.before.before.before.before.before.requires.0), (c.before.before.before.before.before.requires.1.0, c.before.before.before.before.before.requires.1.1, omega (arith, c.before.before.before.before.before.requires.1.2)))
+    (omega (arith, c.requires.0), (c.requires.1.0, c.requires.1.1, omega (arith, c.requires.1.2)))
 
 any-returns-3 : (t : ℕ) → any-lts.Need-returns (any-claims t) (any_at t) any.Post
 any-returns-3 t c =
-    let a = c.before.before.before.before.before.before.args in
-    λ z. unmarked-more a.marks.now a.level a.n _ _ (omega arith) c.before.before.before.place.ensures c.before.if-marks-place-eq1.false (c.any.ensures z)
+    let a = c.args in
+    λ z. unmarked-more a.marks.now a.level a.n _ _ (omega arith) c.place.ensures c.if-marks-place-eq1.false (c.any.ensures z)
 
 pub +any_spec : {M : Type 1} → statement M
 +any_spec = close μ-any λ t. any-lts.spec (any-claims t)

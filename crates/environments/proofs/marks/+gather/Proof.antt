@@ -27,37 +27,37 @@ gather-claims t = (place-reads.Asked, place-reads.Learnt, copies-reads.Asked, co
 
 gather-returns : (t : ℕ) → gather-lts.Need-returns-then-n-eq0 (gather-claims t) (gather-at t) gather.Post
 gather-returns t c =
-    let a = c.before.before.before.args in gather_none a.work.now a.env.now a.marks.now a.level a.n _ c.if-n-eq0.true
+    let a = c.args in gather_none a.work.now a.env.now a.marks.now a.level a.n _ c.if-n-eq0.true
 
 gather-place-requires : (t : ℕ) → gather-lts.Need-place-requires (gather-claims t) (gather-at t) gather.Post
 gather-place-requires t c κs =
-    (omega (arith, c.before.before.before.requires.1.2), c.before.before.before.requires.1.1)
+    (omega (arith, c.requires.1.2), c.requires.1.1)
 
 gather-mul-if2 : (t : ℕ) → gather-lts.Need-offset_bounds-marks-place (gather-claims t) (gather-at t) gather.Post
 gather-mul-if2 t c =
-    omega (arith, c.place.ensures, c.before.before.before.before.requires.1.1, c.before.before.before.before.requires.1.2)
+    omega (arith, c.place.ensures, c.requires.1.1, c.requires.1.2)
 
 gather-shared-slice-read-if2 : (t : ℕ) → gather-lts.Need-bounds-marks-place (gather-claims t) (gather-at t) gather.Post
 gather-shared-slice-read-if2 t c =
-    omega (arith, c.before.place.ensures, c.before.before.before.before.before.requires.1.0, c.before.before.before.before.before.requires.1.1, c.before.before.before.before.before.requires.1.2)
+    omega (arith, c.place.ensures, c.requires.1.0, c.requires.1.1, c.requires.1.2)
 
 gather-gather-requires : (t : ℕ) → gather-lts.Need-gather-requires (gather-claims t) (gather-at t) gather.Post
 gather-gather-requires t c κs =
-    (omega (arith, c.before.before.before.before.before.before.before.before.requires.0), (c.before.before.before.before.before.before.before.before.requires.1.0, c.before.before.before.before.before.before.before.before.requires.1.1, omega (arith, c.before.before.before.before.before.before.before.before.requires.1.2)))
+    (omega (arith, c.requires.0), (c.requires.1.0, c.requires.1.1, omega (arith, c.requires.1.2)))
 
 gather-returns-2 : (t : ℕ) → gather-lts.Need-returns-then-marks-place-eq1 (gather-claims t) (gather-at t) gather.Post
 gather-returns-2 t c =
-    let a = c.before.before.before.before.before.before.before.before.before.args in
-    gather-marked a.work.now a.env.now a.marks.now a.level a.n a.before _ _ (omega arith) c.before.before.before.before.before.place.ensures _ _ _ c.before.before.before.if-marks-place-eq1.true c.before.before.copies.ensures c.before.also-more.ensures c.gather.ensures
+    let a = c.args in
+    gather-marked a.work.now a.env.now a.marks.now a.level a.n a.before _ _ (omega arith) c.place.ensures _ _ _ c.if-marks-place-eq1.true c.copies.ensures c.also-more.ensures c.gather.ensures
 
 gather-gather-requires-2 : (t : ℕ) → gather-lts.Need-gather-requires-2 (gather-claims t) (gather-at t) gather.Post
 gather-gather-requires-2 t c κs =
-    (omega (arith, c.before.before.before.before.before.before.requires.0), (c.before.before.before.before.before.before.requires.1.0, c.before.before.before.before.before.before.requires.1.1, omega (arith, c.before.before.before.before.before.before.requires.1.2)))
+    (omega (arith, c.requires.0), (c.requires.1.0, c.requires.1.1, omega (arith, c.requires.1.2)))
 
 gather-returns-3 : (t : ℕ) → gather-lts.Need-returns (gather-claims t) (gather-at t) gather.Post
 gather-returns-3 t c =
-    let a = c.before.before.before.before.before.before.before.args in
-    gather-unmarked a.work.now a.env.now a.marks.now a.level a.n a.before _ _ (omega arith) c.before.before.before.place.ensures _ c.before.if-marks-place-eq1.false c.gather-2.ensures
+    let a = c.args in
+    gather-unmarked a.work.now a.env.now a.marks.now a.level a.n a.before _ _ (omega arith) c.place.ensures _ c.if-marks-place-eq1.false c.gather-2.ensures
 
 pub +gather_spec : {M : Type 1} → statement M
 +gather_spec = close μ-gather λ t. gather-lts.spec (gather-claims t)

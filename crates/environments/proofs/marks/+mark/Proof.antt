@@ -31,67 +31,67 @@ mark-claims t = (word-reads.Asked, word-reads.Learnt, place-reads.Asked, place-r
 
 mark-place-requires : (t : ℕ) → mark-lts.Need-place-requires (mark-claims t) (mark-at t) mark.Post
 mark-place-requires t c κs =
-    let a = c.before.before.before.before.before.before.before.args in
-    let low = variable-low a.work.now a.t _ c.before.before.before.before.word-tag.ensures c.before.before.before.before.before.before.before.requires.1.2 _ _ c.before.before.before.if-tag-eq-VARIABLE.true c.before.before.word-d.ensures c.word-k.ensures in
+    let a = c.args in
+    let low = variable-low a.work.now a.t _ c.word-tag.ensures c.requires.1.2 _ _ c.if-tag-eq-VARIABLE.true c.word-d.ensures c.word-k.ensures in
     (low.0, omega (arith, low.1))
 
 mark-mul-marks : (t : ℕ) → mark-lts.Need-offset_bounds-marks-place (mark-claims t) (mark-at t) mark.Post
 mark-mul-marks t c =
-    let a = c.before.before.before.before.before.before.before.before.args in
-    let low = variable-low a.work.now a.t _ c.before.before.before.before.before.word-tag.ensures c.before.before.before.before.before.before.before.before.requires.1.2 _ _ c.before.before.before.before.if-tag-eq-VARIABLE.true c.before.before.before.word-d.ensures c.before.word-k.ensures in
+    let a = c.args in
+    let low = variable-low a.work.now a.t _ c.word-tag.ensures c.requires.1.2 _ _ c.if-tag-eq-VARIABLE.true c.word-d.ensures c.word-k.ensures in
     omega (arith, low.0, low.1, c.place.ensures)
 
 mark-slice-write-marks : (t : ℕ) → mark-lts.Need-bounds-marks-place (mark-claims t) (mark-at t) mark.Post
 mark-slice-write-marks t c =
-    let a = c.before.before.before.before.before.before.before.before.args in
-    let low = variable-low a.work.now a.t _ c.before.before.before.before.before.word-tag.ensures c.before.before.before.before.before.before.before.before.requires.1.2 _ _ c.before.before.before.before.if-tag-eq-VARIABLE.true c.before.before.before.word-d.ensures c.before.word-k.ensures in
-    omega (arith, low.0, low.1, c.place.ensures, c.before.before.before.before.before.before.before.before.requires.1.1)
+    let a = c.args in
+    let low = variable-low a.work.now a.t _ c.word-tag.ensures c.requires.1.2 _ _ c.if-tag-eq-VARIABLE.true c.word-d.ensures c.word-k.ensures in
+    omega (arith, low.0, low.1, c.place.ensures, c.requires.1.1)
 
 mark-returns : (t : ℕ) → mark-lts.Need-returns-then-j-d (mark-claims t) (mark-at t) mark.Post
 mark-returns t c =
-    let a = c.before.before.before.before.before.before.before.before.args in
-    let low = variable-low a.work.now a.t _ c.before.before.before.before.before.word-tag.ensures c.before.before.before.before.before.before.before.before.requires.1.2 _ _ c.before.before.before.before.if-tag-eq-VARIABLE.true c.before.before.before.word-d.ensures c.before.word-k.ensures in
+    let a = c.args in
+    let low = variable-low a.work.now a.t _ c.word-tag.ensures c.requires.1.2 _ _ c.if-tag-eq-VARIABLE.true c.word-d.ensures c.word-k.ensures in
     subst (λ (i : ℕ). Marks a.work.now a.j a.t a.marks.now (set a.marks.now i 1)) (sym c.place.ensures)
-    (marks-one a.work.now a.j a.t a.marks.now _ _ (drivers-one a.work.now a.t _ c.before.before.before.before.before.word-tag.ensures a.j _ _ c.before.before.before.before.if-tag-eq-VARIABLE.true c.before.before.before.word-d.ensures c.before.word-k.ensures c.before.before.if-j-d.true) c.before.before.before.before.before.before.before.before.requires.1.1 low.0 (omega (arith, low.1)))
+    (marks-one a.work.now a.j a.t a.marks.now _ _ (drivers-one a.work.now a.t _ c.word-tag.ensures a.j _ _ c.if-tag-eq-VARIABLE.true c.word-d.ensures c.word-k.ensures c.if-j-d.true) c.requires.1.1 low.0 (omega (arith, low.1)))
 
 mark-returns-2 : (t : ℕ) → mark-lts.Need-returns-else-j-d (mark-claims t) (mark-at t) mark.Post
 mark-returns-2 t c =
-    let a = c.before.before.before.before.before.before.args in
-    marks-nothing a.work.now a.j a.t a.marks.now (drivers-few a.work.now a.t _ c.before.before.before.word-tag.ensures a.j _ c.before.before.if-tag-eq-VARIABLE.true c.before.word-d.ensures c.if-j-d.false)
+    let a = c.args in
+    marks-nothing a.work.now a.j a.t a.marks.now (drivers-few a.work.now a.t _ c.word-tag.ensures a.j _ c.if-tag-eq-VARIABLE.true c.word-d.ensures c.if-j-d.false)
 
 mark-returns-3 : (t : ℕ) → mark-lts.Need-returns-then-tag-lt-PAIR (mark-claims t) (mark-at t) mark.Post
 mark-returns-3 t c =
-    let a = c.before.before.before.before.before.args in
-    marks-nothing a.work.now a.j a.t a.marks.now (drivers-none a.work.now a.t _ c.before.before.word-tag.ensures a.j c.before.if-tag-eq-VARIABLE.false (λ z. omega arith) (λ z. omega arith))
+    let a = c.args in
+    marks-nothing a.work.now a.j a.t a.marks.now (drivers-none a.work.now a.t _ c.word-tag.ensures a.j c.if-tag-eq-VARIABLE.false (λ z. omega arith) (λ z. omega arith))
 
 mark-returns-4 : (t : ℕ) → mark-lts.Need-returns-then-tag-gt-ELLIPSIS (mark-claims t) (mark-at t) mark.Post
 mark-returns-4 t c =
-    let a = c.before.before.before.before.before.before.args in
-    marks-nothing a.work.now a.j a.t a.marks.now (drivers-none a.work.now a.t _ c.before.before.before.word-tag.ensures a.j c.before.before.if-tag-eq-VARIABLE.false (λ z. omega arith) (λ z. omega arith))
+    let a = c.args in
+    marks-nothing a.work.now a.j a.t a.marks.now (drivers-none a.work.now a.t _ c.word-tag.ensures a.j c.if-tag-eq-VARIABLE.false (λ z. omega arith) (λ z. omega arith))
 
 mark-deeper-requires : (t : ℕ) → mark-lts.Need-deeper-i-requires (mark-claims t) (mark-at t) mark.Post
 mark-deeper-requires t c κs =
-    let a = c.before.before.before.before.before.before.before.before.args in
-    let l = tag-falls a.work.now a.t _ c.before.before.before.before.before.word-tag.ensures 3 _ (λ z. omega arith) c.before.reference-head.ensures in omega (arith, l, c.before.before.before.before.before.before.before.before.requires.1.0)
+    let a = c.args in
+    let l = tag-falls a.work.now a.t _ c.word-tag.ensures 3 _ (λ z. omega arith) c.reference-head.ensures in omega (arith, l, c.requires.1.0)
 
 mark-mark-requires : (t : ℕ) → mark-lts.Need-mark-requires (mark-claims t) (mark-at t) mark.Post
 mark-mark-requires t c κs =
-    let a = c.before.before.before.before.before.before.before.before.before.before.args in
-    let l = tag-falls a.work.now a.t _ c.before.before.before.before.before.before.before.word-tag.ensures 3 _ (λ z. omega arith) c.before.before.before.reference-head.ensures in
-    let p = parts-plain a.work.now a.t _ c.before.before.before.before.before.before.before.word-tag.ensures c.before.before.before.before.before.before.before.before.before.before.requires.1.2 _ _ (omega arith) (omega arith) c.before.before.before.reference-head.ensures c.before.before.reference-rest.ensures in
-    (omega (arith, l, c.before.before.before.before.before.before.before.before.before.before.requires.0), (omega (arith, l, c.before.before.before.before.before.before.before.before.before.before.requires.1.0, c.before.deeper-i.ensures, deeper-most c.before.before.before.before.before.before.before.word-tag.result a.j), c.before.before.before.before.before.before.before.before.before.before.requires.1.1, p.0))
+    let a = c.args in
+    let l = tag-falls a.work.now a.t _ c.word-tag.ensures 3 _ (λ z. omega arith) c.reference-head.ensures in
+    let p = parts-plain a.work.now a.t _ c.word-tag.ensures c.requires.1.2 _ _ (omega arith) (omega arith) c.reference-head.ensures c.reference-rest.ensures in
+    (omega (arith, l, c.requires.0), (omega (arith, l, c.requires.1.0, c.deeper-i.ensures, deeper-most c.word-tag.result a.j), c.requires.1.1, p.0))
 
 mark-mark-requires-2 : (t : ℕ) → mark-lts.Need-mark-requires-2 (mark-claims t) (mark-at t) mark.Post
 mark-mark-requires-2 t c κs =
-    let a = c.before.before.before.before.before.before.before.before.before.before.before.before.before.before.args in
-    let l = tag-falls a.work.now a.t _ c.before.before.before.before.before.before.before.before.before.before.before.word-tag.ensures 2 _ (λ z. omega arith) c.before.before.before.before.before.before.reference-rest.ensures in
-    let p = parts-plain a.work.now a.t _ c.before.before.before.before.before.before.before.before.before.before.before.word-tag.ensures c.before.before.before.before.before.before.before.before.before.before.before.before.before.before.requires.1.2 _ _ (omega arith) (omega arith) c.before.before.before.before.before.before.before.reference-head.ensures c.before.before.before.before.before.before.reference-rest.ensures in
-    (omega (arith, l, c.before.before.before.before.before.before.before.before.before.before.before.before.before.before.requires.0), (omega (arith, l, c.before.before.before.before.before.before.before.before.before.before.before.before.before.before.requires.1.0), c.before.before.before.mark.auto.1.1.1.0 ∙ c.before.before.before.before.before.before.before.before.before.before.before.before.before.before.requires.1.1, p.1))
+    let a = c.args in
+    let l = tag-falls a.work.now a.t _ c.word-tag.ensures 2 _ (λ z. omega arith) c.reference-rest.ensures in
+    let p = parts-plain a.work.now a.t _ c.word-tag.ensures c.requires.1.2 _ _ (omega arith) (omega arith) c.reference-head.ensures c.reference-rest.ensures in
+    (omega (arith, l, c.requires.0), (omega (arith, l, c.requires.1.0), c.mark.auto.marks ∙ c.requires.1.1, p.1))
 
 mark-returns-5 : (t : ℕ) → mark-lts.Need-returns (mark-claims t) (mark-at t) mark.Post
 mark-returns-5 t c =
-    let a = c.before.before.before.before.before.before.before.before.before.before.before.before.before.before.before.before.before.args in
-    marks-both a.work.now a.j a.t _ _ _ _ _ _ (drivers-both a.work.now a.t _ c.before.before.before.before.before.before.before.before.before.before.before.before.before.before.word-tag.ensures a.j _ _ _ (omega arith) (omega arith) c.before.before.before.before.before.before.before.before.deeper-i.ensures c.before.before.before.before.before.before.before.before.before.before.reference-head.ensures c.before.before.before.before.before.before.before.before.before.reference-rest.ensures) c.before.before.before.before.before.before.mark.ensures c.before.before.mark-2.ensures
+    let a = c.args in
+    marks-both a.work.now a.j a.t _ _ _ _ _ _ (drivers-both a.work.now a.t _ c.word-tag.ensures a.j _ _ _ (omega arith) (omega arith) c.deeper-i.ensures c.reference-head.ensures c.reference-rest.ensures) c.mark.ensures c.mark-2.ensures
 
 pub +mark_spec : {M : Type 1} → statement M
 +mark_spec = close μ-mark λ t. mark-lts.spec (mark-claims t)

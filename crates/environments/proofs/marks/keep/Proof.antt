@@ -29,29 +29,28 @@ mul-if1 c =
 
 shared-slice-read-if1 : tie.Need-bounds-marks-place invariant-loop decreases-loop
 shared-slice-read-if1 c =
-    omega (arith, c.before.place.ensures, c.before.before.before.before.before.before.before.requires)
+    omega (arith, c.place.ensures, c.requires)
 
 get-requires : tie.Need-get-x-requires invariant-loop decreases-loop
 get-requires c κs =
-    (c.before.before.before.before.before.before.from-1.given.0, omega arith)
+    (c.from-1.given.0, omega arith)
 
 put-requires : tie.Need-put-requires invariant-loop decreases-loop
 put-requires c κs =
-    (c.before.before.before.before.before.before.loop-k.invariant.1, omega arith)
+    (c.loop-k.invariant.1, omega arith)
 
 loop-again : tie.Need-loop-k-preserved invariant-loop decreases-loop
 loop-again c =
-    let a = c.before.before.before.before.before.before.before.before.args in
-    let l = c.before.before.before.before.loop-k in
+    let a = c.args in
     ⊎_elim
-    (λ w. rw w.6 (omega arith, w.3.kept.0 ∙ l.invariant.1, keeps-more a.marks.now a.env.now l.k _ c.before.before.place.ensures _ l.invariant.2 _ _ w.1.ensures w.3.ensures))
-    (λ w. rw w.1 (omega arith, l.invariant.1, keeps-skip a.marks.now a.env.now l.k _ c.before.before.place.ensures _ l.invariant.2 w.0.left))
+    (λ w. rw w.6 (omega arith, w.3.kept.0 ∙ c.loop-k.invariant.1, keeps-more a.marks.now a.env.now c.loop-k.k _ c.place.ensures _ c.loop-k.invariant.2 _ _ w.1.ensures w.3.ensures))
+    (λ w. rw w.1 (omega arith, c.loop-k.invariant.1, keeps-skip a.marks.now a.env.now c.loop-k.k _ c.place.ensures _ c.loop-k.invariant.2 w.0.left))
     c.if-marks-place-eq1.branch
 
 returns : tie.Need-returns invariant-loop decreases-loop
 returns c =
-    let a = c.before.before.before.before.before.args in
-    let e : c.before.loop-k.k ≡ pattern_variables_most = omega arith in subst (λ (n : ℕ). Keeps a.marks.now a.env.now n c.before.loop-k.to) e c.before.loop-k.invariant.2
+    let a = c.args in
+    let e : c.loop-k.k ≡ pattern_variables_most = omega arith in subst (λ (n : ℕ). Keeps a.marks.now a.env.now n c.loop-k.to) e c.loop-k.invariant.2
 
 pub keep_spec : {M : Type 1} → statement M
 keep_spec =

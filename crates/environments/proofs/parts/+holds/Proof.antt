@@ -26,31 +26,31 @@ holds-claims t = (word-reads.Asked, word-reads.Learnt, reference-reads.Asked, re
 
 holds-returns : (t : ℕ) → holds-lts.Need-returns-then-tag-eq-VARIABLE (holds-claims t) (holds_at t) holds.Post
 holds-returns t c =
-    let a = c.before.before.before.before.args in holds-variable a.work.now a.p _ c.before.before.word-tag.ensures a.k _ c.before.if-tag-eq-VARIABLE.true c.word.ensures
+    let a = c.args in holds-variable a.work.now a.p _ c.word-tag.ensures a.k _ c.if-tag-eq-VARIABLE.true c.word.ensures
 
 holds-returns-2 : (t : ℕ) → holds-lts.Need-returns-then-tag-lt-PAIR (holds-claims t) (holds_at t) holds.Post
 holds-returns-2 t c =
-    let a = c.before.before.before.before.args in holds-none a.work.now a.p _ c.before.before.word-tag.ensures a.k c.before.if-tag-eq-VARIABLE.false (λ z. omega arith) (λ z. omega arith)
+    let a = c.args in holds-none a.work.now a.p _ c.word-tag.ensures a.k c.if-tag-eq-VARIABLE.false (λ z. omega arith) (λ z. omega arith)
 
 holds-returns-3 : (t : ℕ) → holds-lts.Need-returns-then-tag-gt-ELLIPSIS (holds-claims t) (holds_at t) holds.Post
 holds-returns-3 t c =
-    let a = c.before.before.before.before.before.args in holds-none a.work.now a.p _ c.before.before.before.word-tag.ensures a.k c.before.before.if-tag-eq-VARIABLE.false (λ z. omega arith) (λ z. omega arith)
+    let a = c.args in holds-none a.work.now a.p _ c.word-tag.ensures a.k c.if-tag-eq-VARIABLE.false (λ z. omega arith) (λ z. omega arith)
 
 holds-holds-requires : (t : ℕ) → holds-lts.Need-holds-requires (holds-claims t) (holds_at t) holds.Post
 holds-holds-requires t c κs =
-    let a = c.before.before.before.before.before.before.args in let l = tag-falls a.work.now a.p _ c.before.before.before.before.word-tag.ensures 3 _ (λ z. omega arith) c.reference-head.ensures in omega (arith, l)
+    let a = c.args in let l = tag-falls a.work.now a.p _ c.word-tag.ensures 3 _ (λ z. omega arith) c.reference-head.ensures in omega (arith, l)
 
 holds-returns-4 : (t : ℕ) → holds-lts.Need-returns-then-holds (holds-claims t) (holds_at t) holds.Post
 holds-returns-4 t c =
-    let a = c.before.before.before.before.before.before.before.before.args in holds-head a.work.now a.p _ c.before.before.before.before.before.before.word-tag.ensures a.k _ _ (omega arith) (omega arith) c.before.before.reference-head.ensures c.before.holds.ensures c.if-holds.true
+    let a = c.args in holds-head a.work.now a.p _ c.word-tag.ensures a.k _ _ (omega arith) (omega arith) c.reference-head.ensures c.holds.ensures c.if-holds.true
 
 holds-holds-requires-2 : (t : ℕ) → holds-lts.Need-holds-requires-2 (holds-claims t) (holds_at t) holds.Post
 holds-holds-requires-2 t c κs =
-    let a = c.before.before.before.before.before.before.before.before.before.args in let l = tag-falls a.work.now a.p _ c.before.before.before.before.before.before.before.word-tag.ensures 2 _ (λ z. omega arith) c.reference-tail.ensures in omega (arith, l)
+    let a = c.args in let l = tag-falls a.work.now a.p _ c.word-tag.ensures 2 _ (λ z. omega arith) c.reference-tail.ensures in omega (arith, l)
 
 holds-returns-5 : (t : ℕ) → holds-lts.Need-returns (holds-claims t) (holds_at t) holds.Post
 holds-returns-5 t c =
-    let a = c.before.before.before.before.before.before.before.before.before.before.args in holds-tail a.work.now a.p _ c.before.before.before.before.before.before.before.before.word-tag.ensures a.k _ _ (omega arith) (omega arith) c.before.before.before.before.reference-head.ensures c.before.before.before.holds.ensures _ _ c.before.before.if-holds.false c.before.reference-tail.ensures c.holds-2.ensures
+    let a = c.args in holds-tail a.work.now a.p _ c.word-tag.ensures a.k _ _ (omega arith) (omega arith) c.reference-head.ensures c.holds.ensures _ _ c.if-holds.false c.reference-tail.ensures c.holds-2.ensures
 
 pub +holds_spec : {M : Type 1} → statement M
 +holds_spec = close μ-holds λ t. holds-lts.spec (holds-claims t)

@@ -43,60 +43,51 @@ part-loop-holds t c =
 
 part-loop-less : (t : ℕ) → part-lts.Need-loop-head-smaller-then-part_holds (part-claims t) (part_at t) part.Post part-Inv-loop part-μ-loop
 part-loop-less t c =
-    let a = c.before.before.before.before.before.before.before.before.args in
-    let l = c.before.before.before.before.before.before.loop-head in
-    tag-falls a.work.now l.at _ c.before.before.before.before.before.word.ensures 3 _ (λ z. omega arith) c.before.before.before.reference-head.ensures
+    let a = c.args in
+    tag-falls a.work.now c.loop-head.at _ c.word.ensures 3 _ (λ z. omega arith) c.reference-head.ensures
 
 part-loop-again : (t : ℕ) → part-lts.Need-loop-head-preserved-then-part_holds (part-claims t) (part_at t) part.Post part-Inv-loop part-μ-loop
 part-loop-again t c =
-    let a = c.before.before.before.before.before.before.before.before.args in
-    let l = c.before.before.before.before.before.before.loop-head in
-    let falls = tag-falls a.work.now l.at _ c.before.before.before.before.before.word.ensures 3 _ (λ z. omega arith) c.before.before.before.reference-head.ensures in
-    (omega (arith, l.invariant.0, falls), λ r f. l.invariant.1 r (part-head a.work.now l.at _ c.before.before.before.before.before.word.ensures a.k l.node _ _ c.before.before.before.before.loop-head-test.true c.before.before.before.reference-head.ensures c.before.before.part_holds.ensures _ r c.before.if-part_holds.true c.first-node.ensures f))
+    let a = c.args in
+    let falls = tag-falls a.work.now c.loop-head.at _ c.word.ensures 3 _ (λ z. omega arith) c.reference-head.ensures in
+    (omega (arith, c.loop-head.invariant.0, falls), λ r f. c.loop-head.invariant.1 r (part-head a.work.now c.loop-head.at _ c.word.ensures a.k c.loop-head.node _ _ c.loop-head-test.true c.reference-head.ensures c.part_holds.ensures _ r c.if-part_holds.true c.first-node.ensures f))
 
 part-loop-less-2 : (t : ℕ) → part-lts.Need-loop-head-smaller (part-claims t) (part_at t) part.Post part-Inv-loop part-μ-loop
 part-loop-less-2 t c =
-    let a = c.before.before.before.before.before.before.before.before.before.args in
-    let l = c.before.before.before.before.before.before.before.loop-head in
-    tag-falls a.work.now l.at _ c.before.before.before.before.before.before.word.ensures 2 _ (λ z. omega arith) c.before.reference-at.ensures
+    let a = c.args in
+    tag-falls a.work.now c.loop-head.at _ c.word.ensures 2 _ (λ z. omega arith) c.reference-at.ensures
 
 part-loop-again-2 : (t : ℕ) → part-lts.Need-loop-head-preserved (part-claims t) (part_at t) part.Post part-Inv-loop part-μ-loop
 part-loop-again-2 t c =
-    let a = c.before.before.before.before.before.before.before.before.before.args in
-    let l = c.before.before.before.before.before.before.before.loop-head in
-    let falls = tag-falls a.work.now l.at _ c.before.before.before.before.before.before.word.ensures 2 _ (λ z. omega arith) c.before.reference-at.ensures in
-    (omega (arith, l.invariant.0, falls), λ r f. l.invariant.1 r (part-tail a.work.now l.at _ c.before.before.before.before.before.before.word.ensures a.k l.node _ _ c.before.before.before.before.before.loop-head-test.true c.before.before.before.before.reference-head.ensures c.before.before.before.part_holds.ensures _ r _ c.before.before.if-part_holds.false c.before.reference-at.ensures c.rest-node.ensures f))
+    let a = c.args in
+    let falls = tag-falls a.work.now c.loop-head.at _ c.word.ensures 2 _ (λ z. omega arith) c.reference-at.ensures in
+    (omega (arith, c.loop-head.invariant.0, falls), λ r f. c.loop-head.invariant.1 r (part-tail a.work.now c.loop-head.at _ c.word.ensures a.k c.loop-head.node _ _ c.loop-head-test.true c.reference-head.ensures c.part_holds.ensures _ r _ c.if-part_holds.false c.reference-at.ensures c.rest-node.ensures f))
 
 part-returns : (t : ℕ) → part-lts.Need-returns-then-tag-eq-VARIABLE (part-claims t) (part_at t) part.Post part-Inv-loop part-μ-loop
 part-returns t c =
-    let a = c.before.before.before.before.before.before.args in
-    let l = c.before.before.before.before.loop-head in
-    l.invariant.1 _ (part-variable a.work.now l.at _ c.before.word-tag.ensures a.k l.node c.if-tag-eq-VARIABLE.true)
+    let a = c.args in
+    c.loop-head.invariant.1 _ (part-variable a.work.now c.loop-head.at _ c.word-tag.ensures a.k c.loop-head.node c.if-tag-eq-VARIABLE.true)
 
 part-returns-2 : (t : ℕ) → part-lts.Need-returns-then-tag-ne-ELLIPSIS (part-claims t) (part_at t) part.Post part-Inv-loop part-μ-loop
 part-returns-2 t c =
-    let a = c.before.before.before.before.before.before.before.args in
-    let l = c.before.before.before.before.before.loop-head in
-    l.invariant.1 _ (part_none a.work.now l.at _ c.before.before.word-tag.ensures a.k l.node c.before.if-tag-eq-VARIABLE.false (λ z. c.before.before.before.loop-head-test.false (c.before.before.before.before.word.ensures ∙ sym c.before.before.word-tag.ensures ∙ z)) c.if-tag-ne-ELLIPSIS.true)
+    let a = c.args in
+    c.loop-head.invariant.1 _ (part_none a.work.now c.loop-head.at _ c.word-tag.ensures a.k c.loop-head.node c.if-tag-eq-VARIABLE.false (λ z. c.loop-head-test.false (c.word.ensures ∙ sym c.word-tag.ensures ∙ z)) c.if-tag-ne-ELLIPSIS.true)
 
 part-returns-3 : (t : ℕ) → part-lts.Need-returns-then-part_holds-2 (part-claims t) (part_at t) part.Post part-Inv-loop part-μ-loop
 part-returns-3 t c =
-    let a = c.before.before.before.before.before.before.before.before.before.before.args in
-    let l = c.before.before.before.before.before.before.before.before.loop-head in
-    l.invariant.1 _ (part-list a.work.now l.at _ c.before.before.before.before.before.word-tag.ensures a.k l.node _ _ c.before.before.before.if-tag-ne-ELLIPSIS.false c.before.before.reference-element.ensures c.before.part_holds-2.ensures c.if-part_holds-2.true)
+    let a = c.args in
+    c.loop-head.invariant.1 _ (part-list a.work.now c.loop-head.at _ c.word-tag.ensures a.k c.loop-head.node _ _ c.if-tag-ne-ELLIPSIS.false c.reference-element.ensures c.part_holds-2.ensures c.if-part_holds-2.true)
 
 part-part-requires : (t : ℕ) → part-lts.Need-part-requires (part-claims t) (part_at t) part.Post part-Inv-loop part-μ-loop
 part-part-requires t c κs =
-    let a = c.before.before.before.before.before.before.before.before.before.before.before.before.args in
-    let l = c.before.before.before.before.before.before.before.before.before.before.loop-head in
-    let falls = tag-falls a.work.now l.at _ c.before.before.before.before.before.before.before.word-tag.ensures 2 _ (λ z. omega (arith, c.before.before.before.before.before.if-tag-ne-ELLIPSIS.false)) c.reference-rest.ensures in
-    omega (arith, l.invariant.0, falls)
+    let a = c.args in
+    let falls = tag-falls a.work.now c.loop-head.at _ c.word-tag.ensures 2 _ (λ z. omega (arith, c.if-tag-ne-ELLIPSIS.false)) c.reference-rest.ensures in
+    omega (arith, c.loop-head.invariant.0, falls)
 
 part-returns-4 : (t : ℕ) → part-lts.Need-returns (part-claims t) (part_at t) part.Post part-Inv-loop part-μ-loop
 part-returns-4 t c =
-    let a = c.before.before.before.before.before.before.before.before.before.before.before.before.before.args in
-    let l = c.before.before.before.before.before.before.before.before.before.before.before.loop-head in
-    l.invariant.1 _ (part-after a.work.now l.at _ c.before.before.before.before.before.before.before.before.word-tag.ensures a.k l.node _ _ c.before.before.before.before.before.before.if-tag-ne-ELLIPSIS.false c.before.before.before.before.before.reference-element.ensures c.before.before.before.before.part_holds-2.ensures _ _ _ c.before.before.before.if-part_holds-2.false c.before.reference-rest.ensures c.before.before.after-after.ensures c.part.ensures)
+    let a = c.args in
+    c.loop-head.invariant.1 _ (part-after a.work.now c.loop-head.at _ c.word-tag.ensures a.k c.loop-head.node _ _ c.if-tag-ne-ELLIPSIS.false c.reference-element.ensures c.part_holds-2.ensures _ _ _ c.if-part_holds-2.false c.reference-rest.ensures c.after-after.ensures c.part.ensures)
 
 pub +part_spec : {M : Type 1} → statement M
 +part_spec = close μ-part λ t. part-lts.spec (part-claims t)

@@ -14,7 +14,7 @@ word-requires-2 c κs =
 
 returns : tie.Need-returns-then-word-eq-VARIABLE
 returns c =
-    let a = c.before.before.before.before.args in holds-variable a.work.now a.p _ c.before.before.word.ensures a.k _ c.before.if-word-eq-VARIABLE.true c.word-then-word-eq-VARIABLE.ensures
+    let a = c.args in holds-variable a.work.now a.p _ c.word.ensures a.k _ c.if-word-eq-VARIABLE.true c.word-then-word-eq-VARIABLE.ensures
 
 holds-requires : tie.Need-holds-requires
 holds-requires c κs =

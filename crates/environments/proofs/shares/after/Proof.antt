@@ -15,24 +15,22 @@ decreases-loop work p list node₀ ahead₀ node ahead =
 
 loop-holds : tie.Need-loop-node-init invariant-loop decreases-loop
 loop-holds c =
-    let a = c.before.before.before.args in
-    left-begins a.work.now a.p a.list _ (ahead-begins a.work.now a.p a.list _ _ c.before.word.ensures c.skip-ahead.ensures)
+    let a = c.args in
+    left-begins a.work.now a.p a.list _ (ahead-begins a.work.now a.p a.list _ _ c.word.ensures c.skip-ahead.ensures)
 
 loop-less : tie.Need-loop-node-smaller invariant-loop decreases-loop
 loop-less c =
-    omega (arith, c.reference-ahead.ensures, pair-falls c.before.before.before.before.before.before.before.before.args.work.now c.before.before.before.before.loop-node.ahead 1 (sym c.before.before.before.word-in-loop-node.ensures ∙ c.before.before.loop-node-test.true))
+    omega (arith, c.reference-ahead.ensures, pair-falls c.args.work.now c.loop-node.ahead 1 (sym c.word-in-loop-node.ensures ∙ c.loop-node-test.true))
 
 loop-again : tie.Need-loop-node-preserved invariant-loop decreases-loop
 loop-again c =
-    let a = c.before.before.before.before.before.before.before.before.args in
-    let l = c.before.before.before.before.loop-node in
-    left-more a.work.now a.p a.list l.node l.ahead _ c.before.before.before.word-in-loop-node.ensures l.invariant _ _ c.before.before.loop-node-test.true c.before.reference-node.ensures c.reference-ahead.ensures
+    let a = c.args in
+    left-more a.work.now a.p a.list c.loop-node.node c.loop-node.ahead _ c.word-in-loop-node.ensures c.loop-node.invariant _ _ c.loop-node-test.true c.reference-node.ensures c.reference-ahead.ensures
 
 returns : tie.Need-returns invariant-loop decreases-loop
 returns c =
-    let a = c.before.before.before.before.before.before.args in
-    let l = c.before.before.loop-node in
-    left-ends a.work.now a.p a.list l.node l.ahead _ c.before.word-in-loop-node.ensures l.invariant c.loop-node-test.false
+    let a = c.args in
+    left-ends a.work.now a.p a.list c.loop-node.node c.loop-node.ahead _ c.word-in-loop-node.ensures c.loop-node.invariant c.loop-node-test.false
 
 pub after_spec : {M : Type 1} → statement M
 after_spec =

@@ -14,25 +14,22 @@ decreases-loop work p list n node₀ k₀ node k =
 
 loop-holds : tie.Need-loop-k-init invariant-loop decreases-loop
 loop-holds c =
-    let a = c.before.before.args in skipping_begins a.work.now a.p a.list _ c.word-n.ensures
+    let a = c.args in skipping_begins a.work.now a.p a.list _ c.word-n.ensures
 
 returns : tie.Need-returns-then-word-ne-PAIR invariant-loop decreases-loop
 returns c =
-    let a = c.before.before.before.before.before.before.args in
-    let l = c.before.before.before.loop-k in
-    skipping-short a.work.now a.p a.list _ c.before.before.before.before.word-n.ensures l.node l.k l.invariant _ c.before.word.ensures c.before.before.loop-k-test.true c.if-word-ne-PAIR.true
+    let a = c.args in
+    skipping-short a.work.now a.p a.list _ c.word-n.ensures c.loop-k.node c.loop-k.k c.loop-k.invariant _ c.word.ensures c.loop-k-test.true c.if-word-ne-PAIR.true
 
 loop-again : tie.Need-loop-k-preserved invariant-loop decreases-loop
 loop-again c =
-    let a = c.before.before.before.before.before.before.before.args in
-    let l = c.before.before.before.before.loop-k in
-    skipping-more a.work.now a.p a.list _ c.before.before.before.before.before.word-n.ensures l.node l.k l.invariant _ c.before.before.word.ensures c.before.before.before.loop-k-test.true _ c.before.if-word-ne-PAIR.false c.reference-node.ensures
+    let a = c.args in
+    skipping-more a.work.now a.p a.list _ c.word-n.ensures c.loop-k.node c.loop-k.k c.loop-k.invariant _ c.word.ensures c.loop-k-test.true _ c.if-word-ne-PAIR.false c.reference-node.ensures
 
 returns-2 : tie.Need-returns invariant-loop decreases-loop
 returns-2 c =
-    let a = c.before.before.before.before.args in
-    let l = c.before.loop-k in
-    skipping-ends a.work.now a.p a.list _ c.before.before.word-n.ensures l.node l.k l.invariant c.loop-k-test.false
+    let a = c.args in
+    skipping-ends a.work.now a.p a.list _ c.word-n.ensures c.loop-k.node c.loop-k.k c.loop-k.invariant c.loop-k-test.false
 
 pub look_ahead_spec : {M : Type 1} → statement M
 look_ahead_spec =

@@ -18,7 +18,7 @@ count-requires c κs =
 
 returns : tie.Need-returns-then-c-n
 returns c =
-    let a = c.before.before.before.before.args in share-none a.work.now a.p a.list _ _ c.before.before.word-n.ensures c.before.count-c.ensures c.if-c-n.true
+    let a = c.args in share-none a.work.now a.p a.list _ _ c.word-n.ensures c.count-c.ensures c.if-c-n.true
 
 sub-result : tie.Need-overflow_sub-result
 sub-result c =
@@ -26,7 +26,7 @@ sub-result c =
 
 returns-2 : tie.Need-returns
 returns-2 c =
-    let a = c.before.before.before.before.args in share-some a.work.now a.p a.list _ _ c.before.before.word-n.ensures c.before.count-c.ensures
+    let a = c.args in share-some a.work.now a.p a.list _ _ c.word-n.ensures c.count-c.ensures
 
 pub share_spec : {M : Type 1} → statement M
 share_spec = tie.close (tie.spec word-requires count-requires returns sub-result returns-2)

@@ -11,25 +11,19 @@ use Rattle.environments.specs.BindingLaws.{bind-small, bind-fillable, bind-words
 
 slots-requires : tie.Need-slots-width-requires
 slots-requires c κs =
-    omega (arith, c.before.before.requires.room.small)
+    omega (arith, c.requires.room.small)
 
 add-t12 : tie.Need-overflow_add-top
 add-t12 c =
-    let at_slots = c.before in
-    let at-args = at_slots.before.before.before in
-    let s = bind-small at-args.args.work.now at-args.args.env.now at-args.args.p at-args.args.u at-args.args.top _ at-args.requires at_slots.slots-width.ensures in omega (arith, s)
+    let s = bind-small c.args.work.now c.args.env.now c.args.p c.args.u c.args.top _ c.requires c.slots-width.ensures in omega (arith, s)
 
 fill-requires : tie.Need-fill-y-requires
 fill-requires c κs =
-    let at_slots = c.before in
-    let at-args = at_slots.before.before.before in
-    bind-fillable at-args.args.work.now at-args.args.env.now at-args.args.p at-args.args.u at-args.args.top _ at-args.requires at_slots.slots-width.ensures
+    bind-fillable c.args.work.now c.args.env.now c.args.p c.args.u c.args.top _ c.requires c.slots-width.ensures
 
 columns-requires : tie.Need-columns-requires
 columns-requires c κs =
-    let at_slots = c.before.before.before.before.before.before in
-    let at-args = at_slots.before.before.before in
-    bind-words at-args.args.work.now at-args.args.env.now at-args.args.p at-args.args.u at-args.args.top _ at-args.requires at_slots.slots-width.ensures
+    bind-words c.args.work.now c.args.env.now c.args.p c.args.u c.args.top _ c.requires c.slots-width.ensures
 
 same_length : tie.Need-shape_of-work
 same_length c =
@@ -37,10 +31,7 @@ same_length c =
 
 returns : tie.Need-returns
 returns c =
-    let at_fill_lem = c.before.before.before.before.before in
-    let at_slots = at_fill_lem.before.before in
-    let at-args = at_slots.before.before.before in
-    bound-to at-args.args.work.now at-args.args.env.now at-args.args.p at-args.args.u at-args.args.top _ at-args.requires at_slots.slots-width.ensures _ _ at_fill_lem.fill-y.ensures _ _ c.columns.ensures
+    bound-to c.args.work.now c.args.env.now c.args.p c.args.u c.args.top _ c.requires c.slots-width.ensures _ _ c.fill-y.ensures _ _ c.columns.ensures
 
 pub bind_spec : {M : Type 1} → statement M
 bind_spec =

@@ -12,45 +12,28 @@ use Rattle.environments.specs.BindingLaws.{copies-tree, copies-list, copies-tree
 
 returns-2 : tie.Need-returns-then-x-lt2
 returns-2 c =
-    let at-get = c.before.before in
-    let args' = at-get.before.before.before.before.args in
-    λ base low high w y is l few h. copies-tree args'.work.now base low high w _ y (subst (λ x. EntryStands args'.work.now base low high w x y) (sym at-get.get-x.ensures) h) args'.outside args'.inner is c.if-x-lt2.true
+    let args' = c.args in
+    λ base low high w y is l few h. copies-tree args'.work.now base low high w _ y (subst (λ x. EntryStands args'.work.now base low high w x y) (sym c.get-x.ensures) h) args'.outside args'.inner is c.if-x-lt2.true
 
 returns-3 : tie.Need-returns-then-outside-eq0
 returns-3 c =
-    let at-if3 = c.before in
-    let at-if2 = at-if3.before in
-    let at-get = at-if2.before.before in
-    let args' = at-get.before.before.before.before.args in
-    λ base low high w y is l few h. c.count.ensures ∙ copies-list args'.work.now base low high w _ y (subst (λ x. EntryStands args'.work.now base low high w x y) (sym at-get.get-x.ensures) h) args'.outside args'.inner is (λ z. omega (arith, at-if2.if-x-lt2.false)) at-if3.if-outside-eq0.true
+    let args' = c.args in
+    λ base low high w y is l few h. c.count.ensures ∙ copies-list args'.work.now base low high w _ y (subst (λ x. EntryStands args'.work.now base low high w x y) (sym c.get-x.ensures) h) args'.outside args'.inner is (λ z. omega (arith, c.if-x-lt2.false)) c.if-outside-eq0.true
 
 returns-4 : tie.Need-returns-then-x-lt3
 returns-4 c =
-    let at-if3 = c.before.before in
-    let at-if2 = at-if3.before in
-    let at-get = at-if2.before.before in
-    let args' = at-get.before.before.before.before.args in
-    λ base low high w y is l few h. copies-trees args'.work.now base low high w _ y (subst (λ x. EntryStands args'.work.now base low high w x y) (sym at-get.get-x.ensures) h) args'.outside args'.inner is (omega (arith, at-if3.if-outside-eq0.false, few)) (λ z. omega (arith, at-if2.if-x-lt2.false)) c.if-x-lt3.true
+    let args' = c.args in
+    λ base low high w y is l few h. copies-trees args'.work.now base low high w _ y (subst (λ x. EntryStands args'.work.now base low high w x y) (sym c.get-x.ensures) h) args'.outside args'.inner is (omega (arith, c.if-outside-eq0.false, few)) (λ z. omega (arith, c.if-x-lt2.false)) c.if-x-lt3.true
 
 returns-5 : tie.Need-returns-then-count-inner
 returns-5 c =
-    let at-count2 = c.before in
-    let at-if4 = at-count2.before in
-    let at-if3 = at-if4.before.before in
-    let at-get = at-if3.before.before.before in
-    let args' = at-get.before.before.before.before.args in
-    λ base low high w y is l few h. copies-past args'.work.now base low high w _ y (subst (λ x. EntryStands args'.work.now base low high w x y) (sym at-get.get-x.ensures) h) args'.outside args'.inner is (omega (arith, at-if3.if-outside-eq0.false, few)) (λ z. omega (arith, at-if4.if-x-lt3.false)) (omega (arith, at-count2.count-2.ensures, c.if-count-inner.true))
+    let args' = c.args in
+    λ base low high w y is l few h. copies-past args'.work.now base low high w _ y (subst (λ x. EntryStands args'.work.now base low high w x y) (sym c.get-x.ensures) h) args'.outside args'.inner is (omega (arith, c.if-outside-eq0.false, few)) (λ z. omega (arith, c.if-x-lt3.false)) (omega (arith, c.count-2.ensures, c.if-count-inner.true))
 
 returns-6 : tie.Need-returns
 returns-6 c =
-    let at_slot = c.before in
-    let at-if5 = at_slot.before in
-    let at-count2 = at-if5.before in
-    let at-if4 = at-count2.before in
-    let at-if3 = at-if4.before.before in
-    let at-get = at-if3.before.before.before in
-    let args' = at-get.before.before.before.before.args in
-    λ base low high w y is l few h. c.count-3.ensures ∙ copies-inner args'.work.now base low high w _ y (subst (λ x. EntryStands args'.work.now base low high w x y) (sym at-get.get-x.ensures) h) args'.outside args'.inner is (omega (arith, at-if3.if-outside-eq0.false, few)) (λ z. omega (arith, at-if4.if-x-lt3.false)) (omega (arith, at-count2.count-2.ensures, at-if5.if-count-inner.false)) _ at_slot.slot-block.ensures
+    let args' = c.args in
+    λ base low high w y is l few h. c.count-3.ensures ∙ copies-inner args'.work.now base low high w _ y (subst (λ x. EntryStands args'.work.now base low high w x y) (sym c.get-x.ensures) h) args'.outside args'.inner is (omega (arith, c.if-outside-eq0.false, few)) (λ z. omega (arith, c.if-x-lt3.false)) (omega (arith, c.count-2.ensures, c.if-count-inner.false)) _ c.slot-block.ensures
 
 pub copies_spec : {M : Type 1} → statement M
 copies_spec =

@@ -16,52 +16,33 @@ returns c =
 
 returns-2 : tie.Need-returns-then-x-eq0
 returns-2 c =
-    let at-get = c.before.before in
-    let args' = at-get.before.before.before.before.args in
-    λ base low high w y l few h. read-unset args'.work.now base low high w _ y (subst (λ x. EntryStands args'.work.now base low high w x y) (sym at-get.get-x.ensures) h) args'.d args'.outer args'.inner c.if-x-eq0.true
+    let args' = c.args in
+    λ base low high w y l few h. read-unset args'.work.now base low high w _ y (subst (λ x. EntryStands args'.work.now base low high w x y) (sym c.get-x.ensures) h) args'.d args'.outer args'.inner c.if-x-eq0.true
 
 returns-3 : tie.Need-returns-then-x-d
 returns-3 c =
-    let at-get = c.before.before.before.before in
-    let args' = at-get.before.before.before.before.args in
-    λ base low high w y l few h. read-other args'.work.now base low high w _ y (subst (λ x. EntryStands args'.work.now base low high w x y) (sym at-get.get-x.ensures) h) args'.d args'.outer args'.inner few c.if-x-d.true
+    let args' = c.args in
+    λ base low high w y l few h. read-other args'.work.now base low high w _ y (subst (λ x. EntryStands args'.work.now base low high w x y) (sym c.get-x.ensures) h) args'.d args'.outer args'.inner few c.if-x-d.true
 
 returns-4 : tie.Need-returns-then-d-eq0
 returns-4 c =
-    let at-if3 = c.before in
-    let at-get = at-if3.before.before.before.before in
-    let args' = at-get.before.before.before.before.args in
-    λ base low high w y l few h. read_whole args'.work.now base low high w _ y (subst (λ x. EntryStands args'.work.now base low high w x y) (sym at-get.get-x.ensures) h) args'.d args'.outer args'.inner at-if3.if-x-d.false c.if-d-eq0.true
+    let args' = c.args in
+    λ base low high w y l few h. read_whole args'.work.now base low high w _ y (subst (λ x. EntryStands args'.work.now base low high w x y) (sym c.get-x.ensures) h) args'.d args'.outer args'.inner c.if-x-d.false c.if-d-eq0.true
 
 returns-5 : tie.Need-returns-then-d-eq1
 returns-5 c =
-    let at-if5 = c.before in
-    let at-if3 = at-if5.before.before in
-    let at-get = at-if3.before.before.before.before in
-    let args' = at-get.before.before.before.before.args in
-    λ base low high w y l few h. rw c.slot.ensures (read_one args'.work.now base low high w _ y (subst (λ x. EntryStands args'.work.now base low high w x y) (sym at-get.get-x.ensures) h) args'.d args'.outer args'.inner at-if3.if-x-d.false at-if5.if-d-eq1.true)
+    let args' = c.args in
+    λ base low high w y l few h. rw c.slot.ensures (read_one args'.work.now base low high w _ y (subst (λ x. EntryStands args'.work.now base low high w x y) (sym c.get-x.ensures) h) args'.d args'.outer args'.inner c.if-x-d.false c.if-d-eq1.true)
 
 returns-6 : tie.Need-returns-then-count-outer
 returns-6 c =
-    let at_count = c.before in
-    let at-if5 = at_count.before in
-    let at-if4 = at-if5.before in
-    let at-if3 = at-if4.before in
-    let at-get = at-if3.before.before.before.before in
-    let args' = at-get.before.before.before.before.args in
-    λ base low high w y l few h. read_past args'.work.now base low high w _ y (subst (λ x. EntryStands args'.work.now base low high w x y) (sym at-get.get-x.ensures) h) args'.d args'.outer args'.inner at-if3.if-x-d.false (omega (arith, at-if4.if-d-eq0.false, at-if5.if-d-eq1.false, few)) (omega (arith, at_count.count.ensures, c.if-count-outer.true))
+    let args' = c.args in
+    λ base low high w y l few h. read_past args'.work.now base low high w _ y (subst (λ x. EntryStands args'.work.now base low high w x y) (sym c.get-x.ensures) h) args'.d args'.outer args'.inner c.if-x-d.false (omega (arith, c.if-d-eq0.false, c.if-d-eq1.false, few)) (omega (arith, c.count.ensures, c.if-count-outer.true))
 
 returns-7 : tie.Need-returns
 returns-7 c =
-    let at-slot2 = c.before in
-    let at-if6 = at-slot2.before in
-    let at_count = at-if6.before in
-    let at-if5 = at_count.before in
-    let at-if4 = at-if5.before in
-    let at-if3 = at-if4.before in
-    let at-get = at-if3.before.before.before.before in
-    let args' = at-get.before.before.before.before.args in
-    λ base low high w y l few h. rw c.slot-2.ensures (read-two args'.work.now base low high w _ y (subst (λ x. EntryStands args'.work.now base low high w x y) (sym at-get.get-x.ensures) h) args'.d args'.outer args'.inner at-if3.if-x-d.false (omega (arith, at-if4.if-d-eq0.false, at-if5.if-d-eq1.false, few)) (omega (arith, at_count.count.ensures, at-if6.if-count-outer.false)) _ at-slot2.slot-block.ensures)
+    let args' = c.args in
+    λ base low high w y l few h. rw c.slot-2.ensures (read-two args'.work.now base low high w _ y (subst (λ x. EntryStands args'.work.now base low high w x y) (sym c.get-x.ensures) h) args'.d args'.outer args'.inner c.if-x-d.false (omega (arith, c.if-d-eq0.false, c.if-d-eq1.false, few)) (omega (arith, c.count.ensures, c.if-count-outer.false)) _ c.slot-block.ensures)
 
 pub taken_spec : {M : Type 1} → statement M
 taken_spec =

@@ -67,11 +67,11 @@ abbrev operands-below : ℕ → In 4 operands-kinds.ps
 operands-below t =
     and 4 operands-kinds.ps (falls 4 operands-kinds.ps ◌<◌ μ-operands t) operands.Pre
 
-abbrev expression-Inv-loop : expression-lts.invariant-loop-n
+abbrev expression-Inv-loop : expression-lts.invariant-loop
 expression-Inv-loop work₀ core₀ known₀ operations fuel start outer node₀ wrap₀ reached₀ work core known node wrap reached =
     (o : List ℕ) → Lent o operations → Going o fuel (tree_at work₀ start outer) reached₀ (tables work₀ core₀ known₀) node wrap reached (tables work core known)
 
-abbrev expression-μ-loop : expression-lts.decreases-loop-n
+abbrev expression-μ-loop : expression-lts.decreases-loop
 expression-μ-loop work₀ core₀ known₀ operations fuel start outer node₀ wrap₀ reached₀ work core known node wrap reached =
     left_of fuel work node wrap reached
 
@@ -81,18 +81,18 @@ expression-claims t = (turn-reads.Asked, turn-reads.Learnt, operands-below t, op
 abbrev operand-claims : ℕ → operand-lts.Claims
 operand-claims t = (word-reads.Asked, word-reads.Learnt, bare-name-reads.Asked, bare-name-reads.Learnt, expression-below t, expression.Post, refuse-reads.Asked, refuse-reads.Learnt, constant-reads.Asked, constant-reads.Learnt)
 
-abbrev operands-Inv-loop : operands-lts.invariant-loop-work
+abbrev operands-Inv-loop : operands-lts.invariant-loop
 operands-Inv-loop work₀ core₀ known₀ operations fuel first wrap list₀ reached₀ work core known list reached =
     (o : List ℕ) → Lent o operations → Walking o fuel (tree_at work₀ first wrap) reached₀ (tables work₀ core₀ known₀) list wrap reached (tables work core known)
 
-abbrev operands-μ-loop : operands-lts.decreases-loop-work
+abbrev operands-μ-loop : operands-lts.decreases-loop
 operands-μ-loop work₀ core₀ known₀ operations fuel first wrap list₀ reached₀ work core known list reached =
     list
 
 abbrev operands-claims : ℕ → operands-lts.Claims
 operands-claims t = (word-reads.Asked, word-reads.Learnt, reference-reads.Asked, reference-reads.Learnt, operand_below t, operand.Post)
 
-expression-loop-holds : (t : ℕ) → expression-lts.Need-loop-n-init (expression-claims t) (expression-at t) expression.Post expression-Inv-loop expression-μ-loop
+expression-loop-holds : (t : ℕ) → expression-lts.Need-loop-init (expression-claims t) (expression-at t) expression.Post expression-Inv-loop expression-μ-loop
 expression-loop-holds t c =
     let pre = c.before.before.before.before.requires in
     λ o lent. going_start o _ _ _ _ _ pre.1.2 pre.1.1
@@ -104,10 +104,10 @@ expression-turn-requires t c κs =
     let lends = pre.1.0 in
     let o = lends.operations in
     let lent = lends.lent in
-    let loop = at-loop.loop-n in
+    let loop = at-loop.loop in
     ((loop.invariant o lent).placed, going-ready o _ _ _ _ _ _ _ _ (loop.invariant o lent) pre.1.2)
 
-expression-loop-less : (t : ℕ) → expression-lts.Need-loop-n-smaller (expression-claims t) (expression-at t) expression.Post expression-Inv-loop expression-μ-loop
+expression-loop-less : (t : ℕ) → expression-lts.Need-loop-smaller (expression-claims t) (expression-at t) expression.Post expression-Inv-loop expression-μ-loop
 expression-loop-less t c =
     let at_n = c.before in
     let at_turn = at_n.before.before.before.before.before.before.before.before in
@@ -116,21 +116,21 @@ expression-loop-less t c =
     let lends = entry.requires.1.0 in
     let o = lends.operations in
     let lent = lends.lent in
-    let loop = at-loop.loop-n in
+    let loop = at-loop.loop in
     let turn = at_turn.turn in
     let after = tables turn.new.0 turn.new.1.0 turn.new.1.1.0 in
-    again-falls o entry.args.fuel _ _ _ _ _ _ _ (loop.invariant o lent) after turn.result (turn.ensures o lent) _ _ _ at_n.n-1.given.1
+    again-falls o entry.args.fuel _ _ _ _ _ _ _ (loop.invariant o lent) after turn.result (turn.ensures o lent) _ _ _ at_n.n.given.1
 
-expression-loop-again : (t : ℕ) → expression-lts.Need-loop-n-preserved (expression-claims t) (expression-at t) expression.Post expression-Inv-loop expression-μ-loop
+expression-loop-again : (t : ℕ) → expression-lts.Need-loop-preserved (expression-claims t) (expression-at t) expression.Post expression-Inv-loop expression-μ-loop
 expression-loop-again t c =
     let at_n = c.before in
     let at_turn = at_n.before.before.before.before.before.before.before.before in
     let at-loop = at_turn.before.before.before.before in
     let entry = at-loop.before.before.before.before.before in
-    let loop = at-loop.loop-n in
+    let loop = at-loop.loop in
     let turn = at_turn.turn in
     let after = tables turn.new.0 turn.new.1.0 turn.new.1.1.0 in
-    λ o lent. again-going o entry.args.fuel _ _ _ _ _ _ _ (loop.invariant o lent) after turn.result (turn.ensures o lent) _ _ _ at_n.n-1.given.1
+    λ o lent. again-going o entry.args.fuel _ _ _ _ _ _ _ (loop.invariant o lent) after turn.result (turn.ensures o lent) _ _ _ at_n.n.given.1
 
 expression-operands-requires : (t : ℕ) → expression-lts.Need-operands-requires (expression-claims t) (expression-at t) expression.Post expression-Inv-loop expression-μ-loop
 expression-operands-requires t c κs =
@@ -141,13 +141,13 @@ expression-operands-requires t c κs =
     let lends = entry.requires.1.0 in
     let o = lends.operations in
     let lent = lends.lent in
-    let loop = at-loop.loop-n in
+    let loop = at-loop.loop in
     let turn = at_turn.turn in
     let after = tables turn.new.0 turn.new.1.0 turn.new.1.1.0 in
-    let asks = spread-asks o entry.args.fuel _ _ _ _ _ _ _ (loop.invariant o lent) after turn.result (turn.ensures o lent) _ _ _ at-l.l-1.given.1 entry.requires.1.2 in
+    let asks = spread-asks o entry.args.fuel _ _ _ _ _ _ _ (loop.invariant o lent) after turn.result (turn.ensures o lent) _ _ _ at-l.l.given.1 entry.requires.1.2 in
     (omega (arith, entry.requires.0, asks.0), (entry.requires.1.0, asks.1, asks.2))
 
-expression-same-length : (t : ℕ) → expression-lts.Need-shape_of-work-in-Operands (expression-claims t) (expression-at t) expression.Post expression-Inv-loop expression-μ-loop
+expression-same-length : (t : ℕ) → expression-lts.Need-same-length (expression-claims t) (expression-at t) expression.Post expression-Inv-loop expression-μ-loop
 expression-same-length t c =
     let at-operands = c.before.before.before.before.before.before in
     let at_turn = at-operands.before.before.before.before.before.before.before.before.before.before.before.before.before in
@@ -155,12 +155,12 @@ expression-same-length t c =
     let lends = at-loop.before.before.before.before.before.requires.1.0 in
     let o = lends.operations in
     let lent = lends.lent in
-    let loop = at-loop.loop-n in
+    let loop = at-loop.loop in
     let turn = at_turn.turn in
     let operands = at-operands.operands in
     operands.auto.0 ∙ turn.auto.0 ∙ (loop.invariant o lent).kept.work-long
 
-expression-same-length-2 : (t : ℕ) → expression-lts.Need-shape_of-core-in-Operands (expression-claims t) (expression-at t) expression.Post expression-Inv-loop expression-μ-loop
+expression-same-length-2 : (t : ℕ) → expression-lts.Need-same-length-2 (expression-claims t) (expression-at t) expression.Post expression-Inv-loop expression-μ-loop
 expression-same-length-2 t c =
     let at-operands = c.before.before.before.before.before.before in
     let at_turn = at-operands.before.before.before.before.before.before.before.before.before.before.before.before.before in
@@ -168,12 +168,12 @@ expression-same-length-2 t c =
     let lends = at-loop.before.before.before.before.before.requires.1.0 in
     let o = lends.operations in
     let lent = lends.lent in
-    let loop = at-loop.loop-n in
+    let loop = at-loop.loop in
     let turn = at_turn.turn in
     let operands = at-operands.operands in
     operands.auto.1.0 ∙ turn.auto.1.0 ∙ (loop.invariant o lent).kept.core-long
 
-expression-same-length-3 : (t : ℕ) → expression-lts.Need-shape_of-known-in-Operands (expression-claims t) (expression-at t) expression.Post expression-Inv-loop expression-μ-loop
+expression-same-length-3 : (t : ℕ) → expression-lts.Need-same-length-3 (expression-claims t) (expression-at t) expression.Post expression-Inv-loop expression-μ-loop
 expression-same-length-3 t c =
     let at-operands = c.before.before.before.before.before.before in
     let at_turn = at-operands.before.before.before.before.before.before.before.before.before.before.before.before.before in
@@ -181,90 +181,90 @@ expression-same-length-3 t c =
     let lends = at-loop.before.before.before.before.before.requires.1.0 in
     let o = lends.operations in
     let lent = lends.lent in
-    let loop = at-loop.loop-n in
+    let loop = at-loop.loop in
     let turn = at_turn.turn in
     let operands = at-operands.operands in
     operands.auto.1.1.0 ∙ turn.auto.1.1.0 ∙ (loop.invariant o lent).kept.macros-long
 
-expression-returns : (t : ℕ) → expression-lts.Need-returns-in-Operands (expression-claims t) (expression-at t) expression.Post expression-Inv-loop expression-μ-loop
+expression-returns : (t : ℕ) → expression-lts.Need-returns (expression-claims t) (expression-at t) expression.Post expression-Inv-loop expression-μ-loop
 expression-returns t c =
     let at-operands = c.before.before.before.before.before.before in
     let at-l = at-operands.before.before.before.before.before in
     let at_turn = at-l.before.before.before.before.before.before.before.before in
     let at-loop = at_turn.before.before.before.before in
     let entry = at-loop.before.before.before.before.before in
-    let loop = at-loop.loop-n in
+    let loop = at-loop.loop in
     let turn = at_turn.turn in
     let after = tables turn.new.0 turn.new.1.0 turn.new.1.1.0 in
-    λ o lent. spread-over o entry.args.fuel _ _ _ _ _ _ _ (loop.invariant o lent) after turn.result (turn.ensures o lent) _ _ _ at-l.l-1.given.1 _ _ (at-operands.operands.ensures o lent)
+    λ o lent. spread-over o entry.args.fuel _ _ _ _ _ _ _ (loop.invariant o lent) after turn.result (turn.ensures o lent) _ _ _ at-l.l.given.1 _ _ (at-operands.operands.ensures o lent)
 
-expression-same-length-4 : (t : ℕ) → expression-lts.Need-shape_of-work-in-Over (expression-claims t) (expression-at t) expression.Post expression-Inv-loop expression-μ-loop
+expression-same-length-4 : (t : ℕ) → expression-lts.Need-same-length-4 (expression-claims t) (expression-at t) expression.Post expression-Inv-loop expression-μ-loop
 expression-same-length-4 t c =
     let at_turn = c.before.before.before.before.before.before.before.before.before in
     let at-loop = at_turn.before.before.before.before in
     let lends = at-loop.before.before.before.before.before.requires.1.0 in
-    let loop = at-loop.loop-n in
+    let loop = at-loop.loop in
     at_turn.turn.auto.0 ∙ (loop.invariant lends.operations lends.lent).kept.work-long
 
-expression-same-length-5 : (t : ℕ) → expression-lts.Need-shape_of-core-in-Over (expression-claims t) (expression-at t) expression.Post expression-Inv-loop expression-μ-loop
+expression-same-length-5 : (t : ℕ) → expression-lts.Need-same-length-5 (expression-claims t) (expression-at t) expression.Post expression-Inv-loop expression-μ-loop
 expression-same-length-5 t c =
     let at_turn = c.before.before.before.before.before.before.before.before.before in
     let at-loop = at_turn.before.before.before.before in
     let lends = at-loop.before.before.before.before.before.requires.1.0 in
-    let loop = at-loop.loop-n in
+    let loop = at-loop.loop in
     at_turn.turn.auto.1.0 ∙ (loop.invariant lends.operations lends.lent).kept.core-long
 
-expression-same-length-6 : (t : ℕ) → expression-lts.Need-shape_of-known-in-Over (expression-claims t) (expression-at t) expression.Post expression-Inv-loop expression-μ-loop
+expression-same-length-6 : (t : ℕ) → expression-lts.Need-same-length-6 (expression-claims t) (expression-at t) expression.Post expression-Inv-loop expression-μ-loop
 expression-same-length-6 t c =
     let at_turn = c.before.before.before.before.before.before.before.before.before in
     let at-loop = at_turn.before.before.before.before in
     let lends = at-loop.before.before.before.before.before.requires.1.0 in
-    let loop = at-loop.loop-n in
+    let loop = at-loop.loop in
     at_turn.turn.auto.1.1.0 ∙ (loop.invariant lends.operations lends.lent).kept.macros-long
 
-expression-returns-2 : (t : ℕ) → expression-lts.Need-returns-in-Over (expression-claims t) (expression-at t) expression.Post expression-Inv-loop expression-μ-loop
+expression-returns-2 : (t : ℕ) → expression-lts.Need-returns-2 (expression-claims t) (expression-at t) expression.Post expression-Inv-loop expression-μ-loop
 expression-returns-2 t c =
     let at-e = c.before in
     let at_turn = at-e.before.before.before.before.before.before.before.before in
     let at-loop = at_turn.before.before.before.before in
     let entry = at-loop.before.before.before.before.before in
-    let loop = at-loop.loop-n in
+    let loop = at-loop.loop in
     let turn = at_turn.turn in
     let after = tables turn.new.0 turn.new.1.0 turn.new.1.1.0 in
-    λ o lent. over-right o entry.args.fuel _ _ _ _ _ _ _ (loop.invariant o lent) after turn.result (turn.ensures o lent) _ at-e.e-1.given.1
+    λ o lent. over-right o entry.args.fuel _ _ _ _ _ _ _ (loop.invariant o lent) after turn.result (turn.ensures o lent) _ at-e.e.given.1
 
-operand-bare-name-requires : (t : ℕ) → operand-lts.Need-bare_name-requires (operand-claims t) (operand_at t) operand.Post
+operand-bare-name-requires : (t : ℕ) → operand-lts.Need-bare-name-requires (operand-claims t) (operand_at t) operand.Post
 operand-bare-name-requires t c κs =
     let entry = c.before.before.before.before.before.before.before.before.before in
     let a = entry.args in
     operand-room a.work.now a.core.now a.known.now a.fuel a.node a.wrap a.from entry.requires.1.1 entry.requires.1.2
 
-operand-returns : (t : ℕ) → operand-lts.Need-returns-then-kind-eq-NAME (operand-claims t) (operand_at t) operand.Post
+operand-returns : (t : ℕ) → operand-lts.Need-returns (operand-claims t) (operand_at t) operand.Post
 operand-returns t c =
     let at-bare-name = c.before.before in
     let at-if1 = at-bare-name.before.before.before in
     let at-word = at-if1.before in
     let entry = at-word.before.before.before.before.before.before in
     let a = entry.args in
-    let name = at-bare-name.bare_name in
-    λ o lent. name-expands a.work.now a.core.now a.known.now a.fuel a.node a.wrap a.from entry.requires.1.1 entry.requires.1.2 _ at-word.word-kind.ensures o at-if1.if-kind-eq-NAME.true _ name.result (found_in o a.operations.now (name_at a.work.now a.node a.wrap) lent (λ f. Leaf (name_end f) 2 a.from a.core.now name.new.1.0 name.result) name.ensures)
+    let name = at-bare-name.bare-name in
+    λ o lent. name-expands a.work.now a.core.now a.known.now a.fuel a.node a.wrap a.from entry.requires.1.1 entry.requires.1.2 _ at-word.word.ensures o at-if1.if1.true _ name.result (found_in o a.operations.now (name_at a.work.now a.node a.wrap) lent (λ f. Leaf (name_end f) 2 a.from a.core.now name.new.1.0 name.result) name.ensures)
 
 operand-expression-requires : (t : ℕ) → operand-lts.Need-expression-requires (operand-claims t) (operand_at t) operand.Post
 operand-expression-requires t c κs =
     let pre = c.before.before.before.before.before.before.before.before.before.before.before.requires in
     (omega (arith, pre.0), pre.1)
 
-operand-returns-2 : (t : ℕ) → operand-lts.Need-returns-then-kind-eq-PAIR (operand-claims t) (operand_at t) operand.Post
+operand-returns-2 : (t : ℕ) → operand-lts.Need-returns-2 (operand-claims t) (operand_at t) operand.Post
 operand-returns-2 t c =
     c.before.before.before.before.before.before.expression.ensures
 
-operand-returns-3 : (t : ℕ) → operand-lts.Need-returns-then-kind-eq-EMPTY (operand-claims t) (operand_at t) operand.Post
+operand-returns-3 : (t : ℕ) → operand-lts.Need-returns-3 (operand-claims t) (operand_at t) operand.Post
 operand-returns-3 t c =
     let at-if3 = c.before in
     let at-word = at-if3.before.before.before in
     let entry = at-word.before.before.before.before.before.before in
     let a = entry.args in
-    λ o lent. empty-expands a.work.now a.core.now a.known.now a.fuel a.node a.wrap a.from entry.requires.1.1 entry.requires.1.2 _ at-word.word-kind.ensures o at-if3.if-kind-eq-EMPTY.true _ c.refuse.ensures
+    λ o lent. empty-expands a.work.now a.core.now a.known.now a.fuel a.node a.wrap a.from entry.requires.1.1 entry.requires.1.2 _ at-word.word.ensures o at-if3.if3.true _ c.refuse.ensures
 
 operand-constant-requires : (t : ℕ) → operand-lts.Need-constant-requires (operand-claims t) (operand_at t) operand.Post
 operand-constant-requires t c κs =
@@ -276,9 +276,9 @@ operand-constant-requires t c κs =
     let at-word = at-if1.before in
     let entry = at-word.before.before.before.before.before.before in
     let a = entry.args in
-    constant-asks a.work.now a.core.now a.known.now a.fuel a.node a.wrap a.from entry.requires.1.1 entry.requires.1.2 _ at-word.word-kind.ensures at-if3.if-kind-eq-EMPTY.false at-if1.if-kind-eq-NAME.false at-if2.if-kind-eq-PAIR.false _ _ at-word2.word-first.ensures at-word3.word-second.ensures
+    constant-asks a.work.now a.core.now a.known.now a.fuel a.node a.wrap a.from entry.requires.1.1 entry.requires.1.2 _ at-word.word.ensures at-if3.if3.false at-if1.if1.false at-if2.if2.false _ _ at-word2.word2.ensures at-word3.word3.ensures
 
-operand-returns-4 : (t : ℕ) → operand-lts.Need-returns (operand-claims t) (operand_at t) operand.Post
+operand-returns-4 : (t : ℕ) → operand-lts.Need-returns-4 (operand-claims t) (operand_at t) operand.Post
 operand-returns-4 t c =
     let at_constant = c.before.before in
     let at-word3 = at_constant.before.before in
@@ -290,14 +290,14 @@ operand-returns-4 t c =
     let entry = at-word.before.before.before.before.before.before in
     let a = entry.args in
     let constant = at_constant.constant in
-    λ o lent. constant-expands a.work.now a.core.now a.known.now a.fuel a.node a.wrap a.from entry.requires.1.1 entry.requires.1.2 _ at-word.word-kind.ensures at-if3.if-kind-eq-EMPTY.false at-if1.if-kind-eq-NAME.false at-if2.if-kind-eq-PAIR.false _ _ at-word2.word-first.ensures at-word3.word-second.ensures o _ constant.result constant.ensures
+    λ o lent. constant-expands a.work.now a.core.now a.known.now a.fuel a.node a.wrap a.from entry.requires.1.1 entry.requires.1.2 _ at-word.word.ensures at-if3.if3.false at-if1.if1.false at-if2.if2.false _ _ at-word2.word2.ensures at-word3.word3.ensures o _ constant.result constant.ensures
 
-operands-loop-holds : (t : ℕ) → operands-lts.Need-loop-work-init (operands-claims t) (operands-at t) operands.Post operands-Inv-loop operands-μ-loop
+operands-loop-holds : (t : ℕ) → operands-lts.Need-loop-init (operands-claims t) (operands-at t) operands.Post operands-Inv-loop operands-μ-loop
 operands-loop-holds t c =
     let pre = c.before.before.before.before.requires in
     λ o lent. walking_start o _ _ _ _ _ pre.1.2 pre.1.1
 
-operands-operand-requires : (t : ℕ) → operands-lts.Need-operand-ended-requires (operands-claims t) (operands-at t) operands.Post operands-Inv-loop operands-μ-loop
+operands-operand-requires : (t : ℕ) → operands-lts.Need-operand-requires (operands-claims t) (operands-at t) operands.Post operands-Inv-loop operands-μ-loop
 operands-operand-requires t c κs =
     let at-reference = c.before.before.before in
     let at-if1 = at-reference.before.before in
@@ -307,13 +307,13 @@ operands-operand-requires t c κs =
     let lends = entry.requires.1.0 in
     let o = lends.operations in
     let lent = lends.lent in
-    let loop = at-loop.loop-work in
+    let loop = at-loop.loop in
     let word = at-word.word in
-    let head = at-reference.reference-head in
-    let asks = operand-asks o entry.args.fuel _ _ _ _ _ _ _ (loop.invariant o lent) entry.requires.1.2 _ word.ensures at-if1.loop-work-test.true _ head.ensures in
+    let head = at-reference.reference in
+    let asks = operand-asks o entry.args.fuel _ _ _ _ _ _ _ (loop.invariant o lent) entry.requires.1.2 _ word.ensures at-if1.if1.true _ head.ensures in
     (omega (arith, entry.requires.0, asks.0), (entry.requires.1.0, asks.1, asks.2))
 
-operands-returns : (t : ℕ) → operands-lts.Need-returns-in_default (operands-claims t) (operands-at t) operands.Post operands-Inv-loop operands-μ-loop
+operands-returns : (t : ℕ) → operands-lts.Need-returns (operands-claims t) (operands-at t) operands.Post operands-Inv-loop operands-μ-loop
 operands-returns t c =
     let at-operand = c.before.before.before.before.before.before.before.before in
     let at-reference = at-operand.before.before.before.before in
@@ -321,14 +321,14 @@ operands-returns t c =
     let at-word = at-if1.before in
     let at-loop = at-word.before.before in
     let entry = at-loop.before.before.before.before.before in
-    let loop = at-loop.loop-work in
+    let loop = at-loop.loop in
     let word = at-word.word in
-    let head = at-reference.reference-head in
-    let operand = at-operand.operand-ended in
+    let head = at-reference.reference in
+    let operand = at-operand.operand in
     let after = tables operand.new.0 operand.new.1.0 operand.new.1.1.0 in
-    λ o lent. operand-refused o entry.args.fuel _ _ _ _ _ _ _ (loop.invariant o lent) entry.requires.1.2 _ word.ensures at-if1.loop-work-test.true _ head.ensures after operand.result (operand.ensures o lent) _ _ _ c.enum_told-1.given.1
+    λ o lent. operand-refused o entry.args.fuel _ _ _ _ _ _ _ (loop.invariant o lent) entry.requires.1.2 _ word.ensures at-if1.if1.true _ head.ensures after operand.result (operand.ensures o lent) _ _ _ c.enum_told.given.1
 
-operands-loop-less : (t : ℕ) → operands-lts.Need-loop-work-smaller (operands-claims t) (operands-at t) operands.Post operands-Inv-loop operands-μ-loop
+operands-loop-less : (t : ℕ) → operands-lts.Need-loop-smaller (operands-claims t) (operands-at t) operands.Post operands-Inv-loop operands-μ-loop
 operands-loop-less t c =
     let at_ended = c.before.before.before in
     let at-operand = at_ended.before.before.before.before.before.before.before.before in
@@ -340,15 +340,15 @@ operands-loop-less t c =
     let lends = entry.requires.1.0 in
     let o = lends.operations in
     let lent = lends.lent in
-    let loop = at-loop.loop-work in
+    let loop = at-loop.loop in
     let word = at-word.word in
-    let head = at-reference.reference-head in
-    let operand = at-operand.operand-ended in
+    let head = at-reference.reference in
+    let operand = at-operand.operand in
     let after = tables operand.new.0 operand.new.1.0 operand.new.1.1.0 in
-    let tail = c.reference-list in
-    next-falls o entry.args.fuel _ _ _ _ _ _ _ (loop.invariant o lent) entry.requires.1.2 _ word.ensures at-if1.loop-work-test.true _ head.ensures after operand.result (operand.ensures o lent) _ at_ended.ended-1.given.1 _ tail.ensures
+    let tail = c.reference2 in
+    next-falls o entry.args.fuel _ _ _ _ _ _ _ (loop.invariant o lent) entry.requires.1.2 _ word.ensures at-if1.if1.true _ head.ensures after operand.result (operand.ensures o lent) _ at_ended.ended.given.1 _ tail.ensures
 
-operands-loop-again : (t : ℕ) → operands-lts.Need-loop-work-preserved (operands-claims t) (operands-at t) operands.Post operands-Inv-loop operands-μ-loop
+operands-loop-again : (t : ℕ) → operands-lts.Need-loop-preserved (operands-claims t) (operands-at t) operands.Post operands-Inv-loop operands-μ-loop
 operands-loop-again t c =
     let at_ended = c.before.before.before in
     let at-operand = at_ended.before.before.before.before.before.before.before.before in
@@ -357,65 +357,65 @@ operands-loop-again t c =
     let at-word = at-if1.before in
     let at-loop = at-word.before.before in
     let entry = at-loop.before.before.before.before.before in
-    let loop = at-loop.loop-work in
+    let loop = at-loop.loop in
     let word = at-word.word in
-    let head = at-reference.reference-head in
-    let operand = at-operand.operand-ended in
+    let head = at-reference.reference in
+    let operand = at-operand.operand in
     let after = tables operand.new.0 operand.new.1.0 operand.new.1.1.0 in
-    let tail = c.reference-list in
-    λ o lent. operand-walking o entry.args.fuel _ _ _ _ _ _ _ (loop.invariant o lent) entry.requires.1.2 _ word.ensures at-if1.loop-work-test.true _ head.ensures after operand.result (operand.ensures o lent) _ at_ended.ended-1.given.1 _ tail.ensures
+    let tail = c.reference2 in
+    λ o lent. operand-walking o entry.args.fuel _ _ _ _ _ _ _ (loop.invariant o lent) entry.requires.1.2 _ word.ensures at-if1.if1.true _ head.ensures after operand.result (operand.ensures o lent) _ at_ended.ended.given.1 _ tail.ensures
 
-operands-same-length : (t : ℕ) → operands-lts.Need-shape_of-work-in_default (operands-claims t) (operands-at t) operands.Post operands-Inv-loop operands-μ-loop
+operands-same-length : (t : ℕ) → operands-lts.Need-same-length (operands-claims t) (operands-at t) operands.Post operands-Inv-loop operands-μ-loop
 operands-same-length t c =
     let at-operand = c.before.before.before.before.before.before.before.before in
     let at-loop = at-operand.before.before.before.before.before.before.before.before.before in
     let lends = at-loop.before.before.before.before.before.requires.1.0 in
-    let loop = at-loop.loop-work in
-    at-operand.operand-ended.auto.0 ∙ (loop.invariant lends.operations lends.lent).kept.work-long
+    let loop = at-loop.loop in
+    at-operand.operand.auto.0 ∙ (loop.invariant lends.operations lends.lent).kept.work-long
 
-operands-same-length-2 : (t : ℕ) → operands-lts.Need-shape_of-core-in_default (operands-claims t) (operands-at t) operands.Post operands-Inv-loop operands-μ-loop
+operands-same-length-2 : (t : ℕ) → operands-lts.Need-same-length-2 (operands-claims t) (operands-at t) operands.Post operands-Inv-loop operands-μ-loop
 operands-same-length-2 t c =
     let at-operand = c.before.before.before.before.before.before.before.before in
     let at-loop = at-operand.before.before.before.before.before.before.before.before.before in
     let lends = at-loop.before.before.before.before.before.requires.1.0 in
-    let loop = at-loop.loop-work in
-    at-operand.operand-ended.auto.1.0 ∙ (loop.invariant lends.operations lends.lent).kept.core-long
+    let loop = at-loop.loop in
+    at-operand.operand.auto.1.0 ∙ (loop.invariant lends.operations lends.lent).kept.core-long
 
-operands-same-length-3 : (t : ℕ) → operands-lts.Need-shape_of-known-in_default (operands-claims t) (operands-at t) operands.Post operands-Inv-loop operands-μ-loop
+operands-same-length-3 : (t : ℕ) → operands-lts.Need-same-length-3 (operands-claims t) (operands-at t) operands.Post operands-Inv-loop operands-μ-loop
 operands-same-length-3 t c =
     let at-operand = c.before.before.before.before.before.before.before.before in
     let at-loop = at-operand.before.before.before.before.before.before.before.before.before in
     let lends = at-loop.before.before.before.before.before.requires.1.0 in
-    let loop = at-loop.loop-work in
-    at-operand.operand-ended.auto.1.1.0 ∙ (loop.invariant lends.operations lends.lent).kept.macros-long
+    let loop = at-loop.loop in
+    at-operand.operand.auto.1.1.0 ∙ (loop.invariant lends.operations lends.lent).kept.macros-long
 
-operands-same-length-4 : (t : ℕ) → operands-lts.Need-shape_of-work (operands-claims t) (operands-at t) operands.Post operands-Inv-loop operands-μ-loop
+operands-same-length-4 : (t : ℕ) → operands-lts.Need-same-length-4 (operands-claims t) (operands-at t) operands.Post operands-Inv-loop operands-μ-loop
 operands-same-length-4 t c =
     let lends = c.before.before.before.before.before.before.before.before.requires.1.0 in
-    let loop = c.before.before.before.loop-work in
+    let loop = c.before.before.before.loop in
     (loop.invariant lends.operations lends.lent).kept.work-long
 
-operands-same-length-5 : (t : ℕ) → operands-lts.Need-shape_of-core (operands-claims t) (operands-at t) operands.Post operands-Inv-loop operands-μ-loop
+operands-same-length-5 : (t : ℕ) → operands-lts.Need-same-length-5 (operands-claims t) (operands-at t) operands.Post operands-Inv-loop operands-μ-loop
 operands-same-length-5 t c =
     let lends = c.before.before.before.before.before.before.before.before.requires.1.0 in
-    let loop = c.before.before.before.loop-work in
+    let loop = c.before.before.before.loop in
     (loop.invariant lends.operations lends.lent).kept.core-long
 
-operands-same-length-6 : (t : ℕ) → operands-lts.Need-shape_of-known (operands-claims t) (operands-at t) operands.Post operands-Inv-loop operands-μ-loop
+operands-same-length-6 : (t : ℕ) → operands-lts.Need-same-length-6 (operands-claims t) (operands-at t) operands.Post operands-Inv-loop operands-μ-loop
 operands-same-length-6 t c =
     let lends = c.before.before.before.before.before.before.before.before.requires.1.0 in
-    let loop = c.before.before.before.loop-work in
+    let loop = c.before.before.before.loop in
     (loop.invariant lends.operations lends.lent).kept.macros-long
 
-operands-returns-2 : (t : ℕ) → operands-lts.Need-returns (operands-claims t) (operands-at t) operands.Post operands-Inv-loop operands-μ-loop
+operands-returns-2 : (t : ℕ) → operands-lts.Need-returns-2 (operands-claims t) (operands-at t) operands.Post operands-Inv-loop operands-μ-loop
 operands-returns-2 t c =
     let entry = c.before.before.before.before.before.before.before.before in
-    let loop = c.before.before.before.loop-work in
+    let loop = c.before.before.before.loop in
     let word = c.before.word in
-    λ o lent. operands_end o entry.args.fuel _ _ _ _ _ _ _ (loop.invariant o lent) entry.requires.1.2 _ word.ensures c.loop-work-test.false
+    λ o lent. operands_end o entry.args.fuel _ _ _ _ _ _ _ (loop.invariant o lent) entry.requires.1.2 _ word.ensures c.if1.false
 
-pub +expression_operand_operands_spec : {M : Type 1} → statement M
-+expression_operand_operands_spec =
+pub +expression-operand-operands-spec : {M : Type 1} → statement M
++expression-operand-operands-spec =
     close μ-expression μ-operand μ-operands (λ t. expression-lts.spec (
       turn-reads.Asked,
       turn-reads.Learnt,

@@ -9,7 +9,7 @@ use Rattle.expander.specs.StartLaws.{start-most}
 run-requires : tie.Need-run-requires
 unfolding item_count
 run-requires c κs =
-    (c.before.before.before.before.before.before.before.before.requires, omega (arith, c.before.before.before.if-items-fuel.true))
+    (c.before.before.before.before.before.before.before.before.requires, omega (arith, c.before.before.before.if1.true))
 
 run-requires-2 : tie.Need-run-requires-2
 run-requires-2 c κs =
@@ -17,8 +17,8 @@ run-requires-2 c κs =
     let a = entry.args in
     (entry.requires, omega (arith, start-most a.items.now a.work.now a.core.now a.operations.now a.fuel entry.requires))
 
-pub expand_recipe_spec : {M : Type 1} → statement M
-expand_recipe_spec =
+pub expand-recipe-spec : {M : Type 1} → statement M
+expand-recipe-spec =
     tie.close
     (tie.spec
     (λ c. search rules)  -- add-if1

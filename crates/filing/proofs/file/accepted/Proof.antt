@@ -13,49 +13,31 @@ use Rattle.filing.specs.FileLaws.{header-full, no_byte, term-full, end-never-ful
 
 returns : tie.Need-returns-then-from
 returns c =
-    λ x e. header-full _ _ x _ _ _ c.before.before.before.accepted_line-from.ensures (put_full _ c.if-from.true)
+    λ x e. header-full _ _ x _ _ _ c.accepted_line-from.ensures (put_full _ c.if-from.true)
 
 returns-2 : tie.Need-returns-then-from-out
 returns-2 c =
-    λ x e. no_byte _ _ x _ _ _ c.before.before.before.before.accepted_line-from.ensures _ (put-done _ c.before.if-from.false) c.if-from-out.true
+    λ x e. no_byte _ _ x _ _ _ c.accepted_line-from.ensures _ (put-done _ c.if-from.false) c.if-from-out.true
 
 returns-3 : tie.Need-returns-then-to
 returns-3 c =
-    let at-term-at = c.before.before.before in
-    let at-if1 = at-term-at.before.before.before in
-    λ x e. term-full _ _ x _ _ _ at-if1.before.before.before.accepted_line-from.ensures _ (put-done _ at-if1.if-from.false) _ _ (at-term-at.term_at-to.ensures.1 x e) (put_full _ c.if-to.true)
+    λ x e. term-full _ _ x _ _ _ c.accepted_line-from.ensures _ (put-done _ c.if-from.false) _ _ (c.term_at-to.ensures.1 x e) (put_full _ c.if-to.true)
 
 byte-requires : tie.Need-byte-end-requires
 byte-requires c κs =
-    omega (arith, c.before.before.before.before.term_at-to.ensures.0 c.before.if-to.false, c.before.before.before.before.term_at-to.auto)
+    omega (arith, c.term_at-to.ensures.0 c.if-to.false, c.term_at-to.auto)
 
 returns-4 : tie.Need-returns-then-end
 returns-4 c =
-    let at_byte = c.before.before.before in
-    let at-if3 = at_byte.before.before in
-    let at-term-at = at-if3.before.before.before in
-    let at-if1 = at-term-at.before.before.before in
-    λ x e. end-never-full _ _ x _ _ _ at-if1.before.before.before.accepted_line-from.ensures _ (put-done _ at-if1.if-from.false) _ _ (at-term-at.term_at-to.ensures.1 x e) _ (put-done _ at-if3.if-to.false) _ _ at_byte.byte-end.ensures (put_full _ c.if-end.true)
+    λ x e. end-never-full _ _ x _ _ _ c.accepted_line-from.ensures _ (put-done _ c.if-from.false) _ _ (c.term_at-to.ensures.1 x e) _ (put-done _ c.if-to.false) _ _ c.byte-end.ensures (put_full _ c.if-end.true)
 
 returns-5 : tie.Need-returns-then-again
 returns-5 c =
-    let at-accepted-line2 = c.before.before.before in
-    let at-if4 = at-accepted-line2.before.before in
-    let at_byte = at-if4.before.before.before in
-    let at-if3 = at_byte.before.before in
-    let at-term-at = at-if3.before.before.before in
-    let at-if1 = at-term-at.before.before.before in
-    λ x e. header-never-full _ _ x _ _ _ at-if1.before.before.before.accepted_line-from.ensures _ (put-done _ at-if1.if-from.false) _ _ (at-term-at.term_at-to.ensures.1 x e) _ (put-done _ at-if3.if-to.false) _ _ at_byte.byte-end.ensures _ (put-done _ at-if4.if-end.false) _ _ at-accepted-line2.accepted_line-again.ensures (put_full _ c.if-again.true)
+    λ x e. header-never-full _ _ x _ _ _ c.accepted_line-from.ensures _ (put-done _ c.if-from.false) _ _ (c.term_at-to.ensures.1 x e) _ (put-done _ c.if-to.false) _ _ c.byte-end.ensures _ (put-done _ c.if-end.false) _ _ c.accepted_line-again.ensures (put_full _ c.if-again.true)
 
 returns-6 : tie.Need-returns
 returns-6 c =
-    let at-accepted-line2 = c.before.before.before in
-    let at-if4 = at-accepted-line2.before.before in
-    let at_byte = at-if4.before.before.before in
-    let at-if3 = at_byte.before.before in
-    let at-term-at = at-if3.before.before.before in
-    let at-if1 = at-term-at.before.before.before in
-    λ x e. accepted-wrote _ _ x _ _ _ at-if1.before.before.before.accepted_line-from.ensures _ (put-done _ at-if1.if-from.false) _ _ (at-term-at.term_at-to.ensures.1 x e) _ (put-done _ at-if3.if-to.false) _ _ at_byte.byte-end.ensures _ (put-done _ at-if4.if-end.false) _ _ at-accepted-line2.accepted_line-again.ensures _ (put-done _ c.if-again.false)
+    λ x e. accepted-wrote _ _ x _ _ _ c.accepted_line-from.ensures _ (put-done _ c.if-from.false) _ _ (c.term_at-to.ensures.1 x e) _ (put-done _ c.if-to.false) _ _ c.byte-end.ensures _ (put-done _ c.if-end.false) _ _ c.accepted_line-again.ensures _ (put-done _ c.if-again.false)
 
 pub accepted_spec : {M : Type 1} → statement M
 accepted_spec =

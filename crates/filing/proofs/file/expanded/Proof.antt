@@ -15,26 +15,19 @@ use Rattle.filing.specs.RunLaws.{expanded-accepted, expanded-refused}
 
 slice-reshare-prefix-accepted : tie.Need-slice_bounds-accepted-end
 slice-reshare-prefix-accepted c =
-    (term-front _ _ _ _ _ _ _ c.before.before.before.before.before.before.before.before.expand.ensures _ _ _ c.before.before.n-1.given.1 _ c.wide-end.ensures).0
+    (term-front _ _ _ _ _ _ _ c.expand.ensures _ _ _ c.in-Accepted.is _ c.wide-end.ensures).0
 
 slice-aggregate-accepted : tie.Need-slice_bounds-accepted-end-in-Accepted
 slice-aggregate-accepted c =
-    let at_wide = c.before in
-    let at_n = at_wide.before.before in
-    sym (length-take-le _ _ (term-front _ _ _ _ _ _ _ at_n.before.before.before.before.before.before.expand.ensures _ _ _ at_n.n-1.given.1 _ at_wide.wide-end.ensures).0)
+    sym (length-take-le _ _ (term-front _ _ _ _ _ _ _ c.expand.ensures _ _ _ c.in-Accepted.is _ c.wide-end.ensures).0)
 
 returns : tie.Need-returns-in-Accepted
 returns c =
-    let at-accepted = c.before.before in
-    let at_wide = at-accepted.before.before.before in
-    let at_n = at_wide.before.before in
-    expanded-accepted _ _ _ _ _ _ _ at_n.before.before.before.before.before.before.expand.ensures _ _ _ at_n.n-1.given.1 _ at_wide.wide-end.ensures at-accepted.accepted.ensures
+    expanded-accepted _ _ _ _ _ _ _ c.expand.ensures _ _ _ c.in-Accepted.is _ c.wide-end.ensures c.accepted.ensures
 
 returns-2 : tie.Need-returns-in-Refused
 returns-2 c =
-    let at-refused = c.before.before in
-    let at_g = at-refused.before.before.before in
-    λ named. expanded-refused _ _ _ _ _ _ _ at_g.before.before.before.before.before.before.expand.ensures _ _ _ at_g.g-1.given.1 at-refused.refused.ensures
+    λ named. expanded-refused _ _ _ _ _ _ _ c.expand.ensures _ _ _ c.in-Refused.is c.refused.ensures
 
 pub expanded_spec : {M : Type 1} → statement M
 expanded_spec =

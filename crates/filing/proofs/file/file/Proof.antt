@@ -17,40 +17,35 @@ use Rattle.filing.specs.RunLaws.{filed-read, filed-refused}
 
 mul_words : tie.Need-overflow_mul-words
 mul_words c =
-    let h : 3 * c.before.i-1.given.0.0 ≤ length c.before.before.before.before.before.before.before.read.new.1.0 = (items-front _ _ _ _ _ _ c.before.before.before.before.before.before.before.read.ensures _ _ c.before.i-1.given.1).0 in record { fits = omega arith }
+    let h : 3 * c.in-Read.i ≤ length c.read.new.items = (items-front _ _ _ _ _ _ c.read.ensures _ _ c.in-Read.is).0 in record { fits = omega arith }
 
 mul-bytes : tie.Need-overflow_mul-bytes
 mul-bytes c =
-    let h : 64 * c.before.i-1.given.0.1.0 ≤ length c.before.before.before.before.before.before.before.read.new.1.1.0 = (names-front _ _ _ _ _ _ c.before.before.before.before.before.before.before.read.ensures _ _ c.before.i-1.given.1).0 in record { fits = omega arith }
+    let h : 64 * c.in-Read.n ≤ length c.read.new.names = (names-front _ _ _ _ _ _ c.read.ensures _ _ c.in-Read.is).0 in record { fits = omega arith }
 
 slice-reshare-prefix-expanded : tie.Need-slice_bounds-expanded-end
 slice-reshare-prefix-expanded c =
-    (items-front _ _ _ _ _ _ c.before.before.before.before.before.before.before.read.ensures _ _ c.before.i-1.given.1).0
+    (items-front _ _ _ _ _ _ c.read.ensures _ _ c.in-Read.is).0
 
 slice-aggregate-expanded : tie.Need-slice_bounds-expanded-end-in-Read
 slice-aggregate-expanded c =
-    sym (length-take-le _ _ (items-front _ _ _ _ _ _ c.before.before.before.before.before.before.before.before.read.ensures _ _ c.before.before.i-1.given.1).0)
+    sym (length-take-le _ _ (items-front _ _ _ _ _ _ c.read.ensures _ _ c.in-Read.is).0)
 
 slice-reshare-prefix-expanded-2 : tie.Need-slice_bounds-expanded-end-in-Read-2
 slice-reshare-prefix-expanded-2 c =
-    (names-front _ _ _ _ _ _ c.before.before.before.before.before.before.before.before.read.ensures _ _ c.before.before.i-1.given.1).0
+    (names-front _ _ _ _ _ _ c.read.ensures _ _ c.in-Read.is).0
 
 slice-aggregate-expanded-2 : tie.Need-slice_bounds-expanded-end-in-Read-3
 slice-aggregate-expanded-2 c =
-    let at_i = c.before.before.before in
-    sym (length-take-le _ _ (names-front _ _ _ _ _ _ at_i.before.before.before.before.before.before.read.ensures _ _ at_i.i-1.given.1).0)
+    sym (length-take-le _ _ (names-front _ _ _ _ _ _ c.read.ensures _ _ c.in-Read.is).0)
 
 returns : tie.Need-returns-in-Read
 returns c =
-    let at-expanded = c.before.before.before.before.before.before in
-    let at_i = at-expanded.before.before.before.before.before.before.before in
-    filed-read _ _ _ _ _ _ at_i.before.before.before.before.before.before.read.ensures _ _ at_i.i-1.given.1 at-expanded.expanded.ensures
+    filed-read _ _ _ _ _ _ c.read.ensures _ _ c.in-Read.is c.expanded.ensures
 
 returns-2 : tie.Need-returns-in-Refused
 returns-2 c =
-    let at-refused = c.before.before in
-    let at-ground = at-refused.before.before.before in
-    filed-refused _ _ _ _ _ _ at-ground.before.before.before.before.before.before.read.ensures _ at-ground.ground-1.given.1 at-refused.refused.ensures
+    filed-refused _ _ _ _ _ _ c.read.ensures _ c.in-Refused.is c.refused.ensures
 
 pub file_spec : {M : Type 1} → statement M
 file_spec =

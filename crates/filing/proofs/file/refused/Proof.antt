@@ -10,19 +10,15 @@ use Rattle.writer.specs.WroteLaws.{measured-full, laid-never-full, laid-wrote}
 
 returns : tie.Need-returns-then-length
 returns c =
-    measured-full _ _ _ _ c.before.before.before.refused_line-length.ensures (put_full _ c.if-length.true)
+    measured-full _ _ _ _ c.refused_line-length.ensures (put_full _ c.if-length.true)
 
 returns-2 : tie.Need-returns-then-to
 returns-2 c =
-    let at-refused-line2 = c.before.before.before in
-    let at-if1 = at-refused-line2.before.before in
-    laid-never-full _ _ _ _ at-if1.before.before.before.refused_line-length.ensures _ (put-done _ at-if1.if-length.false) _ _ at-refused-line2.refused_line-to.ensures (put_full _ c.if-to.true)
+    laid-never-full _ _ _ _ c.refused_line-length.ensures _ (put-done _ c.if-length.false) _ _ c.refused_line-to.ensures (put_full _ c.if-to.true)
 
 returns-3 : tie.Need-returns
 returns-3 c =
-    let at-refused-line2 = c.before.before.before in
-    let at-if1 = at-refused-line2.before.before in
-    laid-wrote _ _ _ _ at-if1.before.before.before.refused_line-length.ensures _ (put-done _ at-if1.if-length.false) _ _ at-refused-line2.refused_line-to.ensures _ (put-done _ c.if-to.false)
+    laid-wrote _ _ _ _ c.refused_line-length.ensures _ (put-done _ c.if-length.false) _ _ c.refused_line-to.ensures _ (put-done _ c.if-to.false)
 
 pub refused_spec : {M : Type 1} → statement M
 refused_spec =

@@ -13,28 +13,20 @@ use Rattle.filing.specs.FileLaws.{term-end, term-spared, term-crowded, term-know
 
 add-result : tie.Need-overflow_add-result
 add-result c =
-    let at_length = c.before in
-    let at-write = at_length.before.before.before.before in
-    let at-args = at-write.before.before.before.before.before in
-    let h : at-args.args.from + at_length.length-1.given.0.0 < length at-args.args.out.now = term-end _ at-args.args.out.now at-args.requires _ _ _ at-write.write.ensures _ at_length.length-1.given.1 in record { fits = omega arith }
+    let h : c.args.from + c.in-Written.length < length c.args.out.now = term-end _ c.args.out.now c.requires _ _ _ c.write.ensures _ c.in-Written.is in record { fits = omega arith }
 
 returns : tie.Need-returns-in-Written
 returns c =
-    let at_length = c.before in
-    let at-write = at_length.before.before.before.before in
-    let at-args = at-write.before.before.before.before.before in
-    let h : at-args.args.from + at_length.length-1.given.0.0 < length at-args.args.out.now = term-end _ at-args.args.out.now at-args.requires _ _ _ at-write.write.ensures _ at_length.length-1.given.1 in
-    (λ n. h, λ x e. term-spared _ _ at-args.requires _ _ _ at-write.write.ensures x e _ at_length.length-1.given.1 (omega arith))
+    let h : c.args.from + c.in-Written.length < length c.args.out.now = term-end _ c.args.out.now c.requires _ _ _ c.write.ensures _ c.in-Written.is in
+    (λ n. h, λ x e. term-spared _ _ c.requires _ _ _ c.write.ensures x e _ c.in-Written.is (omega arith))
 
 returns-2 : tie.Need-returns-in-NoTerm
 returns-2 c =
-    let at-write = c.before.before.before.before in
-    (λ h. absurd (h refl), λ x e. term-known _ _ at-write.before.before.before.before.before.requires _ _ _ at-write.write.ensures x e c.enum_told-1.given.1)
+    (λ h. absurd (h refl), λ x e. term-known _ _ c.requires _ _ _ c.write.ensures x e c.in-NoTerm.is)
 
 returns-3 : tie.Need-returns-in-NoRoom
 returns-3 c =
-    let at-write = c.before.before.before.before in
-    (λ h. absurd (h refl), λ x e. term-crowded _ _ at-write.before.before.before.before.before.requires _ _ _ at-write.write.ensures x e c.enum_told-in-NoRoom-1.given.1)
+    (λ h. absurd (h refl), λ x e. term-crowded _ _ c.requires _ _ _ c.write.ensures x e c.in-NoRoom.is)
 
 pub term_at_spec : {M : Type 1} → statement M
 term_at_spec =

@@ -11,17 +11,17 @@ use Rattle.filing.specs.Lines.{header-laid}
 
 returns : tie.Need-counts-requires
 returns c =
-    left_is (header-laid _ _) (place-full c.before.before.before.copy-a.ensures _ c.if-a.true)
+    left_is (header-laid _ _) (place-full c.copy-a.ensures _ c.if-a.true)
 
 counts-requires : tie.Need-shape_of-out
 counts-requires c κs =
-    place-room c.before.before.before.before.copy-a.ensures c.before.if-a.false
+    place-room c.copy-a.ensures c.if-a.false
 
 returns-2 : tie.Need-returns-2
 returns-2 c =
     let at-counts = c.before.before in
     let at-if1 = at-counts.before.before in
-    left_is (header-laid _ _) (place-then at-if1.before.before.before.copy-a.ensures at-if1.if-a.false at-counts.counts.ensures)
+    left_is (header-laid _ _) (place-then at-if1.before.before.before.copy.ensures at-if1.if1.false at-counts.counts.ensures)
 
 pub accepted_line_spec : {M : Type 1} → statement M
 accepted_line_spec =

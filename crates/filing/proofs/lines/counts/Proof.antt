@@ -11,29 +11,23 @@ use Rattle.filing.specs.Lines.{counts-laid}
 
 returns : tie.Need-returns-then-a
 returns c =
-    left_is (counts-laid _ _) (place-full c.before.before.before.number-a.ensures _ c.if-a.true)
+    left_is (counts-laid _ _) (place-full c.number-a.ensures _ c.if-a.true)
 
 number-requires-2 : tie.Need-number-b-requires
 number-requires-2 c κs =
-    place-room c.before.before.before.before.number-a.ensures c.before.if-a.false
+    place-room c.number-a.ensures c.if-a.false
 
 returns-2 : tie.Need-returns-then-b
 returns-2 c =
-    let at-number2 = c.before.before.before in
-    let at-if1 = at-number2.before.before in
-    left_is (counts-laid _ _) (place-then at-if1.before.before.before.number-a.ensures at-if1.if-a.false (place-full at-number2.number-b.ensures _ c.if-b.true))
+    left_is (counts-laid _ _) (place-then c.number-a.ensures c.if-a.false (place-full c.number-b.ensures _ c.if-b.true))
 
 byte-requires : tie.Need-byte-requires
 byte-requires c κs =
-    place-room c.before.before.before.before.number-b.ensures c.before.if-b.false
+    place-room c.number-b.ensures c.if-b.false
 
 returns-3 : tie.Need-returns
 returns-3 c =
-    let at_byte = c.before.before in
-    let at-if2 = at_byte.before.before in
-    let at-number2 = at-if2.before.before.before in
-    let at-if1 = at-number2.before.before in
-    left_is (counts-laid _ _) (place-then at-if1.before.before.before.number-a.ensures at-if1.if-a.false (place-then at-number2.number-b.ensures at-if2.if-b.false at_byte.byte.ensures))
+    left_is (counts-laid _ _) (place-then c.number-a.ensures c.if-a.false (place-then c.number-b.ensures c.if-b.false c.byte.ensures))
 
 pub counts_spec : {M : Type 1} → statement M
 counts_spec =

@@ -26,7 +26,7 @@ same_length c =
 
 returns : tie.Need-returns
 returns c =
-    left_is (ap (λ (k : ℕ). 32 ∷ numeral k) c.before.before.before.before.wide.ensures) c.before.before.numbered.ensures
+    left_is (ap (λ (k : ℕ). 32 ∷ numeral k) c.wide.ensures) c.numbered.ensures
 
 pub number_spec : {M : Type 1} → statement M
 number_spec = tie.close (tie.spec wide-requires numbered-requires same_length returns)

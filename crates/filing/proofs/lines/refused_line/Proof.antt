@@ -12,21 +12,19 @@ use Rattle.filing.specs.Lines.{refusal-laid}
 
 returns : tie.Need-number-b-requires
 returns c =
-    left_is (refusal-laid _ _ _) (place-full c.before.before.before.copy-a.ensures _ c.if-a.true)
+    left_is (refusal-laid _ _ _) (place-full c.copy-a.ensures _ c.if-a.true)
 
 number-requires : tie.Need-shape_of-out-then-b
 number-requires c κs =
-    place-room c.before.before.before.before.copy-a.ensures c.before.if-a.false
+    place-room c.copy-a.ensures c.if-a.false
 
 returns-2 : tie.Need-counts-requires
 returns-2 c =
-    let at-number = c.before.before.before in
-    let at-if1 = at-number.before.before in
-    left_is (refusal-laid _ _ _) (place-then at-if1.before.before.before.copy-a.ensures at-if1.if-a.false (place-full at-number.number-b.ensures _ c.if-b.true))
+    left_is (refusal-laid _ _ _) (place-then c.copy-a.ensures c.if-a.false (place-full c.number-b.ensures _ c.if-b.true))
 
 counts-requires : tie.Need-shape_of-out
 counts-requires c κs =
-    place-room c.before.before.before.before.number-b.ensures c.before.if-b.false
+    place-room c.number-b.ensures c.if-b.false
 
 returns-3 : tie.Need-returns-3
 returns-3 c =
@@ -34,7 +32,7 @@ returns-3 c =
     let at-if2 = at-counts.before.before in
     let at-number = at-if2.before.before.before in
     let at-if1 = at-number.before.before in
-    left_is (refusal-laid _ _ _) (place-then at-if1.before.before.before.copy-a.ensures at-if1.if-a.false (place-then at-number.number-b.ensures at-if2.if-b.false at-counts.counts.ensures))
+    left_is (refusal-laid _ _ _) (place-then at-if1.before.before.before.copy.ensures at-if1.if1.false (place-then at-number.number.ensures at-if2.if2.false at-counts.counts.ensures))
 
 pub refused_line_spec : {M : Type 1} → statement M
 refused_line_spec =

@@ -10,21 +10,21 @@ use Rattle.arena.specs.Arena.{tree_at}
 use Rattle.forms.specs.Binders.{AllNames, names_in}
 use Rattle.forms.specs.ScopeLaws.{keywords-are, space-list, scoped-names, to-macros}
 
-element-requires : tie.Need-element-list-requires
+element-requires : tie.Need-element-requires
 element-requires c κs = search rules
 
-bind-names-requires : tie.Need-bind_names-requires
+bind-names-requires : tie.Need-bind-names-requires
 bind-names-requires c κs =
     let at-element = c.before in
     let at-args = at-element.before.before.before in
     let a = at-args.args in
     let t : Tree = tree_at a.work.now a.node a.wrap in
-    let same = at-element.element-list.ensures.is a.wrap in (
+    let same = at-element.element.ensures.is a.wrap in (
       subst (AllNames true) (sym same) at-args.requires.0,
-      space-list _ (keywords t) a.work.now a.node a.wrap a.first a.wrap a.top _ (ap (names_in true) same ∙ keywords-are t) at-element.element-list.ensures.low at-args.requires.1,
+      space-list _ (keywords t) a.work.now a.node a.wrap a.first a.wrap a.top _ (ap (names_in true) same ∙ keywords-are t) at-element.element.ensures.low at-args.requires.1,
     )
 
-same_length : tie.Need-shape_of-work
+same_length : tie.Need-same-length
 same_length c = search rules
 
 returns : tie.Need-returns
@@ -33,8 +33,8 @@ returns c =
     let at-element = at-bind-names.before.before in
     let a = at-element.before.before.before.args in
     let t : Tree = tree_at a.work.now a.node a.wrap in
-    let same = at-element.element-list.ensures.is a.wrap in
-    scoped-names _ _ a.first _ (keywords t) a.wrap a.work.now _ a.top _ _ to-macros (ap (names_in true) same ∙ keywords-are t) at-bind-names.bind_names.ensures
+    let same = at-element.element.ensures.is a.wrap in
+    scoped-names _ _ a.first _ (keywords t) a.wrap a.work.now _ a.top _ _ to-macros (ap (names_in true) same ∙ keywords-are t) at-bind-names.bind-names.ensures
 
-pub bind_macros_spec : {M : Type 1} → statement M
-bind_macros_spec = tie.close (tie.spec element-requires bind-names-requires same_length returns)
+pub bind-macros-spec : {M : Type 1} → statement M
+bind-macros-spec = tie.close (tie.spec element-requires bind-names-requires same_length returns)

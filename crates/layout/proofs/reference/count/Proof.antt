@@ -5,7 +5,7 @@ use Rattle.layout.proofs.reference.count.Tie as tie
 use native.Mathlib.Omega.{arith}
 use Rattle.layout.specs.Counts.{counted-one}
 
-add-counts : tie.Need-overflow_add-counts
+add-counts : tie.Need-overflow-add-counts
 add-counts c =
     omega (arith, c.before.requires.1 c.before.args.k c.before.requires.0)
 

@@ -12,19 +12,19 @@ use Rattle.words.specs.ListLaws.{valued, valued-at, any-neither}
 use Rattle.words.specs.Text.{bytes}
 use Rattle.reading.specs.Token.{is_digit, is_running}
 
-returns : tie.Need-returns-then-b-le122
+returns : tie.Need-returns
 unfolding is_running is_digit within any_of bytes valued
 returns c =
     let b = c.before.before.args.b in
-    valued-at is_running true [] 97 26 refl b c.before.if1.true (omega (arith, leb-true b 122 c.if-b-le122.true)) refl
+    valued-at is_running true [] 97 26 refl b c.before.if1.true (omega (arith, leb-true b 122 c.if2.true)) refl
 
-returns-2 : tie.Need-returns-in-48-to-57
+returns-2 : tie.Need-returns-2
 unfolding is_running is_digit within any_of bytes valued
 returns-2 c =
     let args = c.before.before.before.before.before.before.before.args in
     valued-at is_running true [] 48 10 refl args.b (omega arith) (omega arith) refl
 
-returns-3 : tie.Need-returns-in_default
+returns-3 : tie.Need-returns-3
 unfolding is_running is_digit within any_of bytes valued
 returns-3 c =
     let args = c.before.before.before.args in
@@ -32,7 +32,7 @@ returns-3 c =
     valued-at is_running false (33 ∷ 95 ∷ []) 0 42 refl args.b (omega arith) (omega arith)
     (any-neither _ 33 95 match.rest.1)
 
-returns-4 : tie.Need-returns-in_default-2
+returns-4 : tie.Need-returns-4
 unfolding is_running is_digit within any_of bytes valued
 returns-4 c =
     let args = c.before.before.before.before.before.args in
@@ -40,7 +40,7 @@ returns-4 c =
     valued-at is_running false (33 ∷ 95 ∷ []) 44 1 refl args.b (omega arith) (omega arith)
     (any-neither _ 33 95 match.rest.1)
 
-returns-5 : tie.Need-returns-in_default-3
+returns-5 : tie.Need-returns-5
 unfolding is_running is_digit within any_of bytes valued
 returns-5 c =
     let at-match = c.before.before.before.before.before.before in
@@ -49,7 +49,7 @@ returns-5 c =
     valued-at is_running false (33 ∷ 95 ∷ []) 58 2 refl args.b (omega arith) (omega arith)
     (any-neither _ 33 95 match.rest.1)
 
-returns-6 : tie.Need-returns-in_default-4
+returns-6 : tie.Need-returns-6
 unfolding is_running is_digit within any_of bytes valued
 returns-6 c =
     let at-match = c.before.before.before.before.before.before.before in
@@ -63,31 +63,31 @@ returns-6 c =
     (λ below. valued-at is_running false (33 ∷ 95 ∷ []) 64 33 refl b (omega arith) (omega (arith, below.left)) save)
     if1.branch
 
-returns-7 : tie.Need-returns-in-33
+returns-7 : tie.Need-returns-7
 unfolding is_running is_digit within any_of bytes
 returns-7 c =
     ⊎_elim (λ e. rw e) (λ e. rw e) c.match.keys1
 
-returns-8 : tie.Need-returns-in-33-2
+returns-8 : tie.Need-returns-8
 unfolding is_running is_digit within any_of bytes valued
 returns-8 c =
     let args = c.before.before.before.before.args in
     valued-at is_running true [] 42 2 refl args.b (omega arith) (omega arith) refl
 
-returns-9 : tie.Need-returns-in-33-3
+returns-9 : tie.Need-returns-9
 unfolding is_running is_digit within any_of bytes valued
 returns-9 c =
     let args = c.before.before.before.before.before.before.args in
     valued-at is_running true [] 45 3 refl args.b (omega arith) (omega arith) refl
 
-returns-10 : tie.Need-returns-in-33-4
+returns-10 : tie.Need-returns-10
 unfolding is_running is_digit within any_of bytes valued
 returns-10 c =
     let args = c.before.before.before.before.before.before.before.before.before.args in
     valued-at is_running true [] 60 4 refl args.b (omega arith) (omega arith) refl
 
-pub is_running_spec : {M : Type 1} → statement M
-is_running_spec =
+pub is-running-spec : {M : Type 1} → statement M
+is-running-spec =
     tie.close
     (tie.spec
     returns

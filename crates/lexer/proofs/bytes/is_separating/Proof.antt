@@ -11,14 +11,14 @@ use Rattle.words.specs.ListLaws.{valued, valued-at, any-neither}
 use Rattle.words.specs.Text.{bytes}
 use Rattle.reading.specs.Token.{is_separating}
 
-returns : tie.Need-returns-in_default
+returns : tie.Need-returns
 unfolding is_separating any_of bytes valued
 returns c =
     let args = c.before.before.args in
     valued-at is_separating false (13 ∷ 32 ∷ []) 0 9 refl args.b (omega arith) (omega arith)
     (any-neither _ 13 32 c.before.match.rest.1)
 
-returns-2 : tie.Need-returns-in_default-2
+returns-2 : tie.Need-returns-2
 unfolding is_separating any_of bytes valued
 returns-2 c =
     let args = c.before.before.before.args in
@@ -26,16 +26,16 @@ returns-2 c =
     valued-at is_separating false (13 ∷ 32 ∷ []) 11 245 refl args.b (omega arith) (omega arith)
     (any-neither _ 13 32 match.rest.1)
 
-returns-3 : tie.Need-returns-in-32
+returns-3 : tie.Need-returns-3
 unfolding is_separating any_of bytes
 returns-3 c =
     ⊎_elim (λ e. rw e) (λ e. rw e) c.match.keys1
 
-returns-4 : tie.Need-returns-in-32-2
+returns-4 : tie.Need-returns-4
 unfolding is_separating any_of bytes valued
 returns-4 c =
     let args = c.before.before.before.args in
     valued-at is_separating true [] 9 2 refl args.b (omega arith) (omega arith) refl
 
-pub is_separating_spec : {M : Type 1} → statement M
-is_separating_spec = tie.close (tie.spec returns returns-2 returns-3 returns-4)
+pub is-separating-spec : {M : Type 1} → statement M
+is-separating-spec = tie.close (tie.spec returns returns-2 returns-3 returns-4)

@@ -14,30 +14,30 @@ use Rattle.reading.specs.Token.{is_running}
 use Rattle.lexer.specs.ToldLaws.{run_step, run-stops, end-stops}
 use borrow.Author.Rules.{rules}
 
-abbrev invariant-loop : tie.invariant-loop-at
+abbrev invariant-loop : tie.invariant-loop
 invariant-loop text from at₀ at =
     (from ≤ at) × (at ≤ length text) × (all_of is_running (part from at text) ≡ true)
 
-abbrev decreases-loop : tie.decreases-loop-at
+abbrev decreases-loop : tie.decreases-loop
 decreases-loop text from at₀ at =
     length text - at
 
-loop-holds : tie.Need-loop-at-init invariant-loop decreases-loop
+loop-holds : tie.Need-loop-init invariant-loop decreases-loop
 unfolding all_of
 loop-holds c =
     let args = c.before.args in
     (omega arith, c.before.requires, rw (part_none args.from args.text.now))
 
-returns : tie.Need-returns-then-not-is_running invariant-loop decreases-loop
+returns : tie.Need-returns invariant-loop decreases-loop
 returns c =
     let at-is-running = c.before in
     let at-loop-test = at-is-running.before.before in
     let at-loop = at-loop-test.before in
-    let is-running = at-is-running.is_running in
-    let loop = at-loop.loop-at in
+    let is-running = at-is-running.is-running in
+    let loop = at-loop.loop in
     let args = at-loop.before.before.args in
-    let loop-test = at-loop-test.loop-at-test in
-    let r = sym is-running.ensures ∙ not-true is-running.result c.if-not-is_running.true in
+    let loop-test = at-loop-test.loop-test in
+    let r = sym is-running.ensures ∙ not-true is-running.result c.if1.true in
     record {
       low = loop.invariant.0;
       high = loop.invariant.1;
@@ -46,31 +46,31 @@ returns c =
           loop-test.true r;
     }
 
-loop-again : tie.Need-loop-at-preserved invariant-loop decreases-loop
+loop-again : tie.Need-loop-preserved invariant-loop decreases-loop
 loop-again c =
     let at-is-running = c.before in
     let at-loop-test = at-is-running.before.before in
     let at-loop = at-loop-test.before in
-    let is-running = at-is-running.is_running in
+    let is-running = at-is-running.is-running in
     let args = at-loop.before.before.args in
-    let loop = at-loop.loop-at in
-    let loop-test = at-loop-test.loop-at-test in
-    let r = sym is-running.ensures ∙ not-false is-running.result c.if-not-is_running.false in (
+    let loop = at-loop.loop in
+    let loop-test = at-loop-test.loop-test in
+    let r = sym is-running.ensures ∙ not-false is-running.result c.if1.false in (
       omega arith,
       omega arith,
       run_step args.text.now loop.at loop-test.true args.from loop.invariant.0 loop.invariant.2
           r,
     )
 
-returns-2 : tie.Need-returns invariant-loop decreases-loop
+returns-2 : tie.Need-returns-2 invariant-loop decreases-loop
 returns-2 c =
-    let loop = c.before.loop-at in
+    let loop = c.before.loop in
     let args = c.before.before.before.args in
     let e : loop.at ≡ length args.text.now = omega arith in
     record { low = loop.invariant.0; high = loop.invariant.1; runs = loop.invariant.2; stops = end-stops args.text.now loop.at e }
 
-pub run_end_spec : {M : Type 1} → statement M
-run_end_spec =
+pub run-end-spec : {M : Type 1} → statement M
+run-end-spec =
     tie.close
     (tie.spec
     invariant-loop

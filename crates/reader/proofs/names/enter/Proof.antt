@@ -6,7 +6,7 @@ use Prim.Native.Nat.{◌+◌}
 use lib.ListN.{length-set, get_or}
 use Rattle.reader.specs.Code.Index.{bucket_count}
 
-slice-write-index-2 : tie.Need-bounds-index-bucket-2
+slice-write-index-2 : tie.Need-slice-write-index-2
 slice-write-index-2 c =
     let at-args = c.before.before.before.before.before.before.before.before in
     let args = at-args.args in

@@ -16,7 +16,7 @@ enter-requires c κs =
     let pre = at-args.requires in
     let b = bucket-below args.word.now in
     let short = subst (λ x. length x ≤ name_length_most) (sym pre.2) (base_short args.number pre.1) in
-    ((omega (arith, pre.0.room, pre.1), short), (pre.0.indexed.size, omega (arith, pre.1), omega (arith, b, c.bucket_of.ensures)))
+    ((omega (arith, pre.0.room, pre.1), short), (pre.0.indexed.size, omega (arith, pre.1), omega (arith, b, c.bucket-of.ensures)))
 
 returns : tie.Need-returns
 returns c =
@@ -25,13 +25,13 @@ returns c =
     let at-args = at-bucket-of.before.before.before.before.before.before in
     let args = at-args.args in
     let pre = at-args.requires in
-    let bucket-of = at-bucket-of.bucket_of in
+    let bucket-of = at-bucket-of.bucket-of in
     let enter = at-enter.enter in
     base_more args.number args.word.now args.names.now enter.new.0 args.index.now enter.new.1.0
     bucket-of.result pre.1 pre.2 bucket-of.ensures enter.ensures pre.0
 
-pub enter_fixed_spec : {M : Type 1} → statement M
-enter_fixed_spec =
+pub enter-fixed-spec : {M : Type 1} → statement M
+enter-fixed-spec =
     tie.close
     (tie.spec
     (λ c κs. search rules)  -- bucket-of-requires

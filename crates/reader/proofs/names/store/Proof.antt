@@ -9,15 +9,15 @@ use lib.Seq.{paste, paste-zero}
 use Rattle.words.specs.ListLaws.{paste_more}
 use borrow.Author.Rules.{rules}
 
-abbrev invariant-loop : tie.invariant-loop-i
+abbrev invariant-loop : tie.invariant-loop
 invariant-loop names₀ number word start i₀ names i =
     (length names ≡ length names₀) × (i ≤ length word) × (names ≡ paste names₀ (start + 1) word i)
 
-abbrev decreases-loop : tie.decreases-loop-i
+abbrev decreases-loop : tie.decreases-loop
 decreases-loop names₀ number word start i₀ names i =
     length word - i
 
-loop-holds : tie.Need-loop-i-init invariant-loop decreases-loop
+loop-holds : tie.Need-loop-init invariant-loop decreases-loop
 loop-holds c = (
   refl,
   omega arith,
@@ -25,17 +25,17 @@ loop-holds c = (
       (64 * c.args.number + 1) c.args.word.now,
 )
 
-slice-write-names-2 : tie.Need-bounds-names-start-in-loop-i invariant-loop decreases-loop
+slice-write-names-2 : tie.Need-slice-write-names-2 invariant-loop decreases-loop
 slice-write-names-2 c =
     let pre = c.before.before.before.requires in
-    let loop = c.before.before.loop-i in
+    let loop = c.before.before.loop in
     let args = c.before.before.before.args in
     omega (arith, pre.0, pre.1, loop.invariant.0, length-set args.names.now (64 * args.number) (length args.word.now))
 
-loop-again : tie.Need-loop-i-preserved invariant-loop decreases-loop
+loop-again : tie.Need-loop-preserved invariant-loop decreases-loop
 loop-again c =
     let args = c.before.before.before.args in
-    let loop = c.before.before.loop-i in
+    let loop = c.before.before.loop in
     let pre = c.before.before.before.requires in
     let word = args.word.now in
     let at = 64 * args.number + 1 in
@@ -45,18 +45,18 @@ loop-again c =
       length-set loop.names (at + i) (get_or word i 0) ∙ loop.invariant.0,
       omega arith,
       ap (λ l. set l (at + i) (get_or word i 0))
-          loop.invariant.2 ∙ paste_more d at word i h c.before.loop-i-test.true,
+          loop.invariant.2 ∙ paste_more d at word i h c.before.loop-test.true,
     )
 
-same_length : tie.Need-shape_of-names invariant-loop decreases-loop
+same_length : tie.Need-same-length invariant-loop decreases-loop
 same_length c =
     let args = c.before.before.args in
-    c.before.loop-i.invariant.0 ∙ length-set args.names.now (64 * args.number) (length args.word.now)
+    c.before.loop.invariant.0 ∙ length-set args.names.now (64 * args.number) (length args.word.now)
 
 returns : tie.Need-returns invariant-loop decreases-loop
 returns c =
     let args = c.before.before.args in
-    let loop = c.before.loop-i in
+    let loop = c.before.loop in
     let word = args.word.now in
     let at = 64 * args.number + 1 in
     let d = set args.names.now (64 * args.number) (length word) in

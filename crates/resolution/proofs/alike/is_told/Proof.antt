@@ -6,13 +6,13 @@ use mathlib.Core.Bool.{false≢true}
 use borrow.Author.Tests.{not-false}
 use Rattle.resolution.specs.Alike.{told-by}
 
-returns : tie.Need-returns-then-base-eq-NO_BASE
+returns : tie.Need-returns
 returns c = λ z. absurd (false≢true z)
 
-returns-2 : tie.Need-returns-then-not-binders_over
+returns-2 : tie.Need-returns-2
 returns-2 c = λ z. absurd (false≢true z)
 
-returns-3 : tie.Need-returns
+returns-3 : tie.Need-returns-3
 returns-3 c =
     let at-reference3 = c.before in
     let at-if2 = at-reference3.before in
@@ -21,11 +21,11 @@ returns-3 c =
     let at-reference = at-reference2.before in
     let at-if1 = at-reference.before in
     let a = at-if1.before.before.args in
-    λ z. told-by a.work.now a.base a.w _ _ _ at-if1.if-base-eq-NO_BASE.false at-reference.reference-inner.ensures at-reference2.reference-pending.ensures at-reference3.reference-own.ensures
-    (at-binders-over.binders_over.ensures (not-false _ at-if2.if-not-binders_over.false)) (c.same_cells.ensures z)
+    λ z. told-by a.work.now a.base a.w _ _ _ at-if1.if1.false at-reference.reference.ensures at-reference2.reference2.ensures at-reference3.reference3.ensures
+    (at-binders-over.binders-over.ensures (not-false _ at-if2.if2.false)) (c.same-cells.ensures z)
 
-pub is_told_spec : {M : Type 1} → statement M
-is_told_spec =
+pub is-told-spec : {M : Type 1} → statement M
+is-told-spec =
     tie.close
     (tie.spec
     returns

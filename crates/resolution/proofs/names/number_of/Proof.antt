@@ -12,8 +12,8 @@ returns c =
     let word = c.before.word in
     c.number.ensures ∙ ap (λ (o : ℕ). (origin_name o).number) word.ensures
 
-pub number_of_spec : {M : Type 1} → statement M
-number_of_spec =
+pub number-of-spec : {M : Type 1} → statement M
+number-of-spec =
     tie.close
     (tie.spec
     (λ c κs. search rules)  -- word-requires

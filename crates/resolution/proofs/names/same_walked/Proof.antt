@@ -4,20 +4,20 @@ use Rattle.resolution.proofs.names.same_walked.Statement.{statement}
 use Rattle.resolution.proofs.names.same_walked.Tie as tie
 use Rattle.resolution.specs.HandLaws.{told_same, told-other}
 
-returns : tie.Need-returns-in-Same
+returns : tie.Need-returns
 returns c =
-    told_same c.before.before.before.compare.ensures c.enum_told-1.given.1
+    told_same c.before.before.before.compare.ensures c.enum_told.given.1
 
-returns-2 : tie.Need-returns-in-Other
+returns-2 : tie.Need-returns-2
 returns-2 c =
-    told-other c.before.before.before.compare.ensures c.enum_told-in-Other-1.given.1
+    told-other c.before.before.before.compare.ensures c.enum-told2.given.1
 
-returns-3 : tie.Need-returns-in-Full
+returns-3 : tie.Need-returns-3
 returns-3 c =
-    c.before.same_grown.ensures
+    c.before.same-grown.ensures
 
-pub same_walked_spec : {M : Type 1} → statement M
-same_walked_spec =
+pub same-walked-spec : {M : Type 1} → statement M
+same-walked-spec =
     tie.close
     (tie.spec
     (λ c. search rules)  -- slice-aggregate-compare

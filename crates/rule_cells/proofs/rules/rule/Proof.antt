@@ -12,7 +12,7 @@ use Rattle.words.specs.Code.Packed.{built_of}
 use Rattle.rule_cells.specs.RuleListLaws.{left-shape, parts-ask, left-parts}
 use mathlib.Core.Path.{sym, ◌∙◌}
 
-rule-parts-requires : tie.Need-rule_parts-requires
+rule-parts-requires : tie.Need-rule-parts-requires
 rule-parts-requires c κs =
     let at-first2 = c.before in
     let at-rest2 = at-first2.before.before in
@@ -21,9 +21,9 @@ rule-parts-requires c κs =
     let at-if1 = at_first.before.before in
     let at-rule-shape = at-if1.before in
     let at-args = at-rule-shape.before.before.before in
-    let a = at-args.args in parts-ask a.work.now a.form a.node a.next a.top at-args.requires.0 at-args.requires.1 at-args.requires.2 at-args.requires.3 _ _ _ _ (sym at-if1.if-rule_shape.true ∙ at-rule-shape.rule_shape.ensures) at_first.first-pattern.ensures at_rest.rest-p.ensures at-rest2.rest-after.ensures at-first2.first-q.ensures
+    let a = at-args.args in parts-ask a.work.now a.form a.node a.next a.top at-args.requires.0 at-args.requires.1 at-args.requires.2 at-args.requires.3 _ _ _ _ (sym at-if1.if1.true ∙ at-rule-shape.rule-shape.ensures) at_first.first.ensures at_rest.rest.ensures at-rest2.rest2.ensures at-first2.first2.ensures
 
-returns : tie.Need-returns-then-rule_shape
+returns : tie.Need-returns
 returns c =
     let at-rule-parts = c.before.before in
     let at-first2 = at-rule-parts.before.before in
@@ -33,17 +33,17 @@ returns c =
     let at-if1 = at_first.before.before in
     let at-rule-shape = at-if1.before in
     let at-args = at-rule-shape.before.before.before in
-    let a = at-args.args in left-parts a.work.now a.form a.node a.next a.top at-args.requires.0 at-args.requires.1 at-args.requires.2 at-args.requires.3 _ _ _ _ (sym at-if1.if-rule_shape.true ∙ at-rule-shape.rule_shape.ensures) at_first.first-pattern.ensures at_rest.rest-p.ensures at-rest2.rest-after.ensures at-first2.first-q.ensures at-rule-parts.rule_parts.new.0 (built_of at-rule-parts.rule_parts.result) at-rule-parts.rule_parts.ensures
+    let a = at-args.args in left-parts a.work.now a.form a.node a.next a.top at-args.requires.0 at-args.requires.1 at-args.requires.2 at-args.requires.3 _ _ _ _ (sym at-if1.if1.true ∙ at-rule-shape.rule-shape.ensures) at_first.first.ensures at_rest.rest.ensures at-rest2.rest2.ensures at-first2.first2.ensures at-rule-parts.rule-parts.new.0 (built_of at-rule-parts.rule-parts.result) at-rule-parts.rule-parts.ensures
 
-returns-2 : tie.Need-returns
+returns-2 : tie.Need-returns-2
 unfolding built_of
 returns-2 c =
     let at-rule-shape = c.before in
     let at-args = at-rule-shape.before.before.before in
-    let a = at-args.args in left-shape a.work.now a.form a.node a.next a.top at-args.requires.0 at-args.requires.1 at-args.requires.2 at-args.requires.3 (sym c.if-rule_shape.false ∙ at-rule-shape.rule_shape.ensures)
+    let a = at-args.args in left-shape a.work.now a.form a.node a.next a.top at-args.requires.0 at-args.requires.1 at-args.requires.2 at-args.requires.3 (sym c.if1.false ∙ at-rule-shape.rule-shape.ensures)
 
-pub rule_spec : {M : Type 1} → statement M
-rule_spec =
+pub rule-spec : {M : Type 1} → statement M
+rule-spec =
     tie.close
     (tie.spec
     (λ c κs. search rules)  -- rule-shape-requires

@@ -20,21 +20,21 @@ use mathlib.Core.Path.{sym, ◌∙◌}
 use native.Mathlib.Omega.{arith}
 use mathlib.Core.Bool.{false≢true}
 
-gather-requires : tie.Need-gather-n-requires
+gather-requires : tie.Need-gather-requires
 gather-requires c κs =
     let a = c.before.before.before.args in
     let ask = c.before.before.before.requires in
     (omega arith, held_none a.work.now a.form.wrap _, small-p ask)
 
-returns : tie.Need-returns-then-n
+returns : tie.Need-returns
 unfolding built_of
 returns c =
     let at-gather = c.before.before in
     let at-args = at-gather.before.before.before.before in
     let a = at-args.args in
     let ask = at-args.requires in
-    let g = at-gather.gather-n in
-    left-variables ask _ g.new.1.0 (kept_of g.result) (kept-bad g.result c.if-n.true) g.ensures
+    let g = at-gather.gather in
+    left-variables ask _ g.new.1.0 (kept_of g.result) (kept-bad g.result c.if1.true) g.ensures
 
 pattern-requires : tie.Need-pattern-requires
 pattern-requires c κs =
@@ -43,16 +43,16 @@ pattern-requires c κs =
     let ask = at-args.requires in
     (asks-p ask, ask.dots-below, ask.literals-below, small_size ask, λ z. absurd (false≢true z))
 
-returns-2 : tie.Need-returns-in_default
+returns-2 : tie.Need-returns-2
 unfolding built_of
 returns-2 c =
     let at-pattern = c.before.before.before.before in
     let at-args = at-pattern.before.before.before.before.before.before.before.before in
     let a = at-args.args in
     let ask = at-args.requires in
-    left-pattern ask at-pattern.pattern.new.0 _ c.enum_told-1.given.1 at-pattern.pattern.ensures
+    left-pattern ask at-pattern.pattern.new.0 _ c.enum_told.given.1 at-pattern.pattern.ensures
 
-template-requires : tie.Need-template-word-requires
+template-requires : tie.Need-template-requires
 template-requires c κs =
     let at_a = c.before.before.before in
     let at-pattern = at_a.before.before.before.before in
@@ -61,13 +61,13 @@ template-requires c κs =
     let at-args = at-gather.before.before.before.before in
     let a = at-args.args in
     let ask = at-args.requires in
-    let g = at-gather.gather-n in
-    let stored = gathered-stored _ _ _ _ _ _ g.new.1.0 (kept_of g.result) _ (kept-count g.result at-if1.if-n.false) g.ensures in
+    let g = at-gather.gather in
+    let stored = gathered-stored _ _ _ _ _ _ g.new.1.0 (kept_of g.result) _ (kept-count g.result at-if1.if1.false) g.ensures in
     let p = at-pattern.pattern in
-    let pattern = made-pattern ask p.new.0 _ _ _ _ at_a.a-1.given.1 p.ensures in
+    let pattern = made-pattern ask p.new.0 _ _ _ _ at_a.a.given.1 p.ensures in
     (asks-q ask stored p.auto.0 pattern, stored.held.most, omega (arith, g.auto.1.0), under_top ask stored p.auto.0 pattern, dots-still ask stored p.auto.0 pattern, small-q ask stored p.auto.0 pattern)
 
-returns-3 : tie.Need-returns-in_default-parts
+returns-3 : tie.Need-returns-3
 unfolding built_of
 returns-3 c =
     let at-parts = c.before.before in
@@ -79,14 +79,14 @@ returns-3 c =
     let at-args = at-gather.before.before.before.before in
     let a = at-args.args in
     let ask = at-args.requires in
-    let g = at-gather.gather-n in
-    let stored = gathered-stored _ _ _ _ _ _ g.new.1.0 (kept_of g.result) _ (kept-count g.result at-if1.if-n.false) g.ensures in
+    let g = at-gather.gather in
+    let stored = gathered-stored _ _ _ _ _ _ g.new.1.0 (kept_of g.result) _ (kept-count g.result at-if1.if1.false) g.ensures in
     let p = at-pattern.pattern in
-    let pattern = made-pattern ask p.new.0 _ _ _ _ at_a.a-1.given.1 p.ensures in
-    let q = at-template.template-word in
-    left-template ask stored p.auto.0 pattern q.new.0 (built_of q.result) (sym at-parts.parts.ensures ∙ c.enum_told-in_default-parts-1.given.1) q.ensures
+    let pattern = made-pattern ask p.new.0 _ _ _ _ at_a.a.given.1 p.ensures in
+    let q = at-template.template in
+    left-template ask stored p.auto.0 pattern q.new.0 (built_of q.result) (sym at-parts.parts.ensures ∙ c.enum-told2.given.1) q.ensures
 
-put-rule-requires : tie.Need-put_rule-r-requires
+put-rule-requires : tie.Need-put-rule-requires
 put-rule-requires c κs =
     let at_b = c.before.before in
     let at-parts = at_b.before.before in
@@ -98,15 +98,15 @@ put-rule-requires c κs =
     let at-args = at-gather.before.before.before.before in
     let a = at-args.args in
     let ask = at-args.requires in
-    let g = at-gather.gather-n in
-    let stored = gathered-stored _ _ _ _ _ _ g.new.1.0 (kept_of g.result) _ (kept-count g.result at-if1.if-n.false) g.ensures in
+    let g = at-gather.gather in
+    let stored = gathered-stored _ _ _ _ _ _ g.new.1.0 (kept_of g.result) _ (kept-count g.result at-if1.if1.false) g.ensures in
     let p = at-pattern.pattern in
-    let pattern = made-pattern ask p.new.0 _ _ _ _ at_a.a-1.given.1 p.ensures in
-    let q = at-template.template-word in
-    let template = made-template ask stored p.auto.0 pattern q.new.0 (built_of q.result) _ _ (sym at-parts.parts.ensures ∙ at_b.b-1.given.1) q.ensures in
+    let pattern = made-pattern ask p.new.0 _ _ _ _ at_a.a.given.1 p.ensures in
+    let q = at-template.template in
+    let template = made-template ask stored p.auto.0 pattern q.new.0 (built_of q.result) _ _ (sym at-parts.parts.ensures ∙ at_b.b.given.1) q.ensures in
     rule-asks ask stored p.auto.0 pattern q.auto.0 template
 
-returns-4 : tie.Need-returns
+returns-4 : tie.Need-returns-4
 returns-4 c =
     let at-put-rule = c.before.before.before in
     let at_b = at-put-rule.before.before.before in
@@ -119,17 +119,17 @@ returns-4 c =
     let at-args = at-gather.before.before.before.before in
     let a = at-args.args in
     let ask = at-args.requires in
-    let g = at-gather.gather-n in
-    let stored = gathered-stored _ _ _ _ _ _ g.new.1.0 (kept_of g.result) _ (kept-count g.result at-if1.if-n.false) g.ensures in
+    let g = at-gather.gather in
+    let stored = gathered-stored _ _ _ _ _ _ g.new.1.0 (kept_of g.result) _ (kept-count g.result at-if1.if1.false) g.ensures in
     let p = at-pattern.pattern in
-    let pattern = made-pattern ask p.new.0 _ _ _ _ at_a.a-1.given.1 p.ensures in
-    let q = at-template.template-word in
-    let template = made-template ask stored p.auto.0 pattern q.new.0 (built_of q.result) _ _ (sym at-parts.parts.ensures ∙ at_b.b-1.given.1) q.ensures in
-    let left = left-rule ask stored p.auto.0 pattern q.auto.0 template _ _ at-put-rule.put_rule-r.ensures in
+    let pattern = made-pattern ask p.new.0 _ _ _ _ at_a.a.given.1 p.ensures in
+    let q = at-template.template in
+    let template = made-template ask stored p.auto.0 pattern q.new.0 (built_of q.result) _ _ (sym at-parts.parts.ensures ∙ at_b.b.given.1) q.ensures in
+    let left = left-rule ask stored p.auto.0 pattern q.auto.0 template _ _ at-put-rule.put-rule.ensures in
     packs-at (RuleLeft _ _ _ _ _ _) _ _ _ _ (packs-rule ask) c.pair.ensures left.words left
 
-pub rule_parts_spec : {M : Type 1} → statement M
-rule_parts_spec =
+pub rule-parts-spec : {M : Type 1} → statement M
+rule-parts-spec =
     tie.close
     (tie.spec
     (λ c. search rules)  -- slice-aggregate-gather

@@ -14,7 +14,7 @@ use Rattle.words.specs.Code.Packed.{built_of}
 use Rattle.rule_cells.specs.RuleListLaws.{dots-under, left-no-form, asks-list, literals-under, left-form}
 use mathlib.Core.Path.{sym, ◌∙◌}
 
-rule-list-requires : tie.Need-rule_list-requires
+rule-list-requires : tie.Need-rule-list-requires
 rule-list-requires c κs =
     let at_rest = c.before in
     let at_first = at_rest.before.before in
@@ -22,13 +22,13 @@ rule-list-requires c κs =
     let at-ellipsis = at-after-chosen.before.before in
     let at-args = at-ellipsis.before.before.before.before.before.before in
     let a = at-args.args in
-    let dots = at-ellipsis.ellipsis-dots.ensures in
-    let after = at-after-chosen.after_chosen-after.ensures in
+    let dots = at-ellipsis.ellipsis.ensures in
+    let after = at-after-chosen.after-chosen.ensures in
     let literals = at_first.first.ensures in
-    let list = at_rest.rest-list.ensures in
+    let list = at_rest.rest.ensures in
     (asks-list a.work.now a.node a.w a.top at-args.requires dots after literals list, dots-under a.work.now a.node a.w a.top at-args.requires dots after literals list, literals-under a.work.now a.node a.w a.top at-args.requires dots after literals list)
 
-returns : tie.Need-returns-then-is_rules_form
+returns : tie.Need-returns
 returns c =
     let at-rule-list = c.before.before in
     let at_rest = at-rule-list.before.before in
@@ -39,19 +39,19 @@ returns c =
     let at-is-rules-form = at-if1.before in
     let at-args = at-is-rules-form.before.before.before in
     let a = at-args.args in
-    let dots = at-ellipsis.ellipsis-dots.ensures in
-    let after = at-after-chosen.after_chosen-after.ensures in
+    let dots = at-ellipsis.ellipsis.ensures in
+    let after = at-after-chosen.after-chosen.ensures in
     let literals = at_first.first.ensures in
-    let list = at_rest.rest-list.ensures in
-    left-form a.work.now a.node a.w a.top at-args.requires dots after literals list at-rule-list.rule_list.new.0 (built_of at-rule-list.rule_list.result) (sym at-if1.if-is_rules_form.true ∙ at-is-rules-form.is_rules_form.ensures) at-rule-list.rule_list.ensures
+    let list = at_rest.rest.ensures in
+    left-form a.work.now a.node a.w a.top at-args.requires dots after literals list at-rule-list.rule-list.new.0 (built_of at-rule-list.rule-list.result) (sym at-if1.if1.true ∙ at-is-rules-form.is-rules-form.ensures) at-rule-list.rule-list.ensures
 
-returns-2 : tie.Need-returns
+returns-2 : tie.Need-returns-2
 unfolding built_of
 returns-2 c =
-    let a = c.before.before.before.before.args in left-no-form a.work.now a.node a.w a.top c.before.before.before.before.requires (sym c.if-is_rules_form.false ∙ c.before.is_rules_form.ensures)
+    let a = c.before.before.before.before.args in left-no-form a.work.now a.node a.w a.top c.before.before.before.before.requires (sym c.if1.false ∙ c.before.is-rules-form.ensures)
 
-pub rules_spec : {M : Type 1} → statement M
-rules_spec =
+pub rules-spec : {M : Type 1} → statement M
+rules-spec =
     tie.close
     (tie.spec
     (λ c κs. search rules)  -- is-rules-form-requires

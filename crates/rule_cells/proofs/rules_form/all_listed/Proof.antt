@@ -15,27 +15,27 @@ use Rattle.arena.specs.ListLaws.{pair-falls}
 use Rattle.rule_cells.specs.Dots.{dots_at}
 use Rattle.rule_cells.specs.Forms.{literals_all, all_end, all-no, all_more}
 
-abbrev invariant-loop : tie.invariant-loop-first
+abbrev invariant-loop : tie.invariant-loop
 invariant-loop work dots node w at₀ at =
     (r : Bool) → r ≡ literals_all (dots_at work dots w) (tree_at work at w) → r ≡ literals_all (dots_at work dots w) (tree_at work node w)
 
-abbrev decreases-loop : tie.decreases-loop-first
+abbrev decreases-loop : tie.decreases-loop
 decreases-loop work dots node w at₀ at =
     at
 
-loop-holds : tie.Need-loop-first-init invariant-loop decreases-loop
+loop-holds : tie.Need-loop-init invariant-loop decreases-loop
 loop-holds c =
     λ r h. h
 
-loop-less : tie.Need-loop-first-smaller invariant-loop decreases-loop
+loop-less : tie.Need-loop-smaller invariant-loop decreases-loop
 loop-less c =
     let at-if1 = c.before.before.before.before in
     let at-word = at-if1.before in
     let at-loop = at-word.before in
-    let l = at-loop.loop-first in
-    omega (arith, c.reference-at.ensures, pair-falls at-loop.before.before.args.work.now l.at 1 (sym at-word.word.ensures ∙ at-if1.loop-first-test.true))
+    let l = at-loop.loop in
+    omega (arith, c.reference2.ensures, pair-falls at-loop.before.before.args.work.now l.at 1 (sym at-word.word.ensures ∙ at-if1.if1.true))
 
-loop-again : tie.Need-loop-first-preserved invariant-loop decreases-loop
+loop-again : tie.Need-loop-preserved invariant-loop decreases-loop
 loop-again c =
     let at-if2 = c.before in
     let at-may-be-listed = at-if2.before in
@@ -44,10 +44,10 @@ loop-again c =
     let at-word = at-if1.before in
     let at-loop = at-word.before in
     let a = at-loop.before.before.args in
-    let l = at-loop.loop-first in
-    λ r h. l.invariant r (all_more a.work.now a.dots a.w l.at _ (sym at-word.word.ensures ∙ at-if1.loop-first-test.true) at-reference.reference-first.ensures _ r c.reference-at.ensures (sym at-if2.if-may_be_listed.true ∙ at-may-be-listed.may_be_listed.ensures) h)
+    let l = at-loop.loop in
+    λ r h. l.invariant r (all_more a.work.now a.dots a.w l.at _ (sym at-word.word.ensures ∙ at-if1.if1.true) at-reference.reference.ensures _ r c.reference2.ensures (sym at-if2.if2.true ∙ at-may-be-listed.may-be-listed.ensures) h)
 
-returns : tie.Need-returns-else-may_be_listed invariant-loop decreases-loop
+returns : tie.Need-returns invariant-loop decreases-loop
 returns c =
     let at-may-be-listed = c.before in
     let at-reference = at-may-be-listed.before in
@@ -55,17 +55,17 @@ returns c =
     let at-word = at-if1.before in
     let at-loop = at-word.before in
     let a = at-loop.before.before.args in
-    let l = at-loop.loop-first in
-    l.invariant false (all-no a.work.now a.dots a.w l.at _ (sym at-word.word.ensures ∙ at-if1.loop-first-test.true) at-reference.reference-first.ensures (sym c.if-may_be_listed.false ∙ at-may-be-listed.may_be_listed.ensures))
+    let l = at-loop.loop in
+    l.invariant false (all-no a.work.now a.dots a.w l.at _ (sym at-word.word.ensures ∙ at-if1.if1.true) at-reference.reference.ensures (sym c.if2.false ∙ at-may-be-listed.may-be-listed.ensures))
 
-returns-2 : tie.Need-returns invariant-loop decreases-loop
+returns-2 : tie.Need-returns-2 invariant-loop decreases-loop
 returns-2 c =
     let a = c.before.before.before.before.args in
-    let l = c.before.before.loop-first in
-    l.invariant true (all_end a.work.now a.dots a.w l.at (λ z. c.loop-first-test.false (c.before.word.ensures ∙ z)))
+    let l = c.before.before.loop in
+    l.invariant true (all_end a.work.now a.dots a.w l.at (λ z. c.if1.false (c.before.word.ensures ∙ z)))
 
-pub all_listed_spec : {M : Type 1} → statement M
-all_listed_spec =
+pub all-listed-spec : {M : Type 1} → statement M
+all-listed-spec =
     tie.close
     (tie.spec
     invariant-loop

@@ -21,13 +21,13 @@ use Rattle.arena.specs.Arena.{name_at}
 use mathlib.Core.Path.{refl, sym, ◌∙◌}
 use Rattle.rule_cells.specs.Scopes.{dots_under, variables_under}
 
-returns : tie.Need-returns-then-is_ellipsis
+returns : tie.Need-returns
 unfolding built_of
 returns c =
     let a = c.before.before.before.before.before.args in
-    left-dots (dots_under a.work.now a.scope) (variables_under a.work.now a.vars.now a.scope) a.scope.d (name_at a.work.now a.node a.scope.wrap) a.work.now a.top (sym c.before.is_ellipsis.ensures ∙ c.if-is_ellipsis.true)
+    left-dots (dots_under a.work.now a.scope) (variables_under a.work.now a.vars.now a.scope) a.scope.d (name_at a.work.now a.node a.scope.wrap) a.work.now a.top (sym c.before.is-ellipsis.ensures ∙ c.if1.true)
 
-returns-2 : tie.Need-returns-then-depth_fits
+returns-2 : tie.Need-returns-2
 unfolding size
 returns-2 c =
     let at-put-variable-template = c.before.before.before in
@@ -39,10 +39,10 @@ returns-2 c =
     let at-is-ellipsis = at-if1.before in
     let at-args = at-is-ellipsis.before.before.before.before in
     let a = at-args.args in
-    let left = left-variable (dots_under a.work.now a.scope) (variables_under a.work.now a.vars.now a.scope) a.scope.d (name_at a.work.now a.node a.scope.wrap) a.work.now a.top _ _ _ _ (sym at-is-ellipsis.is_ellipsis.ensures ∙ at-if1.if-is_ellipsis.false) (found_at _ _ _ _ at-k.k-1.given.1 at-find.find.ensures) (sym at-if2.if-depth_fits.true ∙ at-depth-fits.depth_fits.ensures) at-put-variable-template.put_variable_template-r.ensures in
+    let left = left-variable (dots_under a.work.now a.scope) (variables_under a.work.now a.vars.now a.scope) a.scope.d (name_at a.work.now a.node a.scope.wrap) a.work.now a.top _ _ _ _ (sym at-is-ellipsis.is-ellipsis.ensures ∙ at-if1.if1.false) (found_at _ _ _ _ at-k.k.given.1 at-find.find.ensures) (sym at-if2.if2.true ∙ at-depth-fits.depth-fits.ensures) at-put-variable-template.put-variable-template.ensures in
     packs-at (TemplateLeft _ _ _ _ _ _ _ _) _ _ _ _ at-args.requires.1 c.pair.ensures left.grows.words left
 
-returns-3 : tie.Need-returns-in-At
+returns-3 : tie.Need-returns-3
 unfolding built_of
 returns-3 c =
     let at-depth-fits = c.before in
@@ -51,9 +51,9 @@ returns-3 c =
     let at-if1 = at-find.before.before in
     let at-is-ellipsis = at-if1.before in
     let a = at-is-ellipsis.before.before.before.before.args in
-    left-depth (dots_under a.work.now a.scope) (variables_under a.work.now a.vars.now a.scope) a.scope.d (name_at a.work.now a.node a.scope.wrap) a.work.now a.top _ _ (sym at-is-ellipsis.is_ellipsis.ensures ∙ at-if1.if-is_ellipsis.false) (found_at _ _ _ _ at-k.k-1.given.1 at-find.find.ensures) (sym c.if-depth_fits.false ∙ at-depth-fits.depth_fits.ensures)
+    left-depth (dots_under a.work.now a.scope) (variables_under a.work.now a.vars.now a.scope) a.scope.d (name_at a.work.now a.node a.scope.wrap) a.work.now a.top _ _ (sym at-is-ellipsis.is-ellipsis.ensures ∙ at-if1.if1.false) (found_at _ _ _ _ at-k.k.given.1 at-find.find.ensures) (sym c.if2.false ∙ at-depth-fits.depth-fits.ensures)
 
-returns-4 : tie.Need-returns
+returns-4 : tie.Need-returns-4
 unfolding size
 returns-4 c =
     let at-put-insert = c.before.before.before in
@@ -63,11 +63,11 @@ returns-4 c =
     let at-is-ellipsis = at-if1.before in
     let at-args = at-is-ellipsis.before.before.before.before in
     let a = at-args.args in
-    let left = left-insert (dots_under a.work.now a.scope) (variables_under a.work.now a.vars.now a.scope) a.scope.d (name_at a.work.now a.node a.scope.wrap) a.work.now a.top a.node a.scope.wrap _ _ refl (sym at-is-ellipsis.is_ellipsis.ensures ∙ at-if1.if-is_ellipsis.false) (found-not _ _ at-enum-told.enum_told-1.given.1 at-find.find.ensures) at-put-insert.put_insert-r.ensures in
-    packs-at (TemplateLeft _ _ _ _ _ _ _ _) _ _ _ _ at-args.requires.1 c.pair-2.ensures left.grows.words left
+    let left = left-insert (dots_under a.work.now a.scope) (variables_under a.work.now a.vars.now a.scope) a.scope.d (name_at a.work.now a.node a.scope.wrap) a.work.now a.top a.node a.scope.wrap _ _ refl (sym at-is-ellipsis.is-ellipsis.ensures ∙ at-if1.if1.false) (found-not _ _ at-enum-told.enum_told.given.1 at-find.find.ensures) at-put-insert.put-insert.ensures in
+    packs-at (TemplateLeft _ _ _ _ _ _ _ _) _ _ _ _ at-args.requires.1 c.pair2.ensures left.grows.words left
 
-pub template_name_spec : {M : Type 1} → statement M
-template_name_spec =
+pub template-name-spec : {M : Type 1} → statement M
+template-name-spec =
     tie.close
     (tie.spec
     (λ c κs. search rules)  -- is-ellipsis-requires

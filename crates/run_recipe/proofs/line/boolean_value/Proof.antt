@@ -13,15 +13,13 @@ use Rattle.run_recipe.specs.Line.{true-laid, false-laid}
 
 returns : tie.Need-named-requires-2
 returns c =
-    let at_named = c.before.before in
-    let at-if1 = at_named.before.before.before in
-    left_is (true-laid _ ∙ ap (λ z. acceptance (boolean z) at-if1.before.before.args.units) (sym at-if1.if-b.true)) at_named.named.ensures
+    left_is (true-laid _ ∙ ap (λ z. acceptance (boolean z) c.args.units) (sym c.if-b.true)) c.named.ensures
 
 returns-2 : tie.Need-returns-2
 returns-2 c =
     let at-named2 = c.before.before in
     let at-if1 = at-named2.before.before.before in
-    left_is (false-laid _ ∙ ap (λ z. acceptance (boolean z) at-if1.before.before.args.units) (sym at-if1.if-b.false)) at-named2.named-2.ensures
+    left_is (false-laid _ ∙ ap (λ z. acceptance (boolean z) at-if1.before.before.args.units) (sym at-if1.if1.false)) at-named2.named2.ensures
 
 pub boolean_value_spec : {M : Type 1} → statement M
 boolean_value_spec =

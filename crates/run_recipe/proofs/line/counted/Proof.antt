@@ -6,29 +6,23 @@ use Rattle.writer.specs.LaidLaws.{place-full, place-room, place-then}
 
 returns : tie.Need-returns-then-a
 returns c =
-    place-full c.before.before.before.copy-a.ensures _ c.if-a.true
+    place-full c.copy-a.ensures _ c.if-a.true
 
 numbered-requires : tie.Need-numbered-b-requires
 numbered-requires c κs =
-    place-room c.before.before.before.before.copy-a.ensures c.before.if-a.false
+    place-room c.copy-a.ensures c.if-a.false
 
 returns-2 : tie.Need-returns-then-b
 returns-2 c =
-    let at-numbered = c.before.before.before in
-    let at-if1 = at-numbered.before.before in
-    place-then at-if1.before.before.before.copy-a.ensures at-if1.if-a.false (place-full at-numbered.numbered-b.ensures _ c.if-b.true)
+    place-then c.copy-a.ensures c.if-a.false (place-full c.numbered-b.ensures _ c.if-b.true)
 
 byte-requires : tie.Need-byte-requires
 byte-requires c κs =
-    place-room c.before.before.before.before.numbered-b.ensures c.before.if-b.false
+    place-room c.numbered-b.ensures c.if-b.false
 
 returns-3 : tie.Need-returns
 returns-3 c =
-    let at_byte = c.before.before in
-    let at-if2 = at_byte.before.before in
-    let at-numbered = at-if2.before.before.before in
-    let at-if1 = at-numbered.before.before in
-    place-then at-if1.before.before.before.copy-a.ensures at-if1.if-a.false (place-then at-numbered.numbered-b.ensures at-if2.if-b.false at_byte.byte.ensures)
+    place-then c.copy-a.ensures c.if-a.false (place-then c.numbered-b.ensures c.if-b.false c.byte.ensures)
 
 pub counted_spec : {M : Type 1} → statement M
 counted_spec =

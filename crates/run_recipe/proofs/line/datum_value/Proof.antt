@@ -11,17 +11,17 @@ use Rattle.run_recipe.specs.Line.{place-laid}
 
 returns : tie.Need-returns-then-a
 returns c =
-    left_is (place-laid _ _) (place-full c.before.before.before.accepted-a.ensures _ c.if-a.true)
+    left_is (place-laid _ _) (place-full c.accepted-a.ensures _ c.if-a.true)
 
 counted-requires : tie.Need-shape_of-out
 counted-requires c κs =
-    place-room c.before.before.before.before.before.accepted-a.ensures c.before.before.if-a.false
+    place-room c.accepted-a.ensures c.if-a.false
 
 returns-2 : tie.Need-returns-2
 returns-2 c =
     let at-counted = c.before.before in
     let at-if1 = at-counted.before.before.before in
-    left_is (place-laid _ _) (place-then at-if1.before.before.before.accepted-a.ensures at-if1.if-a.false at-counted.counted.ensures)
+    left_is (place-laid _ _) (place-then at-if1.before.before.before.accepted.ensures at-if1.if1.false at-counted.counted.ensures)
 
 pub datum_value_spec : {M : Type 1} → statement M
 datum_value_spec =

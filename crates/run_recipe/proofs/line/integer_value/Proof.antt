@@ -7,29 +7,23 @@ use Rattle.run_recipe.specs.Line.{integer-laid}
 
 returns : tie.Need-returns-then-a
 returns c =
-    left_is (integer-laid c.before.before.before.before.before.before.args.w _) (place-full c.before.before.before.accepted-a.ensures _ c.if-a.true)
+    left_is (integer-laid c.args.w _) (place-full c.accepted-a.ensures _ c.if-a.true)
 
 integer-requires : tie.Need-integer-b-requires
 integer-requires c κs =
-    place-room c.before.before.before.before.accepted-a.ensures c.before.if-a.false
+    place-room c.accepted-a.ensures c.if-a.false
 
 returns-2 : tie.Need-returns-then-b
 returns-2 c =
-    let at-integer = c.before.before.before in
-    let at-if1 = at-integer.before.before in
-    left_is (integer-laid at-if1.before.before.before.before.before.before.args.w _) (place-then at-if1.before.before.before.accepted-a.ensures at-if1.if-a.false (place-full at-integer.integer-b.ensures _ c.if-b.true))
+    left_is (integer-laid c.args.w _) (place-then c.accepted-a.ensures c.if-a.false (place-full c.integer-b.ensures _ c.if-b.true))
 
 byte-requires : tie.Need-byte-requires
 byte-requires c κs =
-    place-room c.before.before.before.before.integer-b.ensures c.before.if-b.false
+    place-room c.integer-b.ensures c.if-b.false
 
 returns-3 : tie.Need-returns
 returns-3 c =
-    let at_byte = c.before.before in
-    let at-if2 = at_byte.before.before in
-    let at-integer = at-if2.before.before.before in
-    let at-if1 = at-integer.before.before in
-    left_is (integer-laid at-if1.before.before.before.before.before.before.args.w _) (place-then at-if1.before.before.before.accepted-a.ensures at-if1.if-a.false (place-then at-integer.integer-b.ensures at-if2.if-b.false at_byte.byte.ensures))
+    left_is (integer-laid c.args.w _) (place-then c.accepted-a.ensures c.if-a.false (place-then c.integer-b.ensures c.if-b.false c.byte.ensures))
 
 pub integer_value_spec : {M : Type 1} → statement M
 integer_value_spec =

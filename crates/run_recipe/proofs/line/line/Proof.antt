@@ -20,37 +20,29 @@ use Rattle.run_recipe.specs.Line.{line_of, closure-laid, operation-laid, refusal
 returns : tie.Need-shape_of-out-in-Datum
 unfolding line_of
 returns c =
-    let at-integer-value = c.before.before in
-    let at-answer = at-integer-value.before.before.before in
-    laid-printed at-integer-value.integer_value.ensures (ap line_of (sym at-answer.answer-1.given.1)) (acceptance-room _ _ (word_fits at-answer.answer-1.given.0.0 (search rules)) (search rules)) at-answer.before.before.before.requires
+    laid-printed c.integer_value.ensures (ap line_of (sym c.in-Integer.is)) (acceptance-room _ _ (word_fits c.in-Integer.w (search rules)) (search rules)) c.requires
 
 returns-2 : tie.Need-shape_of-out-in-Closure
 unfolding line_of
 returns-2 c =
-    let at-boolean-value = c.before.before in
-    let at-answer2 = at-boolean-value.before.before.before in
-    laid-printed at-boolean-value.boolean_value.ensures (ap line_of (sym at-answer2.answer-in-Boolean-1.given.1)) (acceptance-room _ _ tt (search rules)) at-answer2.before.before.before.requires
+    laid-printed c.boolean_value.ensures (ap line_of (sym c.in-Boolean.is)) (acceptance-room _ _ tt (search rules)) c.requires
 
 returns-3 : tie.Need-shape_of-out-in-Operation
 unfolding line_of
 returns-3 c =
-    let at-datum-value = c.before.before in
-    let at-answer3 = at-datum-value.before.before.before in
-    laid-printed at-datum-value.datum_value.ensures (ap line_of (sym at-answer3.answer-in-Datum-1.given.1)) (acceptance-room _ _ (search rules) (search rules)) at-answer3.before.before.before.requires
+    laid-printed c.datum_value.ensures (ap line_of (sym c.in-Datum.is)) (acceptance-room _ _ (search rules) (search rules)) c.requires
 
 returns-4 : tie.Need-shape_of-out-in-Refused
 unfolding line_of
 returns-4 c =
-    let at_named = c.before.before in
-    let at-answer4 = at_named.before.before.before.before in
-    laid-printed (left_is (closure-laid _) at_named.named.ensures) (ap line_of (sym at-answer4.answer-in-Closure-1.given.1)) (acceptance-room _ _ tt (search rules)) at-answer4.before.before.before.requires
+    laid-printed (left_is (closure-laid _) c.named.ensures) (ap line_of (sym c.in-Closure.is)) (acceptance-room _ _ tt (search rules)) c.requires
 
 returns-5 : tie.Need-returns-5
 unfolding line_of
 returns-5 c =
     let at-named2 = c.before.before in
     let at-answer5 = at-named2.before.before.before.before in
-    laid-printed (left_is (operation-laid _) at-named2.named-in-Operation.ensures) (ap line_of (sym at-answer5.answer-in-Operation-1.given.1)) (acceptance-room _ _ tt (search rules)) at-answer5.before.before.before.requires
+    laid-printed (left_is (operation-laid _) at-named2.named2.ensures) (ap line_of (sym at-answer5.answer5.given.1)) (acceptance-room _ _ tt (search rules)) at-answer5.before.before.before.requires
 
 returns-6 : tie.Need-returns-6
 unfolding line_of
@@ -58,7 +50,7 @@ returns-6 c =
     let at-counted = c.before.before in
     let at_wide = at-counted.before.before in
     let at-answer6 = at_wide.before.before.before in
-    laid-printed (left_is (refusal-laid _ ∙ ap refusal at_wide.wide.ensures) at-counted.counted.ensures) (ap line_of (sym at-answer6.answer-in-Refused-1.given.1)) (refusal-room _ (search rules)) at-answer6.before.before.before.requires
+    laid-printed (left_is (refusal-laid _ ∙ ap refusal at_wide.wide.ensures) at-counted.counted.ensures) (ap line_of (sym at-answer6.answer6.given.1)) (refusal-room _ (search rules)) at-answer6.before.before.before.requires
 
 pub line_spec : {M : Type 1} → statement M
 line_spec =

@@ -6,17 +6,15 @@ use Rattle.writer.specs.LaidLaws.{place-full, place-room, place-then}
 
 returns : tie.Need-returns-then-a
 returns c =
-    place-full c.before.before.before.accepted-a.ensures _ c.if-a.true
+    place-full c.accepted-a.ensures _ c.if-a.true
 
 copy-requires : tie.Need-copy-requires
 copy-requires c κs =
-    place-room c.before.before.before.before.accepted-a.ensures c.before.if-a.false
+    place-room c.accepted-a.ensures c.if-a.false
 
 returns-2 : tie.Need-returns
 returns-2 c =
-    let at_copy = c.before.before in
-    let at-if1 = at_copy.before.before in
-    place-then at-if1.before.before.before.accepted-a.ensures at-if1.if-a.false at_copy.copy.ensures
+    place-then c.accepted-a.ensures c.if-a.false c.copy.ensures
 
 pub named_spec : {M : Type 1} → statement M
 named_spec =

@@ -14,25 +14,19 @@ use Rattle.run_recipe.specs.ValueLaws.{expanded-run, expanded-refused}
 
 slice-reshare-prefix-run : tie.Need-slice_bounds-run-end
 slice-reshare-prefix-run c =
-    (term-front _ _ _ _ _ _ _ c.before.before.before.before.before.before.before.before.expand.ensures _ _ _ c.before.before.l-1.given.1 _ c.wide-end.ensures).0
+    (term-front _ _ _ _ _ _ _ c.expand.ensures _ _ _ c.in-Accepted.is _ c.wide-end.ensures).0
 
 slice-aggregate-run : tie.Need-slice_bounds-run-end-in-Accepted
 slice-aggregate-run c =
-    let at_wide = c.before in
-    let at-l = at_wide.before.before in
-    sym (length-take-le _ _ (term-front _ _ _ _ _ _ _ at-l.before.before.before.before.before.before.expand.ensures _ _ _ at-l.l-1.given.1 _ at_wide.wide-end.ensures).0)
+    sym (length-take-le _ _ (term-front _ _ _ _ _ _ _ c.expand.ensures _ _ _ c.in-Accepted.is _ c.wide-end.ensures).0)
 
 returns : tie.Need-returns-in-Accepted
 returns c =
-    let at-run = c.before.before in
-    let at_wide = at-run.before.before.before in
-    let at-l = at_wide.before.before in
-    let expand' = at-l.before.before.before.before.before.before.expand in
-    expanded-run _ _ _ _ _ _ _ expand'.ensures _ _ _ _ at-l.l-1.given.1 _ at_wide.wide-end.ensures expand'.auto.1.1.0 _ _ at-run.run.ensures
+    expanded-run _ _ _ _ _ _ _ c.expand.ensures _ _ _ _ c.in-Accepted.is _ c.wide-end.ensures c.expand.auto.work _ _ c.run.ensures
 
 returns-2 : tie.Need-returns-in-Refused
 returns-2 c =
-    expanded-refused _ _ _ _ _ _ _ c.before.before.before.before.before.before.before.expand.ensures _ _ _ _ c.before.g-1.given.1
+    expanded-refused _ _ _ _ _ _ _ c.expand.ensures _ _ _ _ c.in-Refused.is
 
 pub expanded_spec : {M : Type 1} → statement M
 expanded_spec =

@@ -16,28 +16,24 @@ use Rattle.run_recipe.specs.ValueLaws.{value_read, value-refused}
 
 mul_words : tie.Need-overflow_mul-words
 mul_words c =
-    let at_i = c.before in
-    let read' = at_i.before.before.before.before.before.before.read in
-    let h : 3 * at_i.i-1.given.0.0 ≤ length read'.new.1.0 = (items-front _ _ _ _ _ _ read'.ensures _ _ at_i.i-1.given.1).0 in
+    let h : 3 * c.in-Read.i ≤ length c.read.new.items = (items-front _ _ _ _ _ _ c.read.ensures _ _ c.in-Read.is).0 in
     record { fits = omega arith }
 
 slice-reshare-prefix-expanded : tie.Need-slice_bounds-expanded-end
 slice-reshare-prefix-expanded c =
-    (items-front _ _ _ _ _ _ c.before.before.before.before.before.before.before.read.ensures _ _ c.before.i-1.given.1).0
+    (items-front _ _ _ _ _ _ c.read.ensures _ _ c.in-Read.is).0
 
 slice-aggregate-expanded : tie.Need-slice_bounds-expanded-end-in-Read
 slice-aggregate-expanded c =
-    sym (length-take-le _ _ (items-front _ _ _ _ _ _ c.before.before.before.before.before.before.before.before.read.ensures _ _ c.before.before.i-1.given.1).0)
+    sym (length-take-le _ _ (items-front _ _ _ _ _ _ c.read.ensures _ _ c.in-Read.is).0)
 
 returns : tie.Need-returns-in-Read
 returns c =
-    let at-expanded = c.before.before.before.before in
-    let at_i = at-expanded.before.before.before.before.before in
-    value_read _ _ _ _ _ _ at_i.before.before.before.before.before.before.read.ensures _ _ _ _ _ _ _ at_i.i-1.given.1 _ at-expanded.expanded.ensures
+    value_read _ _ _ _ _ _ c.read.ensures _ _ _ _ _ _ _ c.in-Read.is _ c.expanded.ensures
 
 returns-2 : tie.Need-returns-in-Refused
 returns-2 c =
-    value-refused _ _ _ _ _ _ c.before.before.before.before.before.before.before.read.ensures _ _ _ _ _ _ c.before.ground-1.given.1
+    value-refused _ _ _ _ _ _ c.read.ensures _ _ _ _ _ _ c.in-Refused.is
 
 pub value_spec : {M : Type 1} → statement M
 value_spec =

@@ -14,7 +14,7 @@ use Rattle.runner.specs.BeginLaws.{spent-application}
 -- src/begin.rt:98:34
 add-after : tie.Need-overflow_add-at
 add-after c =
-    record { fits = omega (arith, here-two _ c.before.before.before.requires.1.2.here, c.before.before.before.well_formed.0) }
+    record { fits = omega (arith, here-two _ c.requires.1.2.here, c.well_formed.0) }
 
 -- src/begin.rt:98:15
 after-requires : tie.Need-after-requires
@@ -29,7 +29,7 @@ cast-t11 c =
 -- src/begin.rt:103:23
 add-wait : tie.Need-overflow_add-at-2
 add-wait c =
-    record { fits = omega (arith, here-two _ c.before.before.before.before.before.before.requires.1.2.here, c.before.before.before.before.before.before.well_formed.0) }
+    record { fits = omega (arith, here-two _ c.requires.1.2.here, c.well_formed.0) }
 
 -- src/begin.rt:103:5
 wait-requires : tie.Need-wait-requires
@@ -44,7 +44,7 @@ same_length c =
 -- src/begin.rt:84:1
 returns : tie.Need-returns
 returns c =
-    λ budget whole x. rw (c.before.before.wait.ensures.0, c.before.before.wait.ensures.1) (spent-application c.before.before.before.before.before.before.before.before.before.args.s c.before.before.before.before.before.before.before.before.before.args.at c.before.before.before.before.before.before.before.before.before.args.environment c.before.before.before.before.before.before.before.before.before.args.operands x _ (c.before.before.before.before.before.after.ensures x.is.head x.is.parts.head))
+    λ budget whole x. rw (c.wait.ensures.0, c.wait.ensures.1) (spent-application c.args.s c.args.at c.args.environment c.args.operands x _ (c.after.ensures x.is.head x.is.parts.head))
 
 pub application_spec : {M : Type 1} → statement M
 application_spec =

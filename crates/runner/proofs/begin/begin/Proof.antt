@@ -20,7 +20,7 @@ use Rattle.runner.specs.BeginLaws.{spent, begin-out, begin-node, spent-variable,
 -- src/begin.rt:120:9
 returns : tie.Need-returns-then-s-budget
 returns c =
-    λ whole b. begin-out c.before.before.before.before.before.args.s c.before.before.before.before.before.args.at c.before.before.before.before.before.args.environment b c.if-s-budget.true
+    λ whole b. begin-out c.args.s c.args.at c.args.environment b c.if-s-budget.true
 
 -- src/begin.rt:123:16
 add-opened : tie.Need-overflow_add-t
@@ -30,17 +30,17 @@ add-opened c =
 -- src/begin.rt:128:18
 mul-opened : tie.Need-offset_bounds-words-at
 mul-opened c =
-    record { fits = omega (arith, here-two _ c.before.before.before.before.before.before.requires.1.1.here, c.before.before.before.before.before.before.well_formed.0) }
+    record { fits = omega (arith, here-two _ c.requires.1.1.here, c.well_formed.0) }
 
 -- src/begin.rt:128:18
 sub-opened : tie.Need-slice_bounds-opened-count
 sub-opened c =
-    omega (arith, here-two _ c.before.before.before.before.before.before.requires.1.1.here)
+    omega (arith, here-two _ c.requires.1.1.here)
 
 -- src/begin.rt:128:18
 part-opened-start : tie.Need-slice_bounds-opened-start
 part-opened-start c =
-    omega (arith, here-two _ c.before.before.before.before.before.before.requires.1.1.here)
+    omega (arith, here-two _ c.requires.1.1.here)
 
 -- src/begin.rt:128:18
 part-opened-end : tie.Need-slice_bounds-opened-end
@@ -60,14 +60,14 @@ enum-known-n c =
 -- src/begin.rt:129:30
 variable-requires : tie.Need-variable-requires
 variable-requires c κs =
-    let a = c.before.before.before.before.before.before.before.before.before.before.before.before.args in
-    let p = c.before.before.before.before.before.before.before.before.before.before.before.before.requires.1 in (
+    let a = c.args in
+    let p = c.requires.1 in (
       a.words.now,
       (
         a.budget,
         p.0,
         spent-variable (spent a.s) a.at a.environment _
-            (begin-node a.s a.at a.environment p.1 _ _ c.before.before.before.before.before.before.before.if-s-budget.false c.before.before.before.before.opened.ensures c.before.before.n-1.given.1),
+            (begin-node a.s a.at a.environment p.1 _ _ c.if-s-budget.false c.opened.ensures c.in-Variable.is),
       ),
     )
 
@@ -79,14 +79,14 @@ enum-known-p c =
 -- src/begin.rt:130:31
 operation-requires : tie.Need-operation-requires
 operation-requires c κs =
-    let a = c.before.before.before.before.before.before.before.before.before.before.before.before.args in
-    let p = c.before.before.before.before.before.before.before.before.before.before.before.before.requires.1 in (
+    let a = c.args in
+    let p = c.requires.1 in (
       a.words.now,
       (
         a.budget,
         p.0,
         spent-operation (spent a.s) a.at a.environment _
-            (begin-node a.s a.at a.environment p.1 _ _ c.before.before.before.before.before.before.before.if-s-budget.false c.before.before.before.before.opened.ensures c.before.before.p-1.given.1),
+            (begin-node a.s a.at a.environment p.1 _ _ c.if-s-budget.false c.opened.ensures c.in-Operation.is),
       ),
     )
 
@@ -103,15 +103,15 @@ value-requires c κs =
 -- src/begin.rt:131:29
 push-requires : tie.Need-push-requires
 push-requires c κs =
-    let a = c.before.before.before.before.before.before.before.before.before.before.before.before.before.args in
-    let p = c.before.before.before.before.before.before.before.before.before.before.before.before.before.requires.1 in (
+    let a = c.args in
+    let p = c.requires.1 in (
       a.words.now,
       (
         a.budget,
         p.0,
         rw c.value.ensures
             (spent-integer (spent a.s) a.at a.environment _
-            (begin-node a.s a.at a.environment p.1 _ _ c.before.before.before.before.before.before.before.before.if-s-budget.false c.before.before.before.before.before.opened.ensures c.before.before.before.w-1.given.1)),
+            (begin-node a.s a.at a.environment p.1 _ _ c.if-s-budget.false c.opened.ensures c.in-Integer.is)),
       ),
     )
 
@@ -128,15 +128,15 @@ value-requires-2 c κs =
 -- src/begin.rt:132:29
 push-requires-2 : tie.Need-push-requires-in-Boolean
 push-requires-2 c κs =
-    let a = c.before.before.before.before.before.before.before.before.before.before.before.before.before.args in
-    let p = c.before.before.before.before.before.before.before.before.before.before.before.before.before.requires.1 in (
+    let a = c.args in
+    let p = c.requires.1 in (
       a.words.now,
       (
         a.budget,
         p.0,
         rw c.value-in-Boolean.ensures
             (spent-boolean (spent a.s) a.at a.environment _
-            (begin-node a.s a.at a.environment p.1 _ _ c.before.before.before.before.before.before.before.before.if-s-budget.false c.before.before.before.before.before.opened.ensures c.before.before.before.w-in-Boolean-1.given.1)),
+            (begin-node a.s a.at a.environment p.1 _ _ c.if-s-budget.false c.opened.ensures c.in-Boolean.is)),
       ),
     )
 
@@ -168,15 +168,15 @@ value-requires-3 c κs =
 -- src/begin.rt:134:26
 push-requires-3 : tie.Need-push-requires-in-Name
 push-requires-3 c κs =
-    let a = c.before.before.before.before.before.before.before.before.before.before.before.before.before.before.args in
-    let p = c.before.before.before.before.before.before.before.before.before.before.before.before.before.before.requires.1 in (
+    let a = c.args in
+    let p = c.requires.1 in (
       a.words.now,
       (
         a.budget,
         p.0,
-        rw (c.value-in-Name.ensures, c.before.before.low.ensures, c.before.high.ensures)
+        rw (c.value-in-Name.ensures, c.low.ensures, c.high.ensures)
             (spent-name (spent a.s) a.at a.environment _
-            (begin-node a.s a.at a.environment p.1 _ _ c.before.before.before.before.before.before.before.before.before.if-s-budget.false c.before.before.before.before.before.before.opened.ensures c.before.before.before.before.enum_told-in-Name-1.given.1)),
+            (begin-node a.s a.at a.environment p.1 _ _ c.if-s-budget.false c.opened.ensures c.in-Name.is)),
       ),
     )
 
@@ -203,15 +203,15 @@ value-requires-4 c κs =
 -- src/begin.rt:135:26
 push-requires-4 : tie.Need-push-requires-in-List
 push-requires-4 c κs =
-    let a = c.before.before.before.before.before.before.before.before.before.before.before.before.before.before.args in
-    let p = c.before.before.before.before.before.before.before.before.before.before.before.before.before.before.requires.1 in (
+    let a = c.args in
+    let p = c.requires.1 in (
       a.words.now,
       (
         a.budget,
         p.0,
-        rw (c.value-in-List.ensures, c.before.before.low-in-List.ensures, c.before.high-in-List.ensures)
+        rw (c.value-in-List.ensures, c.low-in-List.ensures, c.high-in-List.ensures)
             (spent-list (spent a.s) a.at a.environment _
-            (begin-node a.s a.at a.environment p.1 _ _ c.before.before.before.before.before.before.before.before.before.if-s-budget.false c.before.before.before.before.before.before.opened.ensures c.before.before.before.before.enum_told-in-List-1.given.1)),
+            (begin-node a.s a.at a.environment p.1 _ _ c.if-s-budget.false c.opened.ensures c.in-List.is)),
       ),
     )
 
@@ -223,13 +223,13 @@ enum-told-4 c =
 -- src/begin.rt:136:21
 test-requires : tie.Need-test-requires
 test-requires c κs =
-    let a = c.before.before.before.before.before.before.before.before.before.before.before.args in
-    let p = c.before.before.before.before.before.before.before.before.before.before.before.requires.1 in (
-      c.before.before.before.before.before.before.before.before.before.before.before.requires.0,
+    let a = c.args in
+    let p = c.requires.1 in (
+      c.requires.0,
       (
         a.budget,
         p.0,
-        begin-node a.s a.at a.environment p.1 _ _ c.before.before.before.before.before.before.if-s-budget.false c.before.before.before.opened.ensures c.before.enum_told-in-If-1.given.1,
+        begin-node a.s a.at a.environment p.1 _ _ c.if-s-budget.false c.opened.ensures c.in-If.is,
       ),
     )
 
@@ -256,15 +256,15 @@ value-requires-5 c κs =
 -- src/begin.rt:137:31
 push-requires-5 : tie.Need-push-requires-in-Lambda
 push-requires-5 c κs =
-    let a = c.before.before.before.before.before.before.before.before.before.before.before.before.before.before.args in
-    let p = c.before.before.before.before.before.before.before.before.before.before.before.before.before.before.requires.1 in (
+    let a = c.args in
+    let p = c.requires.1 in (
       a.words.now,
       (
         a.budget,
         p.0,
-        rw (c.value-in-Lambda.ensures, c.before.before.low-in-Lambda.ensures, c.before.high-in-Lambda.ensures)
+        rw (c.value-in-Lambda.ensures, c.low-in-Lambda.ensures, c.high-in-Lambda.ensures)
             (spent-lambda (spent a.s) a.at a.environment _ _
-            (begin-node a.s a.at a.environment p.1 _ _ c.before.before.before.before.before.before.before.before.before.if-s-budget.false c.before.before.before.before.before.before.opened.ensures c.before.before.before.before.enum_told-in-Lambda-1.given.1)),
+            (begin-node a.s a.at a.environment p.1 _ _ c.if-s-budget.false c.opened.ensures c.in-Lambda.is)),
       ),
     )
 
@@ -276,13 +276,13 @@ enum-known-n-2 c =
 -- src/begin.rt:138:33
 application-requires : tie.Need-application-requires
 application-requires c κs =
-    let a = c.before.before.before.before.before.before.before.before.before.before.before.before.args in
-    let p = c.before.before.before.before.before.before.before.before.before.before.before.before.requires.1 in (
-      c.before.before.before.before.before.before.before.before.before.before.before.before.requires.0,
+    let a = c.args in
+    let p = c.requires.1 in (
+      c.requires.0,
       (
         a.budget,
         p.0,
-        begin-node a.s a.at a.environment p.1 _ _ c.before.before.before.before.before.before.before.if-s-budget.false c.before.before.before.before.opened.ensures c.before.before.n-in-Application-1.given.1,
+        begin-node a.s a.at a.environment p.1 _ _ c.if-s-budget.false c.opened.ensures c.in-Application.is,
       ),
     )
 
@@ -299,11 +299,11 @@ same_length c =
 -- src/begin.rt:107:1
 returns-2 : tie.Need-returns-in-Variable
 returns-2 c =
-    λ whole b. let a = c.before.before.before.before.before.before.before.before.before.before.before.before.before.before.before.args in
-    let x = c.before.before.variable.ensures a.words.now a.budget whole
+    λ whole b. let a = c.args in
+    let x = c.variable.ensures a.words.now a.budget whole
     (spent-variable (spent a.s) a.at a.environment _
-    (begin-node a.s a.at a.environment b _ _ c.before.before.before.before.before.before.before.before.before.before.if-s-budget.false c.before.before.before.before.before.before.before.opened.ensures c.before.before.before.before.before.n-1.given.1)) in
-    (x.0, omega (arith, x.1, c.before.before.before.before.before.before.before.before.before.before.if-s-budget.false))
+    (begin-node a.s a.at a.environment b _ _ c.if-s-budget.false c.opened.ensures c.in-Variable.is)) in
+    (x.0, omega (arith, x.1, c.if-s-budget.false))
 
 -- src/begin.rt:107:1
 same-length-2 : tie.Need-shape_of-table-in-Operation
@@ -313,11 +313,11 @@ same-length-2 c =
 -- src/begin.rt:107:1
 returns-3 : tie.Need-returns-in-Operation
 returns-3 c =
-    λ whole b. let a = c.before.before.before.before.before.before.before.before.before.before.before.before.before.before.before.args in
-    let x = c.before.before.operation.ensures a.words.now a.budget whole
+    λ whole b. let a = c.args in
+    let x = c.operation.ensures a.words.now a.budget whole
     (spent-operation (spent a.s) a.at a.environment _
-    (begin-node a.s a.at a.environment b _ _ c.before.before.before.before.before.before.before.before.before.before.if-s-budget.false c.before.before.before.before.before.before.before.opened.ensures c.before.before.before.before.before.p-1.given.1)) in
-    (x.0, omega (arith, x.1, c.before.before.before.before.before.before.before.before.before.before.if-s-budget.false))
+    (begin-node a.s a.at a.environment b _ _ c.if-s-budget.false c.opened.ensures c.in-Operation.is)) in
+    (x.0, omega (arith, x.1, c.if-s-budget.false))
 
 -- src/begin.rt:107:1
 same-length-3 : tie.Need-shape_of-table-in-Integer
@@ -327,12 +327,12 @@ same-length-3 c =
 -- src/begin.rt:107:1
 returns-4 : tie.Need-returns-in-Integer
 returns-4 c =
-    λ whole b. let a = c.before.before.before.before.before.before.before.before.before.before.before.before.before.before.before.before.args in
-    let x = c.before.before.push.ensures a.words.now a.budget whole
-    (rw c.before.before.before.value.ensures
+    λ whole b. let a = c.args in
+    let x = c.push.ensures a.words.now a.budget whole
+    (rw c.value.ensures
     (spent-integer (spent a.s) a.at a.environment _
-    (begin-node a.s a.at a.environment b _ _ c.before.before.before.before.before.before.before.before.before.before.before.if-s-budget.false c.before.before.before.before.before.before.before.before.opened.ensures c.before.before.before.before.before.before.w-1.given.1))) in
-    (x.0, omega (arith, x.1, c.before.before.before.before.before.before.before.before.before.before.before.if-s-budget.false))
+    (begin-node a.s a.at a.environment b _ _ c.if-s-budget.false c.opened.ensures c.in-Integer.is))) in
+    (x.0, omega (arith, x.1, c.if-s-budget.false))
 
 -- src/begin.rt:107:1
 same-length-4 : tie.Need-shape_of-table-in-Boolean
@@ -342,20 +342,20 @@ same-length-4 c =
 -- src/begin.rt:107:1
 returns-5 : tie.Need-returns-in-Boolean
 returns-5 c =
-    λ whole b. let a = c.before.before.before.before.before.before.before.before.before.before.before.before.before.before.before.before.args in
-    let x = c.before.before.push-in-Boolean.ensures a.words.now a.budget whole
-    (rw c.before.before.before.value-in-Boolean.ensures
+    λ whole b. let a = c.args in
+    let x = c.push-in-Boolean.ensures a.words.now a.budget whole
+    (rw c.value-in-Boolean.ensures
     (spent-boolean (spent a.s) a.at a.environment _
-    (begin-node a.s a.at a.environment b _ _ c.before.before.before.before.before.before.before.before.before.before.before.if-s-budget.false c.before.before.before.before.before.before.before.before.opened.ensures c.before.before.before.before.before.before.w-in-Boolean-1.given.1))) in
-    (x.0, omega (arith, x.1, c.before.before.before.before.before.before.before.before.before.before.before.if-s-budget.false))
+    (begin-node a.s a.at a.environment b _ _ c.if-s-budget.false c.opened.ensures c.in-Boolean.is))) in
+    (x.0, omega (arith, x.1, c.if-s-budget.false))
 
 -- src/begin.rt:107:1
 returns-6 : tie.Need-returns-in-Decimal
 returns-6 c =
-    λ whole b. let a = c.before.before.before.before.before.before.before.before.before.before.args in
+    λ whole b. let a = c.args in
     let x = spent-decimal (spent a.s) a.at a.environment _ _
-    (begin-node a.s a.at a.environment b _ _ c.before.before.before.before.before.if-s-budget.false c.before.before.opened.ensures c.enum_told-1.given.1) in
-    (x.0, omega (arith, c.before.before.before.before.before.if-s-budget.false))
+    (begin-node a.s a.at a.environment b _ _ c.if-s-budget.false c.opened.ensures c.in-Decimal.is) in
+    (x.0, omega (arith, c.if-s-budget.false))
 
 -- src/begin.rt:107:1
 same-length-5 : tie.Need-shape_of-table-in-Name
@@ -365,12 +365,12 @@ same-length-5 c =
 -- src/begin.rt:107:1
 returns-7 : tie.Need-returns-in-Name
 returns-7 c =
-    λ whole b. let a = c.before.before.before.before.before.before.before.before.before.before.before.before.before.before.before.before.before.args in
-    let x = c.before.before.push-in-Name.ensures a.words.now a.budget whole
-    (rw (c.before.before.before.value-in-Name.ensures, c.before.before.before.before.before.low.ensures, c.before.before.before.before.high.ensures)
+    λ whole b. let a = c.args in
+    let x = c.push-in-Name.ensures a.words.now a.budget whole
+    (rw (c.value-in-Name.ensures, c.low.ensures, c.high.ensures)
     (spent-name (spent a.s) a.at a.environment _
-    (begin-node a.s a.at a.environment b _ _ c.before.before.before.before.before.before.before.before.before.before.before.before.if-s-budget.false c.before.before.before.before.before.before.before.before.before.opened.ensures c.before.before.before.before.before.before.before.enum_told-in-Name-1.given.1))) in
-    (x.0, omega (arith, x.1, c.before.before.before.before.before.before.before.before.before.before.before.before.if-s-budget.false))
+    (begin-node a.s a.at a.environment b _ _ c.if-s-budget.false c.opened.ensures c.in-Name.is))) in
+    (x.0, omega (arith, x.1, c.if-s-budget.false))
 
 -- src/begin.rt:107:1
 same-length-6 : tie.Need-shape_of-table-in-List
@@ -380,12 +380,12 @@ same-length-6 c =
 -- src/begin.rt:107:1
 returns-8 : tie.Need-returns-in-List
 returns-8 c =
-    λ whole b. let a = c.before.before.before.before.before.before.before.before.before.before.before.before.before.before.before.before.before.args in
-    let x = c.before.before.push-in-List.ensures a.words.now a.budget whole
-    (rw (c.before.before.before.value-in-List.ensures, c.before.before.before.before.before.low-in-List.ensures, c.before.before.before.before.high-in-List.ensures)
+    λ whole b. let a = c.args in
+    let x = c.push-in-List.ensures a.words.now a.budget whole
+    (rw (c.value-in-List.ensures, c.low-in-List.ensures, c.high-in-List.ensures)
     (spent-list (spent a.s) a.at a.environment _
-    (begin-node a.s a.at a.environment b _ _ c.before.before.before.before.before.before.before.before.before.before.before.before.if-s-budget.false c.before.before.before.before.before.before.before.before.before.opened.ensures c.before.before.before.before.before.before.before.enum_told-in-List-1.given.1))) in
-    (x.0, omega (arith, x.1, c.before.before.before.before.before.before.before.before.before.before.before.before.if-s-budget.false))
+    (begin-node a.s a.at a.environment b _ _ c.if-s-budget.false c.opened.ensures c.in-List.is))) in
+    (x.0, omega (arith, x.1, c.if-s-budget.false))
 
 -- src/begin.rt:107:1
 same-length-7 : tie.Need-shape_of-table-in-If
@@ -395,10 +395,10 @@ same-length-7 c =
 -- src/begin.rt:107:1
 returns-9 : tie.Need-returns-in-If
 returns-9 c =
-    λ whole b. let a = c.before.before.before.before.before.before.before.before.before.before.before.before.before.before.args in
-    let x = c.before.before.test.ensures a.budget whole
-    (begin-node a.s a.at a.environment b _ _ c.before.before.before.before.before.before.before.before.before.if-s-budget.false c.before.before.before.before.before.before.opened.ensures c.before.before.before.before.enum_told-in-If-1.given.1) in
-    (x.0, omega (arith, x.1, c.before.before.before.before.before.before.before.before.before.if-s-budget.false))
+    λ whole b. let a = c.args in
+    let x = c.test.ensures a.budget whole
+    (begin-node a.s a.at a.environment b _ _ c.if-s-budget.false c.opened.ensures c.in-If.is) in
+    (x.0, omega (arith, x.1, c.if-s-budget.false))
 
 -- src/begin.rt:107:1
 same-length-8 : tie.Need-shape_of-table-in-Lambda
@@ -408,12 +408,12 @@ same-length-8 c =
 -- src/begin.rt:107:1
 returns-10 : tie.Need-returns-in-Lambda
 returns-10 c =
-    λ whole b. let a = c.before.before.before.before.before.before.before.before.before.before.before.before.before.before.before.before.before.args in
-    let x = c.before.before.push-in-Lambda.ensures a.words.now a.budget whole
-    (rw (c.before.before.before.value-in-Lambda.ensures, c.before.before.before.before.before.low-in-Lambda.ensures, c.before.before.before.before.high-in-Lambda.ensures)
+    λ whole b. let a = c.args in
+    let x = c.push-in-Lambda.ensures a.words.now a.budget whole
+    (rw (c.value-in-Lambda.ensures, c.low-in-Lambda.ensures, c.high-in-Lambda.ensures)
     (spent-lambda (spent a.s) a.at a.environment _ _
-    (begin-node a.s a.at a.environment b _ _ c.before.before.before.before.before.before.before.before.before.before.before.before.if-s-budget.false c.before.before.before.before.before.before.before.before.before.opened.ensures c.before.before.before.before.before.before.before.enum_told-in-Lambda-1.given.1))) in
-    (x.0, omega (arith, x.1, c.before.before.before.before.before.before.before.before.before.before.before.before.if-s-budget.false))
+    (begin-node a.s a.at a.environment b _ _ c.if-s-budget.false c.opened.ensures c.in-Lambda.is))) in
+    (x.0, omega (arith, x.1, c.if-s-budget.false))
 
 -- src/begin.rt:107:1
 same-length-9 : tie.Need-shape_of-table-in-Application
@@ -423,17 +423,17 @@ same-length-9 c =
 -- src/begin.rt:107:1
 returns-11 : tie.Need-returns-in-Application
 returns-11 c =
-    λ whole b. let a = c.before.before.before.before.before.before.before.before.before.before.before.before.before.before.before.args in
-    let x = c.before.before.application.ensures a.budget whole
-    (begin-node a.s a.at a.environment b _ _ c.before.before.before.before.before.before.before.before.before.before.if-s-budget.false c.before.before.before.before.before.before.before.opened.ensures c.before.before.before.before.before.n-in-Application-1.given.1) in
-    (x.0, omega (arith, x.1, c.before.before.before.before.before.before.before.before.before.before.if-s-budget.false))
+    λ whole b. let a = c.args in
+    let x = c.application.ensures a.budget whole
+    (begin-node a.s a.at a.environment b _ _ c.if-s-budget.false c.opened.ensures c.in-Application.is) in
+    (x.0, omega (arith, x.1, c.if-s-budget.false))
 
 -- src/begin.rt:107:1
 returns-12 : tie.Need-returns-in-None
 returns-12 c =
-    λ whole b. let a = c.before.before.before.before.before.before.before.before.before.before.args in
+    λ whole b. let a = c.args in
     absurd (spent-none (spent a.s) a.at a.environment
-    (begin-node a.s a.at a.environment b _ _ c.before.before.before.before.before.if-s-budget.false c.before.before.opened.ensures c.enum_told-in-None-1.given.1))
+    (begin-node a.s a.at a.environment b _ _ c.if-s-budget.false c.opened.ensures c.in-None.is))
 
 pub begin_spec : {M : Type 1} → statement M
 begin_spec =

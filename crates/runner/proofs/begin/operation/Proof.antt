@@ -16,7 +16,7 @@ value-requires c κs =
 -- src/begin.rt:45:9
 push-requires : tie.Need-push-requires
 push-requires c κs =
-    let p = c.before.before.before.before.requires in (p.0, (p.1.0, p.1.1, rw c.value.ensures (operation-gives c.before.before.before.before.args.s c.before.before.before.before.args.p p.1.2 c.before.before.if-p-lt-OPERATIONS.true)))
+    let p = c.requires in (p.0, (p.1.0, p.1.1, rw c.value.ensures (operation-gives c.args.s c.args.p p.1.2 c.if-p-lt-OPERATIONS.true)))
 
 -- src/begin.rt:45:9
 same_length : tie.Need-shape_of-table-then-p-lt-OPERATIONS
@@ -26,12 +26,12 @@ same_length c =
 -- src/begin.rt:45:9
 returns : tie.Need-returns-then-p-lt-OPERATIONS
 returns c =
-    λ ws budget whole l. c.before.before.push.ensures ws budget whole (rw c.before.before.before.value.ensures (operation-gives c.before.before.before.before.before.before.before.args.s c.before.before.before.before.before.before.before.args.p l c.before.before.before.before.before.if-p-lt-OPERATIONS.true))
+    λ ws budget whole l. c.push.ensures ws budget whole (rw c.value.ensures (operation-gives c.args.s c.args.p l c.if-p-lt-OPERATIONS.true))
 
 -- src/begin.rt:40:1
 returns-2 : tie.Need-returns
 returns-2 c =
-    λ ws budget whole l. operation-stops c.before.before.args.s c.before.before.args.p l c.if-p-lt-OPERATIONS.false
+    λ ws budget whole l. operation-stops c.args.s c.args.p l c.if-p-lt-OPERATIONS.false
 
 pub operation_spec : {M : Type 1} → statement M
 operation_spec = tie.close (tie.spec value-requires push-requires same_length returns returns-2)

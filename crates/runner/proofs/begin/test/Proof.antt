@@ -14,7 +14,7 @@ use Rattle.runner.specs.BeginLaws.{spent-if}
 -- src/begin.rt:75:34
 add-after : tie.Need-overflow_add-at
 add-after c =
-    record { fits = omega (arith, here-two _ c.before.before.before.requires.1.2.here, c.before.before.before.well_formed.0) }
+    record { fits = omega (arith, here-two _ c.requires.1.2.here, c.well_formed.0) }
 
 -- src/begin.rt:75:15
 after-requires : tie.Need-after-requires
@@ -24,7 +24,7 @@ after-requires c κs =
 -- src/begin.rt:80:23
 add-wait : tie.Need-overflow_add-at-2
 add-wait c =
-    record { fits = omega (arith, here-two _ c.before.before.before.before.before.requires.1.2.here, c.before.before.before.before.before.well_formed.0) }
+    record { fits = omega (arith, here-two _ c.requires.1.2.here, c.well_formed.0) }
 
 -- src/begin.rt:80:5
 wait-requires : tie.Need-wait-requires
@@ -39,7 +39,7 @@ same_length c =
 -- src/begin.rt:62:1
 returns : tie.Need-returns
 returns c =
-    λ budget whole x. rw (c.before.before.wait.ensures.0, c.before.before.wait.ensures.1) (spent-if c.before.before.before.before.before.before.before.before.args.s c.before.before.before.before.before.before.before.before.args.at c.before.before.before.before.before.before.before.before.args.environment x _ (c.before.before.before.before.after.ensures x.is.test x.is.branches.test))
+    λ budget whole x. rw (c.wait.ensures.0, c.wait.ensures.1) (spent-if c.args.s c.args.at c.args.environment x _ (c.after.ensures x.is.test x.is.branches.test))
 
 pub test_spec : {M : Type 1} → statement M
 test_spec =

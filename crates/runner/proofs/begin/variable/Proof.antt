@@ -15,7 +15,7 @@ use Rattle.runner.specs.BeginLaws.{seeks-bound, seeks-found, seeks-none}
 -- src/begin.rt:55:27
 find-requires : tie.Need-find-requires
 find-requires c κs =
-    let p = c.before.before.requires in seeks-bound c.before.before.args.s c.before.before.args.n c.before.before.args.environment p.1.2
+    let p = c.requires in seeks-bound c.args.s c.args.n c.args.environment p.1.2
 
 -- src/begin.rt:55:22
 enum-known-v : tie.Need-enum_known-v
@@ -35,19 +35,19 @@ same_length c =
 -- src/begin.rt:56:9
 returns : tie.Need-returns-in_default
 returns c =
-    λ ws budget whole k. seeks-none c.before.before.before.before.before.args.s c.before.before.before.before.before.args.n c.before.before.before.before.before.args.environment k
-    (subst (λ (r : Found). FoundIs ws c.before.before.before.before.before.args.table.now c.before.before.before.before.before.args.environment (S.find c.before.before.before.before.before.args.n k.environment) r) c.enum_told-1.given.1 (c.before.before.find.ensures ws k.environment k.bound))
+    λ ws budget whole k. seeks-none c.args.s c.args.n c.args.environment k
+    (subst (λ (r : Found). FoundIs ws c.args.table.now c.args.environment (S.find c.args.n k.environment) r) c.in_default.is (c.find.ensures ws k.environment k.bound))
 
 -- src/begin.rt:58:5
 push-requires : tie.Need-push-requires
 push-requires c κs =
-    let p = c.before.before.before.before.before.before.before.requires in (
+    let p = c.requires in (
       p.0,
       (
         p.1.0,
         p.1.1,
-        seeks-found c.before.before.before.before.before.before.before.args.s c.before.before.before.before.before.before.before.args.n c.before.before.before.before.before.before.before.args.environment p.1.2 _
-            (subst (λ (r : Found). FoundIs p.0 c.before.before.before.before.before.before.before.args.table.now c.before.before.before.before.before.before.before.args.environment (S.find c.before.before.before.before.before.before.before.args.n p.1.2.environment) r) c.before.before.v-1.given.1 (c.before.before.before.before.find.ensures p.0 p.1.2.environment p.1.2.bound)),
+        seeks-found c.args.s c.args.n c.args.environment p.1.2 _
+            (subst (λ (r : Found). FoundIs p.0 c.args.table.now c.args.environment (S.find c.args.n p.1.2.environment) r) c.in-Value.is (c.find.ensures p.0 p.1.2.environment p.1.2.bound)),
       ),
     )
 
@@ -59,8 +59,8 @@ same-length-2 c =
 -- src/begin.rt:51:1
 returns-2 : tie.Need-returns
 returns-2 c =
-    λ ws budget whole k. c.before.before.push.ensures ws budget whole (seeks-found c.before.before.before.before.before.before.before.before.before.before.args.s c.before.before.before.before.before.before.before.before.before.before.args.n c.before.before.before.before.before.before.before.before.before.before.args.environment k _
-    (subst (λ (r : Found). FoundIs ws c.before.before.before.before.before.before.before.before.before.before.args.table.now c.before.before.before.before.before.before.before.before.before.before.args.environment (S.find c.before.before.before.before.before.before.before.before.before.before.args.n k.environment) r) c.before.before.before.before.before.v-1.given.1 (c.before.before.before.before.before.before.before.find.ensures ws k.environment k.bound)))
+    λ ws budget whole k. c.push.ensures ws budget whole (seeks-found c.args.s c.args.n c.args.environment k _
+    (subst (λ (r : Found). FoundIs ws c.args.table.now c.args.environment (S.find c.args.n k.environment) r) c.in-Value.is (c.find.ensures ws k.environment k.bound)))
 
 pub variable_spec : {M : Type 1} → statement M
 variable_spec =

@@ -44,7 +44,7 @@ returns c =
 -- src/come.rt:144:9
 operation-requires : tie.Need-operation-requires
 operation-requires c κs =
-    let p = c.before.before.before.before.before.before.before.before.before.before.requires in (c.before.before.before.before.before.value_at-head.ensures, c.before.if-head-eq-OPERATION.true, (c.before.before.before.before.before.before.before.before.before.before.args.words.now, p))
+    let p = c.requires in (c.value_at-head.ensures, c.if-head-eq-OPERATION.true, (c.args.words.now, p))
 
 -- src/come.rt:144:9
 same-length-2 : tie.Need-shape_of-table-then-head-eq-OPERATION
@@ -54,7 +54,7 @@ same-length-2 c =
 -- src/come.rt:144:9
 returns-2 : tie.Need-returns-then-head-eq-OPERATION
 returns-2 c =
-    λ budget whole x. c.before.before.operation.ensures c.before.before.before.before.before.before.before.before.before.before.before.before.before.args.words.now budget whole x
+    λ budget whole x. c.operation.ensures c.args.words.now budget whole x
 
 -- src/come.rt:134:1
 same-length-3 : tie.Need-shape_of-table
@@ -64,8 +64,8 @@ same-length-3 c =
 -- src/come.rt:134:1
 returns-3 : tie.Need-returns
 returns-3 c =
-    λ budget whole x. head-other c.before.before.before.before.before.before.before.before.before.args.s c.before.before.before.before.before.before.before.before.before.args.base _ x
-    (λ e. c.before.before.if-head-eq-CLOSURE.false (ap (λ (v : R.Value). v.kind) c.before.before.before.before.value_at-head.ensures ∙ e)) (λ e. c.if-head-eq-OPERATION.false (ap (λ (v : R.Value). v.kind) c.before.before.before.before.value_at-head.ensures ∙ e))
+    λ budget whole x. head-other c.args.s c.args.base _ x
+    (λ e. c.if-head-eq-CLOSURE.false (ap (λ (v : R.Value). v.kind) c.value_at-head.ensures ∙ e)) (λ e. c.if-head-eq-OPERATION.false (ap (λ (v : R.Value). v.kind) c.value_at-head.ensures ∙ e))
 
 pub apply_spec : {M : Type 1} → statement M
 apply_spec =

@@ -33,8 +33,8 @@ holds-requires c κs =
 -- src/come.rt:56:9
 returns : tie.Need-returns-then-holds
 returns c =
-    λ budget whole x. testing-yes c.before.before.before.before.before.before.before.before.args.s c.before.before.before.before.before.before.before.before.args.f x
-    (sym c.if-holds.true ∙ c.before.holds.ensures c.before.before.before.before.before.before.before.before.args.words.now c.before.before.before.before.before.before.before.before.args.table.now c.before.before.before.before.before.before.before.before.args.s.cells x.value (rw c.before.before.value_at.ensures x.is.is))
+    λ budget whole x. testing-yes c.args.s c.args.f x
+    (sym c.if-holds.true ∙ c.holds.ensures c.args.words.now c.args.table.now c.args.s.cells x.value (rw c.value_at.ensures x.is.is))
 
 -- src/come.rt:58:26
 after-requires : tie.Need-after-requires
@@ -44,8 +44,8 @@ after-requires c κs =
 -- src/come.rt:44:1
 returns-2 : tie.Need-returns
 returns-2 c =
-    λ budget whole x. testing-no c.before.before.before.before.before.before.before.before.before.args.s c.before.before.before.before.before.before.before.before.before.args.f x
-    (sym c.before.if-holds.false ∙ c.before.before.holds.ensures c.before.before.before.before.before.before.before.before.before.args.words.now c.before.before.before.before.before.before.before.before.before.args.table.now c.before.before.before.before.before.before.before.before.before.args.s.cells x.value (rw c.before.before.before.value_at.ensures x.is.is))
+    λ budget whole x. testing-no c.args.s c.args.f x
+    (sym c.if-holds.false ∙ c.holds.ensures c.args.words.now c.args.table.now c.args.s.cells x.value (rw c.value_at.ensures x.is.is))
     _ (c.after.ensures x.yes x.here)
 
 pub branch_spec : {M : Type 1} → statement M

@@ -19,37 +19,37 @@ place-requires c κs =
 -- src/come.rt:82:23
 add-first : tie.Need-overflow_add-first
 add-first c =
-    let a = c.before.before.before.args in let p = c.before.before.before.requires in let h = formals a.s a.base a.n p.2.2 a.head p.0 p.1 _ c.place-at.ensures in
-    record { fits = omega (arith, h.inside, c.before.before.before.well_formed.0) }
+    let a = c.args in let p = c.requires in let h = formals a.s a.base a.n p.2.2 a.head p.0 p.1 _ c.place-at.ensures in
+    record { fits = omega (arith, h.inside, c.well_formed.0) }
 
 -- src/come.rt:82:17
 mul-first : tie.Need-offset_bounds-words-at
 mul-first c =
-    let a = c.before.before.before.args in let p = c.before.before.before.requires in let h = formals a.s a.base a.n p.2.2 a.head p.0 p.1 _ c.place-at.ensures in
-    record { fits = omega (arith, h.inside, c.before.before.before.well_formed.0) }
+    let a = c.args in let p = c.requires in let h = formals a.s a.base a.n p.2.2 a.head p.0 p.1 _ c.place-at.ensures in
+    record { fits = omega (arith, h.inside, c.well_formed.0) }
 
 -- src/come.rt:82:17
 shared-slice-read-first : tie.Need-bounds-words-at
 shared-slice-read-first c =
-    let a = c.before.before.before.before.args in let p = c.before.before.before.before.requires in let h = formals a.s a.base a.n p.2.2 a.head p.0 p.1 _ c.before.place-at.ensures in
+    let a = c.args in let p = c.requires in let h = formals a.s a.base a.n p.2.2 a.head p.0 p.1 _ c.place-at.ensures in
     omega (arith, h.inside)
 
 -- src/come.rt:83:28
 add-word : tie.Need-overflow_add-at
 add-word c =
-    let a = c.before.before.before.before.args in let p = c.before.before.before.before.requires in let h = formals a.s a.base a.n p.2.2 a.head p.0 p.1 _ c.before.place-at.ensures in
-    record { fits = omega (arith, h.inside, c.before.before.before.before.well_formed.0) }
+    let a = c.args in let p = c.requires in let h = formals a.s a.base a.n p.2.2 a.head p.0 p.1 _ c.place-at.ensures in
+    record { fits = omega (arith, h.inside, c.well_formed.0) }
 
 -- src/come.rt:83:22
 mul-word : tie.Need-offset_bounds-words-at-2
 mul-word c =
-    let a = c.before.before.before.before.args in let p = c.before.before.before.before.requires in let h = formals a.s a.base a.n p.2.2 a.head p.0 p.1 _ c.before.place-at.ensures in
-    record { fits = omega (arith, h.inside, c.before.before.before.before.well_formed.0) }
+    let a = c.args in let p = c.requires in let h = formals a.s a.base a.n p.2.2 a.head p.0 p.1 _ c.place-at.ensures in
+    record { fits = omega (arith, h.inside, c.well_formed.0) }
 
 -- src/come.rt:83:22
 shared-slice-read-word : tie.Need-bounds-words-at-2
 shared-slice-read-word c =
-    let a = c.before.before.before.before.before.args in let p = c.before.before.before.before.before.requires in let h = formals a.s a.base a.n p.2.2 a.head p.0 p.1 _ c.before.before.place-at.ensures in
+    let a = c.args in let p = c.requires in let h = formals a.s a.base a.n p.2.2 a.head p.0 p.1 _ c.place-at.ensures in
     omega (arith, h.inside)
 
 -- src/come.rt:83:9
@@ -60,8 +60,8 @@ word-requires c κs =
 -- src/come.rt:85:9
 returns : tie.Need-returns-then-n-count
 returns c =
-    λ budget whole x. let a = c.before.before.before.before.before.before.before.args in let p = c.before.before.before.before.before.before.before.requires in let h = formals a.s a.base a.n x a.head p.0 p.1 _ c.before.before.before.before.place-at.ensures in
-    call-stops a.s a.base a.n x a.head p.0 p.1 (λ e. c.if-n-count.true (e ∙ sym h.many ∙ sym c.before.word-count.ensures))
+    λ budget whole x. let a = c.args in let p = c.requires in let h = formals a.s a.base a.n x a.head p.0 p.1 _ c.place-at.ensures in
+    call-stops a.s a.base a.n x a.head p.0 p.1 (λ e. c.if-n-count.true (e ∙ sym h.many ∙ sym c.word-count.ensures))
 
 -- src/come.rt:87:63
 add-bind : tie.Need-overflow_add-base
@@ -71,7 +71,7 @@ add-bind c =
 -- src/come.rt:87:9
 bind-requires : tie.Need-bind-bound-requires
 bind-requires c κs =
-    let a = c.before.before.before.before.before.before.before.before.args in let p = c.before.before.before.before.before.before.before.before.requires in call-extends a.s a.base a.n p.2.2 a.head p.0 p.1
+    let a = c.args in let p = c.requires in call-extends a.s a.base a.n p.2.2 a.head p.0 p.1
 
 -- src/come.rt:92:21
 sub-t12 : tie.Need-overflow_sub-result
@@ -81,14 +81,14 @@ sub-t12 c =
 -- src/come.rt:95:9
 add-t11 : tie.Need-overflow_add-result
 add-t11 c =
-    let a = c.before.before.before.before.before.before.before.before.before.before.before.before.args in let p = c.before.before.before.before.before.before.before.before.before.before.before.before.requires in let h = formals a.s a.base a.n p.2.2 a.head p.0 p.1 _ c.before.before.before.before.before.before.before.before.before.place-at.ensures in
-    record { fits = omega (arith, h.inside, h.many, c.before.before.before.before.before.before.word-count.ensures, c.before.before.before.before.before.before.before.before.before.before.before.before.well_formed.0) }
+    let a = c.args in let p = c.requires in let h = formals a.s a.base a.n p.2.2 a.head p.0 p.1 _ c.place-at.ensures in
+    record { fits = omega (arith, h.inside, h.many, c.word-count.ensures, c.well_formed.0) }
 
 -- src/come.rt:95:9
 add-t20 : tie.Need-overflow_add-result-2
 add-t20 c =
-    let a = c.before.before.before.before.before.before.before.before.before.before.before.before.args in let p = c.before.before.before.before.before.before.before.before.before.before.before.before.requires in let h = formals a.s a.base a.n p.2.2 a.head p.0 p.1 _ c.before.before.before.before.before.before.before.before.before.place-at.ensures in
-    record { fits = omega (arith, h.inside, h.many, c.before.before.before.before.before.before.word-count.ensures, c.before.before.before.before.before.before.before.before.before.before.before.before.well_formed.0) }
+    let a = c.args in let p = c.requires in let h = formals a.s a.base a.n p.2.2 a.head p.0 p.1 _ c.place-at.ensures in
+    record { fits = omega (arith, h.inside, h.many, c.word-count.ensures, c.well_formed.0) }
 
 -- src/come.rt:77:1
 same_length : tie.Need-shape_of-table
@@ -98,9 +98,9 @@ same_length c =
 -- src/come.rt:77:1
 returns-2 : tie.Need-returns
 returns-2 c =
-    λ budget whole x. let a = c.before.before.before.before.before.before.before.before.before.before.before.before.args in let p = c.before.before.before.before.before.before.before.before.before.before.before.before.requires in let h = formals a.s a.base a.n x a.head p.0 p.1 _ c.before.before.before.before.before.before.before.before.before.place-at.ensures in
-    call-begins a.s a.base a.n x a.head p.0 p.1 _ _ (c.before.before.before.before.before.if-n-count.false ∙ c.before.before.before.before.before.before.word-count.ensures ∙ h.many) c.before.before.before.bind-bound.auto.0
-    (rw h.start at c.before.before.before.bind-bound.ensures) _ (omega (arith, c.before.before.before.before.before.before.before.before.before.place-at.ensures, c.before.before.before.before.before.before.word-count.ensures, h.many))
+    λ budget whole x. let a = c.args in let p = c.requires in let h = formals a.s a.base a.n x a.head p.0 p.1 _ c.place-at.ensures in
+    call-begins a.s a.base a.n x a.head p.0 p.1 _ _ (c.if-n-count.false ∙ c.word-count.ensures ∙ h.many) c.bind-bound.auto.table
+    (rw h.start at c.bind-bound.ensures) _ (omega (arith, c.place-at.ensures, c.word-count.ensures, h.many))
 
 pub call_spec : {M : Type 1} → statement M
 call_spec =

@@ -26,8 +26,8 @@ frame-at-requires c κs =
 -- src/come.rt:156:9
 branch-requires : tie.Need-branch-words-requires
 branch-requires c κs =
-    let a = c.before.before.before.before.before.before.before.before.before.args in let p = c.before.before.before.before.before.before.before.before.before.requires in let e = c.before.before.before.frame_at-f.ensures in
-    (p.0, (p.2.0, p.2.1, rw e (come-test a.s p.2.2 p.1 (sym (ap (λ (f : Frame). f.what) e) ∙ c.before.if-f-eq-TEST.true))))
+    let a = c.args in let p = c.requires in let e = c.frame_at-f.ensures in
+    (p.0, (p.2.0, p.2.1, rw e (come-test a.s p.2.2 p.1 (sym (ap (λ (f : Frame). f.what) e) ∙ c.if-f-eq-TEST.true))))
 
 -- src/come.rt:156:9
 same_length : tie.Need-shape_of-table-then-f-eq-TEST
@@ -37,20 +37,20 @@ same_length c =
 -- src/come.rt:156:9
 returns : tie.Need-returns-then-f-eq-TEST
 returns c =
-    λ budget whole x. let a = c.before.before.before.before.before.before.before.before.before.before.args in let p = c.before.before.before.before.before.before.before.before.before.before.requires in let e = c.before.before.before.before.frame_at-f.ensures in
-    c.branch-words.ensures budget whole (rw e (come-test a.s x p.1 (sym (ap (λ (f : Frame). f.what) e) ∙ c.before.before.if-f-eq-TEST.true)))
+    λ budget whole x. let a = c.args in let p = c.requires in let e = c.frame_at-f.ensures in
+    c.branch-words.ensures budget whole (rw e (come-test a.s x p.1 (sym (ap (λ (f : Frame). f.what) e) ∙ c.if-f-eq-TEST.true)))
 
 -- src/come.rt:159:9
 part-requires : tie.Need-part-requires
 part-requires c κs =
-    let a = c.before.before.before.before.before.before.before.before.before.before.before.args in let p = c.before.before.before.before.before.before.before.before.before.before.before.requires in let e = c.before.before.before.before.before.frame_at-f.ensures in (
+    let a = c.args in let p = c.requires in let e = c.frame_at-f.ensures in (
       p.0,
-      c.before.if-f-gt0.true,
+      c.if-f-gt0.true,
       (
         p.2.0,
         p.2.1,
-        rw e (come-part a.s p.2.2 p.1 (λ i. c.before.before.before.if-f-eq-TEST.false (ap (λ (f : Frame). f.what) e ∙ i))
-            (subst (λ (f : Frame). 0 < f.left) e c.before.if-f-gt0.true)),
+        rw e (come-part a.s p.2.2 p.1 (λ i. c.if-f-eq-TEST.false (ap (λ (f : Frame). f.what) e ∙ i))
+            (subst (λ (f : Frame). 0 < f.left) e c.if-f-gt0.true)),
       ),
     )
 
@@ -62,9 +62,9 @@ same-length-2 c =
 -- src/come.rt:159:9
 returns-2 : tie.Need-returns-then-f-gt0
 returns-2 c =
-    λ budget whole x. let a = c.before.before.before.before.before.before.before.before.before.before.before.before.before.before.args in let p = c.before.before.before.before.before.before.before.before.before.before.before.before.before.before.requires in let e = c.before.before.before.before.before.before.before.before.frame_at-f.ensures in
-    c.before.before.part.ensures budget whole (rw e (come-part a.s x p.1 (λ i. c.before.before.before.before.before.before.if-f-eq-TEST.false (ap (λ (f : Frame). f.what) e ∙ i))
-    (subst (λ (f : Frame). 0 < f.left) e c.before.before.before.before.if-f-gt0.true)))
+    λ budget whole x. let a = c.args in let p = c.requires in let e = c.frame_at-f.ensures in
+    c.part.ensures budget whole (rw e (come-part a.s x p.1 (λ i. c.if-f-eq-TEST.false (ap (λ (f : Frame). f.what) e ∙ i))
+    (subst (λ (f : Frame). 0 < f.left) e c.if-f-gt0.true)))
 
 -- src/come.rt:161:28
 cast_apply : tie.Need-overflow_cast-f
@@ -74,11 +74,11 @@ cast_apply c =
 -- src/come.rt:161:5
 apply-requires : tie.Need-apply-requires
 apply-requires c κs =
-    let a = c.before.before.before.before.before.before.before.before.before.before.before.before.args in let p = c.before.before.before.before.before.before.before.before.before.before.before.before.requires in let e = c.before.before.before.before.before.before.frame_at-f.ensures in (
+    let a = c.args in let p = c.requires in let e = c.frame_at-f.ensures in (
       p.2.0,
       p.2.1,
-      rw e (come-last a.s p.2.2 p.1 (λ i. c.before.before.before.before.if-f-eq-TEST.false (ap (λ (f : Frame). f.what) e ∙ i))
-          (subst (λ (f : Frame). f.left ≤ 0) e c.before.before.if-f-gt0.false)),
+      rw e (come-last a.s p.2.2 p.1 (λ i. c.if-f-eq-TEST.false (ap (λ (f : Frame). f.what) e ∙ i))
+          (subst (λ (f : Frame). f.left ≤ 0) e c.if-f-gt0.false)),
     )
 
 -- src/come.rt:150:1
@@ -89,9 +89,9 @@ same-length-3 c =
 -- src/come.rt:150:1
 returns-3 : tie.Need-returns
 returns-3 c =
-    λ budget whole x. let a = c.before.before.before.before.before.before.before.before.before.before.before.before.before.before.before.args in let p = c.before.before.before.before.before.before.before.before.before.before.before.before.before.before.before.requires in let e = c.before.before.before.before.before.before.before.before.before.frame_at-f.ensures in
-    c.before.before.apply.ensures budget whole (rw e (come-last a.s x p.1 (λ i. c.before.before.before.before.before.before.before.if-f-eq-TEST.false (ap (λ (f : Frame). f.what) e ∙ i))
-    (subst (λ (f : Frame). f.left ≤ 0) e c.before.before.before.before.before.if-f-gt0.false)))
+    λ budget whole x. let a = c.args in let p = c.requires in let e = c.frame_at-f.ensures in
+    c.apply.ensures budget whole (rw e (come-last a.s x p.1 (λ i. c.if-f-eq-TEST.false (ap (λ (f : Frame). f.what) e ∙ i))
+    (subst (λ (f : Frame). f.left ≤ 0) e c.if-f-gt0.false)))
 
 pub come_spec : {M : Type 1} → statement M
 come_spec =

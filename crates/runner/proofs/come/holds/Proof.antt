@@ -8,7 +8,7 @@ use Rattle.runner.specs.ComeLaws.{holds-boolean, holds-other}
 -- src/come.rt:38:9
 returns : tie.Need-returns-then-v-eq-BOOLEAN
 returns c =
-    λ ws t top x i. holds-boolean c.before.if-v-eq-BOOLEAN.true i
+    λ ws t top x i. holds-boolean c.if-v-eq-BOOLEAN.true i
 
 -- src/come.rt:34:1
 returns-2 : tie.Need-returns

@@ -13,7 +13,7 @@ use Rattle.runner.specs.ComeLaws.{place_of, operation-number, operation-first, o
 -- src/come.rt:109:9
 returns : tie.Need-returns-then-n-ne2
 returns c =
-    λ ws budget whole x. let a = c.before.before.args in let p = c.before.before.requires in
+    λ ws budget whole x. let a = c.args in let p = c.requires in
     operation-number a.s a.base a.n x a.head p.0 p.1 c.if-n-ne2.true
 
 -- src/come.rt:111:29
@@ -34,8 +34,8 @@ same_length c =
 -- src/come.rt:113:9
 returns-2 : tie.Need-returns-then-x-ne-NUMBER
 returns-2 c =
-    λ ws budget whole x. let a = c.before.before.before.before.before.before.args in let p = c.before.before.before.before.before.before.requires in
-    operation-first a.s a.base a.n x a.head p.0 p.1 c.before.before.before.before.if-n-ne2.false _ c.before.before.value_at-x.ensures c.if-x-ne-NUMBER.true
+    λ ws budget whole x. let a = c.args in let p = c.requires in
+    operation-first a.s a.base a.n x a.head p.0 p.1 c.if-n-ne2.false _ c.value_at-x.ensures c.if-x-ne-NUMBER.true
 
 -- src/come.rt:115:29
 add-value-at-2 : tie.Need-overflow_add-base-2
@@ -45,7 +45,7 @@ add-value-at-2 c =
 -- src/come.rt:115:9
 value-at-requires-2 : tie.Need-value_at-y-requires
 value-at-requires-2 c κs =
-    let p = c.before.before.before.before.before.before.before.requires in let x = p.2.1.2 in omega (arith, x.rows, x.room.rows, x.room.within, x.room.lent, c.before.before.before.before.before.if-n-ne2.false)
+    let p = c.requires in let x = p.2.1.2 in omega (arith, x.rows, x.room.rows, x.room.within, x.room.lent, c.if-n-ne2.false)
 
 -- src/come.rt:117:9
 same-length-2 : tie.Need-shape_of-table-then-y-ne-NUMBER
@@ -55,13 +55,13 @@ same-length-2 c =
 -- src/come.rt:117:9
 returns-3 : tie.Need-returns-then-y-ne-NUMBER
 returns-3 c =
-    λ ws budget whole x. let a = c.before.before.before.before.before.before.before.before.before.before.args in let p = c.before.before.before.before.before.before.before.before.before.before.requires in
-    operation-second a.s a.base a.n x a.head p.0 p.1 c.before.before.before.before.before.before.before.before.if-n-ne2.false _ c.before.before.before.before.before.before.value_at-x.ensures c.before.before.before.before.if-x-ne-NUMBER.false _ c.before.before.value_at-y.ensures c.if-y-ne-NUMBER.true
+    λ ws budget whole x. let a = c.args in let p = c.requires in
+    operation-second a.s a.base a.n x a.head p.0 p.1 c.if-n-ne2.false _ c.value_at-x.ensures c.if-x-ne-NUMBER.false _ c.value_at-y.ensures c.if-y-ne-NUMBER.true
 
 -- src/come.rt:119:11
 operate-requires : tie.Need-operate-requires
 operate-requires c κs =
-    let a = c.before.before.before.before.before.before.before.before.before.before.args in let p = c.before.before.before.before.before.before.before.before.before.before.requires in (place_of a.s a.base a.n p.2.1.2 a.head p.0 p.1).1
+    let a = c.args in let p = c.requires in (place_of a.s a.base a.n p.2.1.2 a.head p.0 p.1).1
 
 -- src/come.rt:120:21
 enum-known-v : tie.Need-enum_known-v
@@ -71,18 +71,18 @@ enum-known-v c =
 -- src/come.rt:124:25
 sub-t19 : tie.Need-overflow_sub-popped
 sub-t19 c =
-    let p = c.before.before.before.before.before.before.before.before.before.before.before.before.before.before.before.requires in let x = p.2.1.2 in omega (arith, x.framed)
+    let p = c.requires in let x = p.2.1.2 in omega (arith, x.framed)
 
 -- src/come.rt:127:13
 push-requires : tie.Need-push-requires
 push-requires c κs =
-    let a = c.before.before.before.before.before.before.before.before.before.before.before.before.before.before.before.before.args in let p = c.before.before.before.before.before.before.before.before.before.before.before.before.before.before.before.before.requires in let q = p.2 in (
+    let a = c.args in let p = c.requires in let q = p.2 in (
       q.0,
       (
         q.1.0,
         q.1.1,
-        made-value a.s a.base a.n q.1.2 a.head p.0 p.1 c.before.before.before.before.before.before.before.before.before.before.before.before.before.before.if-n-ne2.false _ c.before.before.before.before.before.before.before.before.before.before.before.before.value_at-x.ensures c.before.before.before.before.before.before.before.before.before.before.if-x-ne-NUMBER.false
-            _ c.before.before.before.before.before.before.before.before.value_at-y.ensures c.before.before.before.before.before.before.if-y-ne-NUMBER.false _ c.before.before.before.before.before.operate.ensures _ c.before.before.before.v-1.given.1,
+        made-value a.s a.base a.n q.1.2 a.head p.0 p.1 c.if-n-ne2.false _ c.value_at-x.ensures c.if-x-ne-NUMBER.false
+            _ c.value_at-y.ensures c.if-y-ne-NUMBER.false _ c.operate.ensures _ c.in-Value.is,
       ),
     )
 
@@ -99,9 +99,9 @@ same-length-3 c =
 -- src/come.rt:104:1
 returns-4 : tie.Need-returns-in-Value
 returns-4 c =
-    λ ws budget whole x. let a = c.before.before.before.before.before.before.before.before.before.before.before.before.before.before.before.before.before.before.before.args in let p = c.before.before.before.before.before.before.before.before.before.before.before.before.before.before.before.before.before.before.before.requires in
-    let y = c.before.before.push.ensures ws budget whole (made-value a.s a.base a.n x a.head p.0 p.1 c.before.before.before.before.before.before.before.before.before.before.before.before.before.before.before.before.before.if-n-ne2.false _ c.before.before.before.before.before.before.before.before.before.before.before.before.before.before.before.value_at-x.ensures c.before.before.before.before.before.before.before.before.before.before.before.before.before.if-x-ne-NUMBER.false
-    _ c.before.before.before.before.before.before.before.before.before.before.before.value_at-y.ensures c.before.before.before.before.before.before.before.before.before.if-y-ne-NUMBER.false _ c.before.before.before.before.before.before.before.before.operate.ensures _ c.before.before.before.before.before.before.v-1.given.1) in
+    λ ws budget whole x. let a = c.args in let p = c.requires in
+    let y = c.push.ensures ws budget whole (made-value a.s a.base a.n x a.head p.0 p.1 c.if-n-ne2.false _ c.value_at-x.ensures c.if-x-ne-NUMBER.false
+    _ c.value_at-y.ensures c.if-y-ne-NUMBER.false _ c.operate.ensures _ c.in-Value.is) in
     (y.0, omega (arith, y.1, x.framed))
 
 -- src/come.rt:104:1
@@ -112,9 +112,9 @@ same-length-4 c =
 -- src/come.rt:104:1
 returns-5 : tie.Need-returns-in-Ground
 returns-5 c =
-    λ ws budget whole x. let a = c.before.before.before.before.before.before.before.before.before.before.before.before.before.before.args in let p = c.before.before.before.before.before.before.before.before.before.before.before.before.before.before.requires in
-    made-ground a.s a.base a.n x a.head p.0 p.1 c.before.before.before.before.before.before.before.before.before.before.before.before.if-n-ne2.false _ c.before.before.before.before.before.before.before.before.before.before.value_at-x.ensures c.before.before.before.before.before.before.before.before.if-x-ne-NUMBER.false
-    _ c.before.before.before.before.before.before.value_at-y.ensures c.before.before.before.before.if-y-ne-NUMBER.false _ c.before.before.before.operate.ensures _ c.before.g-1.given.1
+    λ ws budget whole x. let a = c.args in let p = c.requires in
+    made-ground a.s a.base a.n x a.head p.0 p.1 c.if-n-ne2.false _ c.value_at-x.ensures c.if-x-ne-NUMBER.false
+    _ c.value_at-y.ensures c.if-y-ne-NUMBER.false _ c.operate.ensures _ c.in-Ground.is
 
 pub operation_spec : {M : Type 1} → statement M
 operation_spec =

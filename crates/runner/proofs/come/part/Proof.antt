@@ -36,7 +36,7 @@ same_length c =
 -- src/come.rt:62:1
 returns : tie.Need-returns
 returns c =
-    λ budget whole x. rw c.before.before.put_frame.ensures (parting-begins c.before.before.before.before.before.before.before.before.before.before.args.s c.before.before.before.before.before.before.before.before.before.before.args.f x _ (c.before.before.before.before.before.before.after.ensures x.first x.parts.one))
+    λ budget whole x. rw c.put_frame.ensures (parting-begins c.args.s c.args.f x _ (c.after.ensures x.first x.parts.one))
 
 pub part_spec : {M : Type 1} → statement M
 part_spec =

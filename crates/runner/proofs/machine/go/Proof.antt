@@ -20,7 +20,7 @@ decreases-loop words ends budget table₀ at environment turn₀ table turn =
 -- src/machine.rt:32:5
 loop-holds : tie.Need-loop-turn-init invariant-loop decreases-loop
 loop-holds c =
-    (refl, c.before.before.before.requires.0, record { stands = c.before.before.before.requires.1; same = λ whole x. x })
+    (refl, c.requires.0, record { stands = c.requires.1; same = λ whole x. x })
 
 -- src/machine.rt:34:26
 enum-known-turn : tie.Need-enum_known-turn invariant-loop decreases-loop
@@ -29,26 +29,21 @@ enum-known-turn c = search rules
 -- src/machine.rt:35:17
 begin-requires : tie.Need-begin-turn-requires invariant-loop decreases-loop
 begin-requires c κs =
-    (c.before.before.before.before.loop-turn.invariant.1, (follows-as c.before.before.before.before.loop-turn.invariant.2 c.before.before.turn-1.given.1).stands)
+    (c.loop-turn.invariant.1, (follows-as c.loop-turn.invariant.2 c.in-Begins.is).stands)
 
 -- src/machine.rt:32:5
 loop-less : tie.Need-loop-turn-smaller-in-Begins invariant-loop decreases-loop
 loop-less c =
-    let at-begin = c.before.before in
-    let at_turn = at-begin.before.before.before in
-    let at-loop = at_turn.before.before in
-    falls-as at-loop.before.before.before.before.args.budget at_turn.turn-1.given.1
-    (at-begin.begin-turn.ensures _ (follows-as at-loop.loop-turn.invariant.2 at_turn.turn-1.given.1).stands.1).1
+    falls-as c.args.budget c.in-Begins.is
+    (c.begin-turn.ensures _ (follows-as c.loop-turn.invariant.2 c.in-Begins.is).stands.1).1
 
 -- src/machine.rt:32:5
 loop-again : tie.Need-loop-turn-preserved-in-Begins invariant-loop decreases-loop
 loop-again c =
-    let at-begin = c.before.before in
-    let at_turn = at-begin.before.before.before in
-    let loop' = at_turn.before.before.loop-turn in (
-      at-begin.begin-turn.auto.1.1.1.0 ∙ loop'.invariant.0,
-      loop'.invariant.1,
-      follows_then (follows-as loop'.invariant.2 at_turn.turn-1.given.1) _ _ (λ whole x. (at-begin.begin-turn.ensures whole x).0),
+    (
+      c.begin-turn.auto.table ∙ c.loop-turn.invariant.0,
+      c.loop-turn.invariant.1,
+      follows_then (follows-as c.loop-turn.invariant.2 c.in-Begins.is) _ _ (λ whole x. (c.begin-turn.ensures whole x).0),
     )
 
 -- src/machine.rt:37:25
@@ -58,50 +53,41 @@ enum-known-turn-2 c = search rules
 -- src/machine.rt:39:39
 value-at-requires : tie.Need-value_at-requires invariant-loop decreases-loop
 value-at-requires c κs =
-    omega (arith, (follows-as c.before.before.before.before.before.before.loop-turn.invariant.2 c.before.before.before.before.turn-in-Comes-1.given.1).stands.1.room.lent)
+    omega (arith, (follows-as c.loop-turn.invariant.2 c.in-Comes.is).stands.1.room.lent)
 
 -- src/machine.rt:39:21
 same_length : tie.Need-shape_of-table-then-s-eq0 invariant-loop decreases-loop
 same_length c =
-    c.before.before.before.before.before.before.before.loop-turn.invariant.0
+    c.loop-turn.invariant.0
 
 -- src/machine.rt:39:21
 returns : tie.Need-returns-then-s-eq0 invariant-loop decreases-loop
 returns c =
-    let at-if1 = c.before.before in
-    let at-turn2 = at-if1.before.before.before in
     λ whole x. rw c.value_at.ensures
-    (last-comes at-turn2.turn-in-Comes-1.given.0.0 at-if1.if-s-eq0.true ((follows-as at-turn2.before.before.loop-turn.invariant.2 at-turn2.turn-in-Comes-1.given.1).same whole x))
+    (last-comes c.in-Comes.s c.if-s-eq0.true ((follows-as c.loop-turn.invariant.2 c.in-Comes.is).same whole x))
 
 -- src/machine.rt:41:17
 come-requires : tie.Need-come-turn-requires invariant-loop decreases-loop
 come-requires c κs =
-    let at-if1 = c.before in
-    let at-turn2 = at-if1.before.before.before in
-    let at-loop = at-turn2.before.before in (
-      at-loop.loop-turn.invariant.1,
-      omega (arith, at-if1.if-s-eq0.false),
-      (at-loop.before.before.before.before.args.budget, _, (follows-as at-loop.loop-turn.invariant.2 at-turn2.turn-in-Comes-1.given.1).stands.1),
+    (
+      c.loop-turn.invariant.1,
+      omega (arith, c.if-s-eq0.false),
+      (c.args.budget, _, (follows-as c.loop-turn.invariant.2 c.in-Comes.is).stands.1),
     )
 
 -- src/machine.rt:32:5
 loop-less-2 : tie.Need-loop-turn-smaller invariant-loop decreases-loop
 loop-less-2 c =
-    let at-come = c.before.before in
-    let at-turn2 = at-come.before.before.before.before.before in
-    let at-loop = at-turn2.before.before in
-    falls-as at-loop.before.before.before.before.args.budget at-turn2.turn-in-Comes-1.given.1
-    (at-come.come-turn.ensures _ _ (follows-as at-loop.loop-turn.invariant.2 at-turn2.turn-in-Comes-1.given.1).stands.1).1
+    falls-as c.args.budget c.in-Comes.is
+    (c.come-turn.ensures _ _ (follows-as c.loop-turn.invariant.2 c.in-Comes.is).stands.1).1
 
 -- src/machine.rt:32:5
 loop-again-2 : tie.Need-loop-turn-preserved invariant-loop decreases-loop
 loop-again-2 c =
-    let at-come = c.before.before in
-    let at-turn2 = at-come.before.before.before.before.before in
-    let loop' = at-turn2.before.before.loop-turn in (
-      at-come.come-turn.auto.1.1.0 ∙ loop'.invariant.0,
-      loop'.invariant.1,
-      follows_then (follows-as loop'.invariant.2 at-turn2.turn-in-Comes-1.given.1) _ _ (λ whole x. (at-come.come-turn.ensures _ whole x).0),
+    (
+      c.come-turn.auto.table ∙ c.loop-turn.invariant.0,
+      c.loop-turn.invariant.1,
+      follows_then (follows-as c.loop-turn.invariant.2 c.in-Comes.is) _ _ (λ whole x. (c.come-turn.ensures _ whole x).0),
     )
 
 -- src/machine.rt:43:25
@@ -111,12 +97,12 @@ enum-known-turn-3 c = search rules
 -- src/machine.rt:44:17
 same-length-2 : tie.Need-shape_of-table-in-Stops invariant-loop decreases-loop
 same-length-2 c =
-    c.before.before.before.loop-turn.invariant.0
+    c.loop-turn.invariant.0
 
 -- src/machine.rt:44:17
 returns-2 : tie.Need-returns-in-Stops invariant-loop decreases-loop
 returns-2 c =
-    λ whole x. (follows-as c.before.before.before.loop-turn.invariant.2 c.before.turn-in-Stops-1.given.1).same whole x
+    λ whole x. (follows-as c.loop-turn.invariant.2 c.in-Stops.is).same whole x
 
 pub go_spec : {M : Type 1} → statement M
 go_spec =

@@ -6,11 +6,11 @@ use Rattle.runner.specs.NumberLaws.{lowered-low, lowered-high}
 
 returns : tie.Need-returns-then-n-lt-HALF
 returns c =
-    lowered-low c.before.args.n c.if-n-lt-HALF.true
+    lowered-low c.args.n c.if-n-lt-HALF.true
 
 returns-2 : tie.Need-returns-else-n-lt-HALF
 returns-2 c =
-    lowered-high c.before.args.n c.if-n-lt-HALF.false c.before.requires
+    lowered-high c.args.n c.if-n-lt-HALF.false c.requires
 
 pub lowered_spec : {M : Type 1} → statement M
 lowered_spec = tie.close

@@ -11,19 +11,19 @@ use Rattle.runner.specs.NumberLaws.{number-below, number-above, number-within}
 
 returns : tie.Need-returns-then-n-lt-HALF
 returns c =
-    made_by _ (sym (number-below c.before.args.n c.if-n-lt-HALF.true)) refl
+    made_by _ (sym (number-below c.args.n c.if-n-lt-HALF.true)) refl
 
 returns-2 : tie.Need-returns-then-n
 returns-2 c =
-    made_by _ (sym (number-above c.before.before.args.n c.if-n.true)) refl
+    made_by _ (sym (number-above c.args.n c.if-n.true)) refl
 
 lowered-requires : tie.Need-lowered-requires
 lowered-requires c κs =
-    omega (arith, c.before.if-n-lt-HALF.false, c.if-n.false)
+    omega (arith, c.if-n-lt-HALF.false, c.if-n.false)
 
 returns-3 : tie.Need-returns
 returns-3 c =
-    made_by _ (sym (number-within _ c.before.before.if-n-lt-HALF.false c.before.if-n.false))
+    made_by _ (sym (number-within _ c.if-n-lt-HALF.false c.if-n.false))
     (λ ws t top. number_i refl (ap number_v (sym c.lowered.ensures)))
 
 pub number_spec : {M : Type 1} → statement M

@@ -7,11 +7,11 @@ use Rattle.runner.specs.NumberLaws.{raised-low, raised-high}
 
 returns : tie.Need-returns-then-w-lt2147483648
 returns c =
-    (raised-low c.before.args.w c.if-w-lt2147483648.true, omega (arith, c.if-w-lt2147483648.true))
+    (raised-low c.args.w c.if-w-lt2147483648.true, omega (arith, c.if-w-lt2147483648.true))
 
 returns-2 : tie.Need-returns-else-w-lt2147483648
 returns-2 c =
-    (raised-high c.before.args.w c.if-w-lt2147483648.false (omega (arith, c.before.ranges)), omega (arith, c.before.ranges))
+    (raised-high c.args.w c.if-w-lt2147483648.false (omega (arith, c.ranges)), omega (arith, c.ranges))
 
 pub raised_spec : {M : Type 1} → statement M
 raised_spec = tie.close

@@ -40,84 +40,73 @@ mark-μ-loop words ends₀ at next₀ left₀ ends next left =
 
 mark-mul-shape-at : (t : ℕ) → mark-lts.Need-offset_bounds-words-at (E t) (mark-at t) mark.Post mark-Inv-loop mark-μ-loop
 mark-mul-shape-at t c =
-    record { fits = omega (arith, going-inside (omega arith) (going_start _ c.before.before.requires.1.1), c.before.before.well_formed.0) }
+    record { fits = omega (arith, going-inside (omega arith) (going_start _ c.requires.1.1), c.well_formed.0) }
 
 mark-sub-shape-at : (t : ℕ) → mark-lts.Need-slice_bounds-shape_at-count (E t) (mark-at t) mark.Post mark-Inv-loop mark-μ-loop
 mark-sub-shape-at t c =
-    omega (arith, going-inside (omega arith) (going_start _ c.before.before.requires.1.1))
+    omega (arith, going-inside (omega arith) (going_start _ c.requires.1.1))
 
 mark-part-shape-at-start : (t : ℕ) → mark-lts.Need-slice_bounds-shape_at-start (E t) (mark-at t) mark.Post mark-Inv-loop mark-μ-loop
 mark-part-shape-at-start t c =
-    omega (arith, going-inside (omega arith) (going_start _ c.before.before.requires.1.1))
+    omega (arith, going-inside (omega arith) (going_start _ c.requires.1.1))
 
 mark-add-next : (t : ℕ) → mark-lts.Need-overflow_add-next (E t) (mark-at t) mark.Post mark-Inv-loop mark-μ-loop
 mark-add-next t c =
-    let at-shape-at = c.before in
-    let at-good = at-shape-at.before.before.before.before in
-    let z = going-sizes (omega arith) (going_start _ at-good.requires.1.1) at-shape-at.shape_at-n.result at-shape-at.shape_at-n.ensures in
-    record { fits = omega (arith, z.1, at-good.well_formed.0) }
+    let z = going-sizes (omega arith) (going_start _ c.requires.1.1) c.shape_at-n.result c.shape_at-n.ensures in
+    record { fits = omega (arith, z.1, c.well_formed.0) }
 
 mark-loop-holds : (t : ℕ) → mark-lts.Need-loop-left-init (E t) (mark-at t) mark.Post mark-Inv-loop mark-μ-loop
 mark-loop-holds t c =
-    let at-shape-at = c.before in
-    let pre' = at-shape-at.before.before.before.before.requires in
-    let z = going-sizes (omega arith) (going_start _ pre'.1.1) at-shape-at.shape_at-n.result at-shape-at.shape_at-n.ensures in
-    (refl, pre'.1.0, going-open _ pre'.1.1 at-shape-at.shape_at-n.result at-shape-at.shape_at-n.ensures, omega (arith, z.0))
+    let pre' = c.requires in
+    let z = going-sizes (omega arith) (going_start _ pre'.1.1) c.shape_at-n.result c.shape_at-n.ensures in
+    (refl, pre'.1.0, going-open _ pre'.1.1 c.shape_at-n.result c.shape_at-n.ensures, omega (arith, z.0))
 
 mark-mark-requires : (t : ℕ) → mark-lts.Need-mark-next-requires (E t) (mark-at t) mark.Post mark-Inv-loop mark-μ-loop
 mark-mark-requires t c κs =
-    let at-loop-test = c.before in
-    let at-loop = at-loop-test.before in
-    let pre' = at-loop.before.before.before.before.before.before.requires in
-    let g = at-loop.loop-left.invariant.2 in
-    (omega (arith, going-inside at-loop-test.loop-left-test.true g, at-loop.loop-left.invariant.3, pre'.0), (at-loop.loop-left.invariant.1, going-placed at-loop-test.loop-left-test.true g))
+    let pre' = c.requires in
+    let g = c.loop-left.invariant.2 in
+    (omega (arith, going-inside c.loop-left-test.true g, c.loop-left.invariant.3, pre'.0), (c.loop-left.invariant.1, going-placed c.loop-left-test.true g))
 
 mark-sub-left : (t : ℕ) → mark-lts.Need-overflow_sub-left (E t) (mark-at t) mark.Post mark-Inv-loop mark-μ-loop
 mark-sub-left t c =
-    omega (arith, c.before.before.before.before.loop-left-test.true)
+    omega (arith, c.loop-left-test.true)
 
 mark-loop-less : (t : ℕ) → mark-lts.Need-loop-left-smaller (E t) (mark-at t) mark.Post mark-Inv-loop mark-μ-loop
 mark-loop-less t c =
-    omega (arith, c.before.before.before.before.loop-left-test.true)
+    omega (arith, c.loop-left-test.true)
 
 mark-loop-again : (t : ℕ) → mark-lts.Need-loop-left-preserved (E t) (mark-at t) mark.Post mark-Inv-loop mark-μ-loop
 mark-loop-again t c =
-    let at_mark = c.before.before in
-    let at-loop-test = at_mark.before.before in
-    let loop' = at-loop-test.before.loop-left in
-    let more = at-loop-test.loop-left-test.true in
-    let g = loop'.invariant.2 in
-    let e = at_mark.mark-next.ensures in
-    (at_mark.mark-next.auto.1.0 ∙ loop'.invariant.0, e.0, going-past more g _ e.1, omega (arith, loop'.invariant.3, going-ahead more g _ e.1))
+    let more = c.loop-left-test.true in
+    let g = c.loop-left.invariant.2 in
+    let e = c.mark-next.ensures in
+    (c.mark-next.auto.ends ∙ c.loop-left.invariant.0, e.0, going-past more g _ e.1, omega (arith, c.loop-left.invariant.3, going-ahead more g _ e.1))
 
 mark-cast-ends : (t : ℕ) → mark-lts.Need-overflow_cast-ends (E t) (mark-at t) mark.Post mark-Inv-loop mark-μ-loop
 mark-cast-ends t c =
-    record { fits = ltb-true _ _ c.if-next-lt4294967296.true }
+    record { fits = ltb-true _ _ c.if-next-lt4294967296.true-raw }
 
 mark-slice-write-ends : (t : ℕ) → mark-lts.Need-bounds-ends-at (E t) (mark-at t) mark.Post mark-Inv-loop mark-μ-loop
 mark-slice-write-ends t c =
-    c.before.if1.true
+    c.if-at-ends.true
 
 mark-same-length : (t : ℕ) → mark-lts.Need-shape_of-ends-then-next-lt4294967296 (E t) (mark-at t) mark.Post mark-Inv-loop mark-μ-loop
 mark-same-length t c =
-    simp length-set c.before.before.before.loop-left.invariant.0
+    simp length-set c.loop-left.invariant.0
 
 mark-returns : (t : ℕ) → mark-lts.Need-returns-then-next-lt4294967296 (E t) (mark-at t) mark.Post mark-Inv-loop mark-μ-loop
 mark-returns t c =
-    let at-if1 = c.before in
-    let at-loop-test = at-if1.before in
-    let at-loop = at-loop-test.before in
-    let args' = at-loop.before.before.before.before.before.before.args in
-    let e = going_end (omega (arith, at-loop-test.loop-left-test.false)) at-loop.loop-left.invariant.2 in
-    (memo-put args'.at _ at-if1.if1.true at-loop.loop-left.invariant.1 e, e)
+    let args' = c.args in
+    let e = going_end (omega (arith, c.loop-left-test.false)) c.loop-left.invariant.2 in
+    (memo-put args'.at _ c.if-at-ends.true c.loop-left.invariant.1 e, e)
 
 mark-same-length-2 : (t : ℕ) → mark-lts.Need-shape_of-ends-else-at-ends (E t) (mark-at t) mark.Post mark-Inv-loop mark-μ-loop
 mark-same-length-2 t c =
-    c.before.before.loop-left.invariant.0
+    c.loop-left.invariant.0
 
 mark-returns-2 : (t : ℕ) → mark-lts.Need-returns-else-at-ends (E t) (mark-at t) mark.Post mark-Inv-loop mark-μ-loop
 mark-returns-2 t c =
-    (c.before.before.loop-left.invariant.1, going_end (omega (arith, c.before.loop-left-test.false)) c.before.before.loop-left.invariant.2)
+    (c.loop-left.invariant.1, going_end (omega (arith, c.loop-left-test.false)) c.loop-left.invariant.2)
 
 pub +mark_spec : {M : Type 1} → statement M
 +mark_spec = close μ-mark λ t. mark-lts.spec (E t)

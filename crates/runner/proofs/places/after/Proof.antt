@@ -10,9 +10,7 @@ use mathlib.Core.Path.{◌∙◌}
 
 returns : tie.Need-returns-then-end-ne0
 returns c =
-    let at-word = c.before in
-    let at-args = at-word.before.before.before.before.before in
-    rw at-word.word-end.ensures (at-args.requires.0.known at-args.args.at (λ z. c.if-end-ne0.true (at-word.word-end.ensures ∙ z)))
+    rw c.word-end.ensures (c.requires.0.known c.args.at (λ z. c.if-end-ne0.true (c.word-end.ensures ∙ z)))
 
 pub after_spec : {M : Type 1} → statement M
 after_spec =

@@ -20,56 +20,46 @@ decreases-loop words place at₀ due₀ at due =
 
 loop-holds : tie.Need-loop-due-init invariant-loop decreases-loop
 loop-holds c =
-    going_start _ c.before.requires
+    going_start _ c.requires
 
 mul-shape-at : tie.Need-offset_bounds-words-at invariant-loop decreases-loop
 mul-shape-at c =
-    record { fits = omega (arith, going-inside c.loop-due-test.true c.before.loop-due.invariant, c.before.before.before.well_formed.0) }
+    record { fits = omega (arith, going-inside c.loop-due-test.true c.loop-due.invariant, c.well_formed.0) }
 
 sub-shape-at : tie.Need-slice_bounds-shape_at-count invariant-loop decreases-loop
 sub-shape-at c =
-    omega (arith, going-inside c.loop-due-test.true c.before.loop-due.invariant)
+    omega (arith, going-inside c.loop-due-test.true c.loop-due.invariant)
 
 part-shape-at-start : tie.Need-slice_bounds-shape_at-start invariant-loop decreases-loop
 part-shape-at-start c =
-    omega (arith, going-inside c.loop-due-test.true c.before.loop-due.invariant)
+    omega (arith, going-inside c.loop-due-test.true c.loop-due.invariant)
 
 add_at : tie.Need-overflow_add-at invariant-loop decreases-loop
 add_at c =
-    let at-shape-at = c.before in
-    let at-loop-test = at-shape-at.before.before in
-    let at-loop = at-loop-test.before in
-    let z = going-sizes at-loop-test.loop-due-test.true at-loop.loop-due.invariant at-shape-at.shape_at-n.result at-shape-at.shape_at-n.ensures in
-    record { fits = omega (arith, z.1, at-loop.before.before.well_formed.0) }
+    let z = going-sizes c.loop-due-test.true c.loop-due.invariant c.shape_at-n.result c.shape_at-n.ensures in
+    record { fits = omega (arith, z.1, c.well_formed.0) }
 
 sub-due : tie.Need-overflow_sub-due invariant-loop decreases-loop
 sub-due c =
-    omega (arith, c.before.before.before.loop-due-test.true)
+    omega (arith, c.loop-due-test.true)
 
 add-due : tie.Need-overflow_add-due invariant-loop decreases-loop
 add-due c =
-    let at-shape-at = c.before.before in
-    let at-loop-test = at-shape-at.before.before in
-    let at-loop = at-loop-test.before in
-    let z = going-sizes at-loop-test.loop-due-test.true at-loop.loop-due.invariant at-shape-at.shape_at-n.result at-shape-at.shape_at-n.ensures in
-    record { fits = omega (arith, z.2, at-loop.before.before.well_formed.0) }
+    let z = going-sizes c.loop-due-test.true c.loop-due.invariant c.shape_at-n.result c.shape_at-n.ensures in
+    record { fits = omega (arith, z.2, c.well_formed.0) }
 
 loop-less : tie.Need-loop-due-smaller invariant-loop decreases-loop
 loop-less c =
-    let at-shape-at = c.before.before in
-    let at-loop-test = at-shape-at.before.before in
-    let z = going-sizes at-loop-test.loop-due-test.true at-loop-test.before.loop-due.invariant at-shape-at.shape_at-n.result at-shape-at.shape_at-n.ensures in
+    let z = going-sizes c.loop-due-test.true c.loop-due.invariant c.shape_at-n.result c.shape_at-n.ensures in
     omega (arith, z.0, z.1)
 
 loop-again : tie.Need-loop-due-preserved invariant-loop decreases-loop
 loop-again c =
-    let at-shape-at = c.before.before in
-    let at-loop-test = at-shape-at.before.before in
-    going-inner at-loop-test.loop-due-test.true at-loop-test.before.loop-due.invariant at-shape-at.shape_at-n.result at-shape-at.shape_at-n.ensures
+    going-inner c.loop-due-test.true c.loop-due.invariant c.shape_at-n.result c.shape_at-n.ensures
 
 returns : tie.Need-returns invariant-loop decreases-loop
 returns c =
-    going_end (omega (arith, c.loop-due-test.false)) c.before.loop-due.invariant
+    going_end (omega (arith, c.loop-due-test.false)) c.loop-due.invariant
 
 pub skip_spec : {M : Type 1} → statement M
 skip_spec =

@@ -16,48 +16,39 @@ decreases-loop table₀ cells environment first from count e₀ c₀ i₀ table 
 
 loop-holds : tie.Need-loop-i-init invariant-loop decreases-loop
 loop-holds c =
-    binding-start _ _ _ _ _ _ c.before.requires.below
+    binding-start _ _ _ _ _ _ c.requires.below
 
 add-extend : tie.Need-overflow_add-word invariant-loop decreases-loop
 add-extend c =
-    let at-loop-test = c.before.before in
-    let at-fits = at-loop-test.before.before.before in
-    record { fits = omega (arith, c.word.ensures, at-fits.ranges, at-loop-test.loop-i-test.true, at-fits.requires.values, at-fits.well_formed.0) }
+    record { fits = omega (arith, c.word.ensures, c.ranges, c.loop-i-test.true, c.requires.values, c.well_formed.0) }
 
 add-extend-2 : tie.Need-overflow_add-from invariant-loop decreases-loop
 add-extend-2 c =
-    let at-loop-test = c.before.before in
-    let at-good = at-loop-test.before.before.before in
-    record { fits = omega (arith, at-loop-test.loop-i-test.true, at-good.requires.values, at-good.well_formed.0) }
+    record { fits = omega (arith, c.loop-i-test.true, c.requires.values, c.well_formed.0) }
 
 extend-requires : tie.Need-extend-next-requires invariant-loop decreases-loop
 extend-requires c κs =
-    binding-room _ _ _ _ _ _ c.before.before.before.loop-i.invariant c.before.before.before.before.before.requires c.before.before.loop-i-test.true
+    binding-room _ _ _ _ _ _ c.loop-i.invariant c.requires c.loop-i-test.true
 
 add-i : tie.Need-overflow_add-i invariant-loop decreases-loop
 add-i c =
-    let at-loop-test = c.before.before.before.before.before in
-    let at-good = at-loop-test.before.before.before in
-    record { fits = omega (arith, at-loop-test.loop-i-test.true, at-good.requires.values, at-good.well_formed.0) }
+    record { fits = omega (arith, c.loop-i-test.true, c.requires.values, c.well_formed.0) }
 
 loop-less : tie.Need-loop-i-smaller invariant-loop decreases-loop
 loop-less c =
-    omega (arith, c.before.before.before.before.before.loop-i-test.true)
+    omega (arith, c.loop-i-test.true)
 
 loop-again : tie.Need-loop-i-preserved invariant-loop decreases-loop
 loop-again c =
-    let at-extend = c.before.before in
-    let at-word = at-extend.before in
-    let at-loop-test = at-word.before.before in
-    binding-more _ _ _ _ _ _ at-loop-test.before.loop-i.invariant at-loop-test.loop-i-test.true at-extend.extend-next.auto.0 (rw at-word.word.ensures at at-extend.extend-next.ensures)
+    binding-more _ _ _ _ _ _ c.loop-i.invariant c.loop-i-test.true c.extend-next.auto.table (rw c.word.ensures at c.extend-next.ensures)
 
 same_length : tie.Need-shape_of-table invariant-loop decreases-loop
 same_length c =
-    c.before.loop-i.invariant.sized
+    c.loop-i.invariant.sized
 
 returns : tie.Need-returns invariant-loop decreases-loop
 returns c =
-    binding-end _ _ _ _ _ _ c.before.loop-i.invariant c.loop-i-test.false
+    binding-end _ _ _ _ _ _ c.loop-i.invariant c.loop-i-test.false
 
 pub bind_spec : {M : Type 1} → statement M
 bind_spec =

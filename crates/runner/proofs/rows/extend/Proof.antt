@@ -7,27 +7,23 @@ use Rattle.runner.specs.ExtendedLaws.{extended-cell, extended-beyond}
 
 returns : tie.Need-returns-then-number-ge4294967296
 returns c =
-    let at-args = c.before.before in
-    extended-beyond _ _ _ _ _ at-args.requires c.if-number-ge4294967296.true
+    extended-beyond _ _ _ _ _ c.requires c.if-number-ge4294967296.true
 
 value-at-requires : tie.Need-value_at-v-requires
 value-at-requires c κs =
-    omega (arith, c.before.before.before.requires.values)
+    omega (arith, c.requires.values)
 
 put-cell-requires : tie.Need-put_cell-requires
 put-cell-requires c κs =
-    omega (arith, c.before.before.before.before.before.requires.room)
+    omega (arith, c.requires.room)
 
 cast-t13 : tie.Need-overflow_cast-result
 cast-t13 c =
-    record { fits = omega (arith, c.before.before.before.before.before.before.before.before.requires.numbered) }
+    record { fits = omega (arith, c.requires.numbered) }
 
 returns-2 : tie.Need-returns
 returns-2 c =
-    let at-put-cell = c.before.before in
-    let at-value-at = at-put-cell.before.before in
-    let at-args = at-value-at.before.before.before.before in
-    rw (at-put-cell.put_cell.ensures, at-value-at.value_at-v.ensures) (extended-cell _ _ _ _ _ at-args.requires)
+    rw (c.put_cell.ensures, c.value_at-v.ensures) (extended-cell _ _ _ _ _ c.requires)
 
 pub extend_spec : {M : Type 1} → statement M
 extend_spec =

@@ -17,7 +17,7 @@ decreases-loop table environment number e₀ e =
 
 loop-holds : tie.Need-loop-e-init invariant-loop decreases-loop
 loop-holds c =
-    (omega (arith, c.before.before.requires.rows, c.word-e.ensures), rw c.word-e.ensures (seeking-start _ _ _))
+    (omega (arith, c.requires.rows, c.word-e.ensures), rw c.word-e.ensures (seeking-start _ _ _))
 
 sub_at : tie.Need-overflow_sub-at invariant-loop decreases-loop
 sub_at c =
@@ -25,43 +25,29 @@ sub_at c =
 
 mul-if1 : tie.Need-offset_bounds-table-at invariant-loop decreases-loop
 mul-if1 c =
-    record { fits = omega (arith, c.before.loop-e.invariant.0, c.loop-e-test.true, c.before.before.before.before.well_formed.0) }
+    record { fits = omega (arith, c.loop-e.invariant.0, c.loop-e-test.true, c.well_formed.0) }
 
 shared-slice-read-if1 : tie.Need-bounds-table-at invariant-loop decreases-loop
 shared-slice-read-if1 c =
-    omega (arith, c.before.before.loop-e.invariant.0, c.before.loop-e-test.true)
+    omega (arith, c.loop-e.invariant.0, c.loop-e-test.true)
 
 returns : tie.Need-returns-then-table-at invariant-loop decreases-loop
 returns c =
-    let at-if1 = c.before.before.before.before in
-    let at_test = at-if1.before.before in
-    let at-loop = at_test.before in
-    let at-args = at-loop.before.before.before in
-    seeking-own _ _ _ _ at-loop.loop-e.invariant.1 (omega (arith, at-args.ranges)) at_test.loop-e-test.true at-if1.if-table-at.true
+    seeking-own _ _ _ _ c.loop-e.invariant.1 (omega (arith, c.ranges)) c.loop-e-test.true c.if-table-at.true
 
 loop-less : tie.Need-loop-e-smaller invariant-loop decreases-loop
 loop-less c =
-    let at-if1 = c.before.before in
-    let at_test = at-if1.before.before in
-    let at-loop = at_test.before in
-    let at-args = at-loop.before.before.before in
-    let next = seeking-other _ _ _ _ at-loop.loop-e.invariant.1 (omega (arith, at-args.ranges)) at_test.loop-e-test.true at-if1.if-table-at.false at-args.requires in
+    let next = seeking-other _ _ _ _ c.loop-e.invariant.1 (omega (arith, c.ranges)) c.loop-e-test.true c.if-table-at.false c.requires in
     omega (arith, next.0, c.word-e-in-loop-e.ensures)
 
 loop-again : tie.Need-loop-e-preserved invariant-loop decreases-loop
 loop-again c =
-    let at-if1 = c.before.before in
-    let at_test = at-if1.before.before in
-    let at-loop = at_test.before in
-    let at-args = at-loop.before.before.before in
-    let next = seeking-other _ _ _ _ at-loop.loop-e.invariant.1 (omega (arith, at-args.ranges)) at_test.loop-e-test.true at-if1.if-table-at.false at-args.requires in
-    (omega (arith, next.0, c.word-e-in-loop-e.ensures, at-loop.loop-e.invariant.0), rw c.word-e-in-loop-e.ensures next.1)
+    let next = seeking-other _ _ _ _ c.loop-e.invariant.1 (omega (arith, c.ranges)) c.loop-e-test.true c.if-table-at.false c.requires in
+    (omega (arith, next.0, c.word-e-in-loop-e.ensures, c.loop-e.invariant.0), rw c.word-e-in-loop-e.ensures next.1)
 
 returns-2 : tie.Need-returns invariant-loop decreases-loop
 returns-2 c =
-    let at-loop = c.before in
-    let at-args = at-loop.before.before.before in
-    seeking-end _ _ _ _ at-loop.loop-e.invariant.1 (omega (arith, at-args.ranges)) (omega (arith, c.loop-e-test.false))
+    seeking-end _ _ _ _ c.loop-e.invariant.1 (omega (arith, c.ranges)) (omega (arith, c.loop-e-test.false))
 
 pub find_spec : {M : Type 1} → statement M
 find_spec =

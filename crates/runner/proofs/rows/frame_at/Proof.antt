@@ -6,9 +6,8 @@ use Rattle.runner.specs.Stores.{frame-read}
 
 returns : tie.Need-returns
 returns c =
-    let at_place = c.before.before.before in
-    let args' = at_place.before.before.before.before.before.args in
-    frame-read args'.table.now args'.row at_place.place.result at_place.place.ensures
+    let args' = c.args in
+    frame-read args'.table.now args'.row c.place.result c.place.ensures
 
 pub frame_at_spec : {M : Type 1} → statement M
 frame_at_spec =

@@ -9,7 +9,7 @@ use Rattle.runner.specs.Stores.{stored-six}
 
 returns : tie.Need-returns
 returns c =
-    rw (c.before.low.ensures, c.high.ensures) (stored-six c.before.before.before.args.table.now (16 * c.before.before.before.args.row + 4) _ _ _ _ _ _)
+    rw (c.low.ensures, c.high.ensures) (stored-six c.args.table.now (16 * c.args.row + 4) _ _ _ _ _ _)
 
 pub put_frame_spec : {M : Type 1} → statement M
 put_frame_spec =

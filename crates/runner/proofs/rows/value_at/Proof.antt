@@ -6,7 +6,7 @@ use Rattle.runner.specs.Stores.{value_read}
 
 returns : tie.Need-returns
 returns c =
-    value_read c.before.before.before.before.args.table.now c.before.before.before.before.args.row
+    value_read c.args.table.now c.args.row
 
 pub value_at_spec : {M : Type 1} → statement M
 value_at_spec =

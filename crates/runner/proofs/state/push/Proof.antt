@@ -25,7 +25,7 @@ same_length c =
 -- src/state.rt:30:1
 returns : tie.Need-returns
 returns c =
-    λ ws budget whole g. rw c.before.before.before.put_value.ensures (pushed c.before.before.before.before.before.before.args.s c.before.before.before.before.before.before.args.v g)
+    λ ws budget whole g. rw c.put_value.ensures (pushed c.args.s c.args.v g)
 
 pub push_spec : {M : Type 1} → statement M
 push_spec = tie.close (tie.spec put-value-requires add-t7 same_length returns)

@@ -7,15 +7,15 @@ use borrow.Author.Rules.{rules}
 
 returns : tie.Need-returns-then-rule-eq0
 returns c =
-    let a = c.before.before.before.before.args in apply-none a.work.now a.top a.rules a.u a.w a.limit c.before.before.before.before.requires _ c.before.first_fit-rule.ensures c.if-rule-eq0.true
+    let a = c.args in apply-none a.work.now a.top a.rules a.u a.w a.limit c.requires _ c.first_fit-rule.ensures c.if-rule-eq0.true
 
 transcribe-requires : tie.Need-transcribe-requires
 transcribe-requires c κs =
-    let a = c.before.before.before.before.before.before.before.before.before.before.before.before.before.args in apply-asks a.work.now a.top a.rules a.u a.w a.limit c.before.before.before.before.before.before.before.before.before.before.before.before.before.requires _ c.before.before.before.before.before.before.before.before.before.before.first_fit-rule.ensures c.before.before.before.before.before.before.before.before.before.if-rule-eq0.false _ _ c.before.before.before.before.before.before.before.reference-p.ensures c.before.before.before.before.before.reference-t.ensures _ c.before.before.bind.ensures
+    let a = c.args in apply-asks a.work.now a.top a.rules a.u a.w a.limit c.requires _ c.first_fit-rule.ensures c.if-rule-eq0.false _ _ c.reference-p.ensures c.reference-t.ensures _ c.bind.ensures
 
 returns-2 : tie.Need-returns
 returns-2 c =
-    let a = c.before.before.before.before.before.before.before.before.before.before.before.before.before.before.before.before.args in apply-stepped a.work.now a.top a.rules a.u a.w a.limit c.before.before.before.before.before.before.before.before.before.before.before.before.before.before.before.before.requires _ c.before.before.before.before.before.before.before.before.before.before.before.before.before.first_fit-rule.ensures c.before.before.before.before.before.before.before.before.before.before.before.before.if-rule-eq0.false _ _ c.before.before.before.before.before.before.before.before.before.before.reference-p.ensures c.before.before.before.before.before.before.before.before.reference-t.ensures _ c.before.before.before.before.before.bind.ensures _ _ c.before.before.transcribe.ensures
+    let a = c.args in apply-stepped a.work.now a.top a.rules a.u a.w a.limit c.requires _ c.first_fit-rule.ensures c.if-rule-eq0.false _ _ c.reference-p.ensures c.reference-t.ensures _ c.bind.ensures _ _ c.transcribe.ensures
 
 pub apply_spec : {M : Type 1} → statement M
 apply_spec =

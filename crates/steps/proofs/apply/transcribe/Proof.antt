@@ -9,39 +9,39 @@ use mathlib.Core.Path.{sym, ◌∙◌}
 
 build-requires : tie.Need-build-requires
 build-requires c κs =
-    let a = c.before.before.args in transcribe-buildable a.work.now a.top a.env.now a.w a.t a.limit c.before.before.requires
+    let a = c.args in transcribe-buildable a.work.now a.top a.env.now a.w a.t a.limit c.requires
 
 lengths-agree-requires : tie.Need-lengths_agree-requires
 lengths-agree-requires c κs =
-    let a = c.before.before.before.before.before.before.before.before.before.args in transcribe-plain a.work.now a.top a.env.now a.w a.t a.limit c.before.before.before.before.before.before.before.before.before.requires _ (stops_at a.work.now c.before.before.before.before.before.before.build.new.0 a.top a.limit a.env.now a.w a.t _ (sym c.before.before.before.parts.ensures ∙ c.before.enum_told-1.given.1) c.before.before.before.before.before.before.build.ensures)
+    let a = c.args in transcribe-plain a.work.now a.top a.env.now a.w a.t a.limit c.requires _ (stops_at a.work.now c.build.new.work a.top a.limit a.env.now a.w a.t _ (sym c.parts.ensures ∙ c.in_default.is) c.build.ensures)
 
 same_length : tie.Need-shape_of-work-then-lengths_agree
 same_length c =
-    c.before.before.before.before.before.before.before.before.build.auto.0
+    c.build.auto.work
 
 returns : tie.Need-returns-then-lengths_agree
 returns c =
-    let a = c.before.before.before.before.before.before.before.before.before.before.before.args in transcribed-costly a.work.now a.top a.env.now a.w a.t a.limit c.before.before.before.before.before.before.before.before.before.before.before.requires _ (stops_at a.work.now c.before.before.before.before.before.before.before.before.build.new.0 a.top a.limit a.env.now a.w a.t _ (sym c.before.before.before.before.before.parts.ensures ∙ c.before.before.before.enum_told-1.given.1) c.before.before.before.before.before.before.before.before.build.ensures) _ c.before.lengths_agree.ensures c.if-lengths_agree.true
+    let a = c.args in transcribed-costly a.work.now a.top a.env.now a.w a.t a.limit c.requires _ (stops_at a.work.now c.build.new.work a.top a.limit a.env.now a.w a.t _ (sym c.parts.ensures ∙ c.in_default.is) c.build.ensures) _ c.lengths_agree.ensures c.if-lengths_agree.true
 
 same-length-2 : tie.Need-shape_of-work-in_default
 same-length-2 c =
-    c.before.before.before.before.before.before.before.before.build.auto.0
+    c.build.auto.work
 
 returns-2 : tie.Need-returns-in_default
 returns-2 c =
-    let a = c.before.before.before.before.before.before.before.before.before.before.before.args in transcribed-differ a.work.now a.top a.env.now a.w a.t a.limit c.before.before.before.before.before.before.before.before.before.before.before.requires _ (stops_at a.work.now c.before.before.before.before.before.before.before.before.build.new.0 a.top a.limit a.env.now a.w a.t _ (sym c.before.before.before.before.before.parts.ensures ∙ c.before.before.before.enum_told-1.given.1) c.before.before.before.before.before.before.before.before.build.ensures) _ c.before.lengths_agree.ensures c.if-lengths_agree.false
+    let a = c.args in transcribed-differ a.work.now a.top a.env.now a.w a.t a.limit c.requires _ (stops_at a.work.now c.build.new.work a.top a.limit a.env.now a.w a.t _ (sym c.parts.ensures ∙ c.in_default.is) c.build.ensures) _ c.lengths_agree.ensures c.if-lengths_agree.false
 
 sub-t16 : tie.Need-overflow_sub-result
 sub-t16 c =
-    let a = c.before.before.before.before.before.before.before.before.before.args in let g = gives_at a.work.now c.before.before.before.before.before.before.build.new.0 a.top a.limit a.env.now a.w a.t _ _ _ (sym c.before.before.before.parts.ensures ∙ c.before.root-1.given.1) c.before.before.before.before.before.before.build.ensures in omega (arith, g.paid.spent)
+    let a = c.args in let g = gives_at a.work.now c.build.new.work a.top a.limit a.env.now a.w a.t _ _ _ (sym c.parts.ensures ∙ c.in-At.is) c.build.ensures in omega (arith, g.paid.spent)
 
 same-length-3 : tie.Need-shape_of-work
 same-length-3 c =
-    c.before.before.before.before.before.before.build.auto.0
+    c.build.auto.work
 
 returns-3 : tie.Need-returns
 returns-3 c =
-    let a = c.before.before.before.before.before.before.before.before.before.args in transcribed-done a.work.now a.top a.env.now a.w a.t a.limit c.before.before.before.before.before.before.before.before.before.requires _ _ _ (gives_at a.work.now c.before.before.before.before.before.before.build.new.0 a.top a.limit a.env.now a.w a.t _ _ _ (sym c.before.before.before.parts.ensures ∙ c.before.root-1.given.1) c.before.before.before.before.before.before.build.ensures)
+    let a = c.args in transcribed-done a.work.now a.top a.env.now a.w a.t a.limit c.requires _ _ _ (gives_at a.work.now c.build.new.work a.top a.limit a.env.now a.w a.t _ _ _ (sym c.parts.ensures ∙ c.in-At.is) c.build.ensures)
 
 pub transcribe_spec : {M : Type 1} → statement M
 transcribe_spec =

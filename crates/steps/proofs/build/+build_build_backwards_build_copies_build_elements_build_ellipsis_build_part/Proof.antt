@@ -167,70 +167,70 @@ build-part-claims t = (word-reads.Asked, word-reads.Learnt, build-leaf-reads.Ask
 
 build-build-ellipsis-requires : (t : ℕ) → build-lts.Need-build_ellipsis-requires (build-claims t) (build-at t) build.Post
 build-build-ellipsis-requires t c κs =
-    (omega (arith, c.before.before.before.before.before.requires.0), (c.before.before.before.before.before.requires.1, sym c.before.before.word-tag.ensures ∙ c.before.if-tag-eq-ELLIPSIS.true))
+    (omega (arith, c.requires.0), (c.requires.1, sym c.word-tag.ensures ∙ c.if-tag-eq-ELLIPSIS.true))
 
 build-same-length : (t : ℕ) → build-lts.Need-shape_of-work-then-tag-eq-ELLIPSIS (build-claims t) (build-at t) build.Post
 build-same-length t c =
-    c.before.before.build_ellipsis.auto.0
+    c.build_ellipsis.auto.work
 
 build-returns : (t : ℕ) → build-lts.Need-returns-then-tag-eq-ELLIPSIS (build-claims t) (build-at t) build.Post
 build-returns t c =
-    c.before.before.build_ellipsis.ensures
+    c.build_ellipsis.ensures
 
 build-build-leaf-requires : (t : ℕ) → build-lts.Need-build_leaf-requires (build-claims t) (build-at t) build.Post
 build-build-leaf-requires t c κs =
-    (c.before.before.before.before.before.before.requires.1, λ z. c.before.if-tag-ne-PAIR.true (c.before.before.before.word-tag.ensures ∙ z), λ z. c.before.before.if-tag-eq-ELLIPSIS.false (c.before.before.before.word-tag.ensures ∙ z))
+    (c.requires.1, λ z. c.if-tag-ne-PAIR.true (c.word-tag.ensures ∙ z), λ z. c.if-tag-eq-ELLIPSIS.false (c.word-tag.ensures ∙ z))
 
 build-same-length-2 : (t : ℕ) → build-lts.Need-shape_of-work-then-tag-ne-PAIR (build-claims t) (build-at t) build.Post
 build-same-length-2 t c =
-    c.before.before.build_leaf.auto.0
+    c.build_leaf.auto.work
 
 build-returns-2 : (t : ℕ) → build-lts.Need-returns-then-tag-ne-PAIR (build-claims t) (build-at t) build.Post
 build-returns-2 t c =
-    c.before.before.build_leaf.ensures
+    c.build_leaf.ensures
 
 build-returns-3 : (t : ℕ) → build-lts.Need-returns-then-fuel-eq0 (build-claims t) (build-at t) build.Post
 unfolding built_of
 build-returns-3 t c =
-    let a = c.before.before.before.before.before.before.args in made_none a.work.now a.top a.fuel a.env.now a.w a.t _ c.before.before.before.word-tag.ensures c.before.before.before.before.before.before.requires.1 c.if-fuel-eq0.true
+    let a = c.args in made_none a.work.now a.top a.fuel a.env.now a.w a.t _ c.word-tag.ensures c.requires.1 c.if-fuel-eq0.true
 
 build-build-part-requires : (t : ℕ) → build-lts.Need-build_part-requires (build-claims t) (build-at t) build.Post
 build-build-part-requires t c κs =
-    let a = c.before.before.before.before.before.before.before.before.before.before.before.args in let l = tag-falls a.work.now a.t _ c.before.before.before.before.before.before.before.before.word-tag.ensures 2 _ (λ z. omega (arith, c.before.before.before.before.before.before.if-tag-ne-PAIR.false)) c.before.reference-rest.ensures in (omega (arith, l, c.before.before.before.before.before.before.before.before.before.before.before.requires.0), pair-tail a.work.now a.top a.fuel a.env.now a.w a.t _ c.before.before.before.before.before.before.before.before.word-tag.ensures c.before.before.before.before.before.before.before.before.before.before.before.requires.1 _ _ c.before.before.before.reference-first.ensures c.before.reference-rest.ensures c.before.before.before.before.before.before.if-tag-ne-PAIR.false _ c.before.before.before.before.before.if-fuel-eq0.false refl)
+    let a = c.args in let l = tag-falls a.work.now a.t _ c.word-tag.ensures 2 _ (λ z. omega (arith, c.if-tag-ne-PAIR.false)) c.reference-rest.ensures in (omega (arith, l, c.requires.0), pair-tail a.work.now a.top a.fuel a.env.now a.w a.t _ c.word-tag.ensures c.requires.1 _ _ c.reference-first.ensures c.reference-rest.ensures c.if-tag-ne-PAIR.false _ c.if-fuel-eq0.false refl)
 
 build-same-length-4 : (t : ℕ) → build-lts.Need-shape_of-work-in_default (build-claims t) (build-at t) build.Post
 build-same-length-4 t c =
-    c.before.before.before.before.before.build_part.auto.0
+    c.build_part.auto.work
 
 build-returns-4 : (t : ℕ) → build-lts.Need-returns-in_default (build-claims t) (build-at t) build.Post
 unfolding built_of
 build-returns-4 t c =
-    let a = c.before.before.before.before.before.before.before.before.before.before.before.before.before.before.before.before.before.args in pair-tail-costly a.work.now a.top a.fuel a.env.now a.w a.t _ c.before.before.before.before.before.before.before.before.before.before.before.before.before.before.word-tag.ensures c.before.before.before.before.before.before.before.before.before.before.before.before.before.before.before.before.before.requires.1 _ _ c.before.before.before.before.before.before.before.before.before.reference-first.ensures c.before.before.before.before.before.before.before.reference-rest.ensures c.before.before.before.before.before.before.before.before.before.before.before.before.if-tag-ne-PAIR.false _ c.before.before.before.before.before.before.before.before.before.before.before.if-fuel-eq0.false refl _ (stops_at a.work.now c.before.before.before.before.before.build_part.new.0 a.top (a.fuel - 1) a.env.now a.w c.before.before.before.before.before.before.before.reference-rest.result _ (sym c.before.before.parts.ensures ∙ c.enum_told-1.given.1) c.before.before.before.before.before.build_part.ensures)
+    let a = c.args in pair-tail-costly a.work.now a.top a.fuel a.env.now a.w a.t _ c.word-tag.ensures c.requires.1 _ _ c.reference-first.ensures c.reference-rest.ensures c.if-tag-ne-PAIR.false _ c.if-fuel-eq0.false refl _ (stops_at a.work.now c.build_part.new.work a.top (a.fuel - 1) a.env.now a.w c.reference-rest.result _ (sym c.parts.ensures ∙ c.in_default.is) c.build_part.ensures)
 
 build-build-part-requires-2 : (t : ℕ) → build-lts.Need-build_part-requires-2 (build-claims t) (build-at t) build.Post
 build-build-part-requires-2 t c κs =
-    let a = c.before.before.before.before.before.before.before.before.before.before.before.before.before.before.before.before.before.before.before.args in let l = tag-falls a.work.now a.t _ c.before.before.before.before.before.before.before.before.before.before.before.before.before.before.before.before.word-tag.ensures 3 _ (λ z. omega (arith, c.before.before.before.before.before.before.before.before.before.before.before.before.before.before.if-tag-ne-PAIR.false)) c.before.before.before.before.before.before.before.before.before.before.before.reference-first.ensures in (omega (arith, l, c.before.before.before.before.before.before.before.before.before.before.before.before.before.before.before.before.before.before.before.requires.0), pair-head a.work.now a.top a.fuel a.env.now a.w a.t _ c.before.before.before.before.before.before.before.before.before.before.before.before.before.before.before.before.word-tag.ensures c.before.before.before.before.before.before.before.before.before.before.before.before.before.before.before.before.before.before.before.requires.1 _ _ c.before.before.before.before.before.before.before.before.before.before.before.reference-first.ensures c.before.before.before.before.before.before.before.before.before.reference-rest.ensures c.before.before.before.before.before.before.before.before.before.before.before.before.before.before.if-tag-ne-PAIR.false _ c.before.before.before.before.before.before.before.before.before.before.before.before.before.if-fuel-eq0.false refl _ _ _ (gives_at a.work.now c.before.before.before.before.before.before.before.build_part.new.0 a.top (a.fuel - 1) a.env.now a.w c.before.before.before.before.before.before.before.before.before.reference-rest.result _ _ _ (sym c.before.before.before.before.parts.ensures ∙ c.before.before.tail-1.given.1) c.before.before.before.before.before.before.before.build_part.ensures) c.before.before.before.before.before.before.before.build_part.auto.0)
+    let a = c.args in let l = tag-falls a.work.now a.t _ c.word-tag.ensures 3 _ (λ z. omega (arith, c.if-tag-ne-PAIR.false)) c.reference-first.ensures in (omega (arith, l, c.requires.0), pair-head a.work.now a.top a.fuel a.env.now a.w a.t _ c.word-tag.ensures c.requires.1 _ _ c.reference-first.ensures c.reference-rest.ensures c.if-tag-ne-PAIR.false _ c.if-fuel-eq0.false refl _ _ _ (gives_at a.work.now c.build_part.new.work a.top (a.fuel - 1) a.env.now a.w c.reference-rest.result _ _ _ (sym c.parts.ensures ∙ c.in-At.is) c.build_part.ensures) c.build_part.auto.work)
 
 build-same-length-5 : (t : ℕ) → build-lts.Need-shape_of-work-in_default-parts (build-claims t) (build-at t) build.Post
 build-same-length-5 t c =
-    c.before.before.before.before.before.build_part-2.auto.0 ∙ c.before.before.before.before.before.before.before.before.before.before.before.before.before.build_part.auto.0
+    c.build_part-2.auto.work ∙ c.build_part.auto.work
 
 build-returns-5 : (t : ℕ) → build-lts.Need-returns-in_default-parts (build-claims t) (build-at t) build.Post
 unfolding built_of
 build-returns-5 t c =
-    let a = c.before.before.before.before.before.before.before.before.before.before.before.before.before.before.before.before.before.before.before.before.before.before.before.before.before.args in pair-head-costly a.work.now a.top a.fuel a.env.now a.w a.t _ c.before.before.before.before.before.before.before.before.before.before.before.before.before.before.before.before.before.before.before.before.before.before.word-tag.ensures c.before.before.before.before.before.before.before.before.before.before.before.before.before.before.before.before.before.before.before.before.before.before.before.before.before.requires.1 _ _ c.before.before.before.before.before.before.before.before.before.before.before.before.before.before.before.before.before.reference-first.ensures c.before.before.before.before.before.before.before.before.before.before.before.before.before.before.before.reference-rest.ensures c.before.before.before.before.before.before.before.before.before.before.before.before.before.before.before.before.before.before.before.before.if-tag-ne-PAIR.false _ c.before.before.before.before.before.before.before.before.before.before.before.before.before.before.before.before.before.before.before.if-fuel-eq0.false refl _ _ _ (gives_at a.work.now c.before.before.before.before.before.before.before.before.before.before.before.before.before.build_part.new.0 a.top (a.fuel - 1) a.env.now a.w c.before.before.before.before.before.before.before.before.before.before.before.before.before.before.before.reference-rest.result _ _ _ (sym c.before.before.before.before.before.before.before.before.before.before.parts.ensures ∙ c.before.before.before.before.before.before.before.before.tail-1.given.1) c.before.before.before.before.before.before.before.before.before.before.before.before.before.build_part.ensures) c.before.before.before.before.before.before.before.before.before.before.before.before.before.build_part.auto.0 _ (stops_at c.before.before.before.before.before.before.before.before.before.before.before.before.before.build_part.new.0 c.before.before.before.before.before.build_part-2.new.0 _ _ a.env.now a.w c.before.before.before.before.before.before.before.before.before.before.before.before.before.before.before.before.before.reference-first.result _ (sym c.before.before.parts-2.ensures ∙ c.enum_told-in_default-parts-1.given.1) c.before.before.before.before.before.build_part-2.ensures)
+    let a = c.args in pair-head-costly a.work.now a.top a.fuel a.env.now a.w a.t _ c.word-tag.ensures c.requires.1 _ _ c.reference-first.ensures c.reference-rest.ensures c.if-tag-ne-PAIR.false _ c.if-fuel-eq0.false refl _ _ _ (gives_at a.work.now c.build_part.new.work a.top (a.fuel - 1) a.env.now a.w c.reference-rest.result _ _ _ (sym c.parts.ensures ∙ c.in-At.is) c.build_part.ensures) c.build_part.auto.work _ (stops_at c.build_part.new.work c.build_part-2.new.work _ _ a.env.now a.w c.reference-first.result _ (sym c.parts-2.ensures ∙ c.in_default-parts.is) c.build_part-2.ensures)
 
 build-put-pair-requires : (t : ℕ) → build-lts.Need-put_pair-requires (build-claims t) (build-at t) build.Post
 build-put-pair-requires t c κs =
-    let a = c.before.before.before.before.before.before.before.before.before.before.before.before.before.before.before.before.before.before.before.before.before.before.before.before.before.before.before.args in let h = gives_at c.before.before.before.before.before.before.before.before.before.before.before.before.before.before.before.build_part.new.0 c.before.before.before.before.before.before.before.build_part-2.new.0 _ _ a.env.now a.w c.before.before.before.before.before.before.before.before.before.before.before.before.before.before.before.before.before.before.before.reference-first.result _ _ _ (sym c.before.before.before.before.parts-2.ensures ∙ c.before.before.head-1.given.1) c.before.before.before.before.before.before.before.build_part-2.ensures in (pair-room a.work.now a.top a.fuel a.env.now a.w a.t _ c.before.before.before.before.before.before.before.before.before.before.before.before.before.before.before.before.before.before.before.before.before.before.before.before.word-tag.ensures c.before.before.before.before.before.before.before.before.before.before.before.before.before.before.before.before.before.before.before.before.before.before.before.before.before.before.before.requires.1 _ _ c.before.before.before.before.before.before.before.before.before.before.before.before.before.before.before.before.before.before.before.reference-first.ensures c.before.before.before.before.before.before.before.before.before.before.before.before.before.before.before.before.before.reference-rest.ensures c.before.before.before.before.before.before.before.before.before.before.before.before.before.before.before.before.before.before.before.before.before.before.if-tag-ne-PAIR.false _ c.before.before.before.before.before.before.before.before.before.before.before.before.before.before.before.before.before.before.before.before.before.if-fuel-eq0.false refl _ _ _ (gives_at a.work.now c.before.before.before.before.before.before.before.before.before.before.before.before.before.before.before.build_part.new.0 a.top (a.fuel - 1) a.env.now a.w c.before.before.before.before.before.before.before.before.before.before.before.before.before.before.before.before.before.reference-rest.result _ _ _ (sym c.before.before.before.before.before.before.before.before.before.before.before.before.parts.ensures ∙ c.before.before.before.before.before.before.before.before.before.before.tail-1.given.1) c.before.before.before.before.before.before.before.before.before.before.before.before.before.before.before.build_part.ensures) c.before.before.before.before.before.before.before.before.before.before.before.before.before.before.before.build_part.auto.0 _ _ _ h c.before.before.before.before.before.before.before.build_part-2.auto.0, omega arith, h.paid.above)
+    let a = c.args in let h = gives_at c.build_part.new.work c.build_part-2.new.work _ _ a.env.now a.w c.reference-first.result _ _ _ (sym c.parts-2.ensures ∙ c.in-At-parts.is) c.build_part-2.ensures in (pair-room a.work.now a.top a.fuel a.env.now a.w a.t _ c.word-tag.ensures c.requires.1 _ _ c.reference-first.ensures c.reference-rest.ensures c.if-tag-ne-PAIR.false _ c.if-fuel-eq0.false refl _ _ _ (gives_at a.work.now c.build_part.new.work a.top (a.fuel - 1) a.env.now a.w c.reference-rest.result _ _ _ (sym c.parts.ensures ∙ c.in-At.is) c.build_part.ensures) c.build_part.auto.work _ _ _ h c.build_part-2.auto.work, omega arith, h.paid.above)
 
 build-same-length-6 : (t : ℕ) → build-lts.Need-shape_of-work (build-claims t) (build-at t) build.Post
 build-same-length-6 t c =
-    c.before.before.before.put_pair.auto.0 ∙ c.before.before.before.before.before.before.before.before.before.before.before.build_part-2.auto.0 ∙ c.before.before.before.before.before.before.before.before.before.before.before.before.before.before.before.before.before.before.before.build_part.auto.0
+    c.put_pair.auto.work ∙ c.build_part-2.auto.work ∙ c.build_part.auto.work
 
 build-returns-6 : (t : ℕ) → build-lts.Need-returns (build-claims t) (build-at t) build.Post
 build-returns-6 t c =
-    let a = c.before.before.before.before.before.before.before.before.before.before.before.before.before.before.before.before.before.before.before.before.before.before.before.before.before.before.before.before.before.before.before.args in made-packed a.work.now _ a.top a.fuel a.env.now a.w a.t _ _ _ c.before.before.before.before.before.before.before.before.before.before.before.before.before.before.before.before.before.before.before.before.before.before.before.before.before.before.before.before.before.before.before.requires.1 c.pair.ensures (made_pair a.work.now a.top a.fuel a.env.now a.w a.t _ c.before.before.before.before.before.before.before.before.before.before.before.before.before.before.before.before.before.before.before.before.before.before.before.before.before.before.before.before.word-tag.ensures c.before.before.before.before.before.before.before.before.before.before.before.before.before.before.before.before.before.before.before.before.before.before.before.before.before.before.before.before.before.before.before.requires.1 _ _ c.before.before.before.before.before.before.before.before.before.before.before.before.before.before.before.before.before.before.before.before.before.before.before.reference-first.ensures c.before.before.before.before.before.before.before.before.before.before.before.before.before.before.before.before.before.before.before.before.before.reference-rest.ensures c.before.before.before.before.before.before.before.before.before.before.before.before.before.before.before.before.before.before.before.before.before.before.before.before.before.before.if-tag-ne-PAIR.false _ c.before.before.before.before.before.before.before.before.before.before.before.before.before.before.before.before.before.before.before.before.before.before.before.before.before.if-fuel-eq0.false refl _ _ _ (gives_at a.work.now c.before.before.before.before.before.before.before.before.before.before.before.before.before.before.before.before.before.before.before.build_part.new.0 a.top (a.fuel - 1) a.env.now a.w c.before.before.before.before.before.before.before.before.before.before.before.before.before.before.before.before.before.before.before.before.before.reference-rest.result _ _ _ (sym c.before.before.before.before.before.before.before.before.before.before.before.before.before.before.before.before.parts.ensures ∙ c.before.before.before.before.before.before.before.before.before.before.before.before.before.before.tail-1.given.1) c.before.before.before.before.before.before.before.before.before.before.before.before.before.before.before.before.before.before.before.build_part.ensures) c.before.before.before.before.before.before.before.before.before.before.before.before.before.before.before.before.before.before.before.build_part.auto.0 _ _ _ (gives_at c.before.before.before.before.before.before.before.before.before.before.before.before.before.before.before.before.before.before.before.build_part.new.0 c.before.before.before.before.before.before.before.before.before.before.before.build_part-2.new.0 _ _ a.env.now a.w c.before.before.before.before.before.before.before.before.before.before.before.before.before.before.before.before.before.before.before.before.before.before.before.reference-first.result _ _ _ (sym c.before.before.before.before.before.before.before.before.parts-2.ensures ∙ c.before.before.before.before.before.before.head-1.given.1) c.before.before.before.before.before.before.before.before.before.before.before.build_part-2.ensures) _ _ c.before.before.before.put_pair.ensures)
+    let a = c.args in made-packed a.work.now _ a.top a.fuel a.env.now a.w a.t _ _ _ c.requires.1 c.pair.ensures (made_pair a.work.now a.top a.fuel a.env.now a.w a.t _ c.word-tag.ensures c.requires.1 _ _ c.reference-first.ensures c.reference-rest.ensures c.if-tag-ne-PAIR.false _ c.if-fuel-eq0.false refl _ _ _ (gives_at a.work.now c.build_part.new.work a.top (a.fuel - 1) a.env.now a.w c.reference-rest.result _ _ _ (sym c.parts.ensures ∙ c.in-At.is) c.build_part.ensures) c.build_part.auto.work _ _ _ (gives_at c.build_part.new.work c.build_part-2.new.work _ _ a.env.now a.w c.reference-first.result _ _ _ (sym c.parts-2.ensures ∙ c.in-At-parts.is) c.build_part-2.ensures) _ _ c.put_pair.ensures)
 
 abbrev build-backwards-Inv-loop : build-backwards-lts.invariant-loop-k
 build-backwards-Inv-loop work₀ top fuel env w e c moving table₀ list₀ left₀ k₀ work table list left k =
@@ -242,172 +242,170 @@ build-backwards-μ-loop work₀ top fuel env w e c moving table₀ list₀ left�
 
 build-backwards-loop-holds : (t : ℕ) → build-backwards-lts.Need-loop-k-init (build-backwards-claims t) (build-backwards-at t) build-backwards.Post build-backwards-Inv-loop build-backwards-μ-loop
 build-backwards-loop-holds t c =
-    let a = c.before.before.before.args in turning-begins a.work.now a.top a.fuel a.env.now a.w a.e a.c c.before.before.before.requires.1 _ (c.begin-moving.ensures.0 a.work.now) c.begin-moving.ensures.1
+    let a = c.args in turning-begins a.work.now a.top a.fuel a.env.now a.w a.e a.c c.requires.1 _ (c.begin-moving.ensures.0 a.work.now) c.begin-moving.ensures.1
 
 build-backwards-same-length : (t : ℕ) → build-backwards-lts.Need-shape_of-work-then-left-eq0 (build-backwards-claims t) (build-backwards-at t) build-backwards.Post build-backwards-Inv-loop build-backwards-μ-loop
 build-backwards-same-length t c =
-    c.before.before.loop-k.invariant.long
+    c.loop-k.invariant.long
 
 build-backwards-returns : (t : ℕ) → build-backwards-lts.Need-returns-then-left-eq0 (build-backwards-claims t) (build-backwards-at t) build-backwards.Post build-backwards-Inv-loop build-backwards-μ-loop
 unfolding built_of
 build-backwards-returns t c =
-    let a = c.before.before.before.before.before.before.args in copies-none a.work.now a.top a.fuel a.env.now a.w a.e a.c c.before.before.before.before.before.before.requires.1 _ _ _ _ _ c.before.before.loop-k.invariant c.before.loop-k-test.true c.if-left-eq0.true
+    let a = c.args in copies-none a.work.now a.top a.fuel a.env.now a.w a.e a.c c.requires.1 _ _ _ _ _ c.loop-k.invariant c.loop-k-test.true c.if-left-eq0.true
 
 build-backwards-enter-requires : (t : ℕ) → build-backwards-lts.Need-enter-requires (build-backwards-claims t) (build-backwards-at t) build-backwards.Post build-backwards-Inv-loop build-backwards-μ-loop
 build-backwards-enter-requires t c κs =
-    let a = c.before.before.before.before.before.before.before.before.args in
-    let begin = c.before.before.before.before.before.begin-moving in
-    let loop = c.before.before.before.before.loop-k in
-    moving-along loop.work a.env.now _ loop.k _ loop.invariant.along begin.ensures.2
+    let a = c.args in
+    moving-along c.loop-k.work a.env.now _ c.loop-k.k _ c.loop-k.invariant.along c.begin-moving.ensures.2
 
 build-backwards-build-part-requires : (t : ℕ) → build-backwards-lts.Need-build_part-word-requires (build-backwards-claims t) (build-backwards-at t) build-backwards.Post build-backwards-Inv-loop build-backwards-μ-loop
 build-backwards-build-part-requires t c κs =
-    let a = c.before.before.before.before.before.before.before.before.before.before.before.args in (omega (arith, c.before.before.before.before.before.before.before.before.before.before.before.requires.0), copy-buildable a.work.now a.top a.fuel a.env.now a.w a.e a.c c.before.before.before.before.before.before.before.before.before.before.before.requires.1 _ _ _ _ _ c.before.before.before.before.before.before.before.loop-k.invariant c.before.before.before.before.before.before.loop-k-test.true c.before.before.before.before.before.if-left-eq0.false _ c.before.before.enter.ensures)
+    let a = c.args in (omega (arith, c.requires.0), copy-buildable a.work.now a.top a.fuel a.env.now a.w a.e a.c c.requires.1 _ _ _ _ _ c.loop-k.invariant c.loop-k-test.true c.if-left-eq0.false _ c.enter.ensures)
 
 build-backwards-same-length-2 : (t : ℕ) → build-backwards-lts.Need-shape_of-work-in_default (build-backwards-claims t) (build-backwards-at t) build-backwards.Post build-backwards-Inv-loop build-backwards-μ-loop
 build-backwards-same-length-2 t c =
-    c.before.before.before.before.before.build_part-word.auto.0 ∙ c.before.before.before.before.before.before.before.before.before.before.before.before.before.loop-k.invariant.long
+    c.build_part-word.auto.work ∙ c.loop-k.invariant.long
 
 build-backwards-returns-2 : (t : ℕ) → build-backwards-lts.Need-returns-in_default (build-backwards-claims t) (build-backwards-at t) build-backwards.Post build-backwards-Inv-loop build-backwards-μ-loop
 unfolding built_of
 build-backwards-returns-2 t c =
-    let a = c.before.before.before.before.before.before.before.before.before.before.before.before.before.before.before.before.before.args in copy-costly a.work.now a.top a.fuel a.env.now a.w a.e a.c c.before.before.before.before.before.before.before.before.before.before.before.before.before.before.before.before.before.requires.1 _ _ _ _ _ c.before.before.before.before.before.before.before.before.before.before.before.before.before.loop-k.invariant c.before.before.before.before.before.before.before.before.before.before.before.before.loop-k-test.true c.before.before.before.before.before.before.before.before.before.before.before.if-left-eq0.false _ c.before.before.before.before.before.before.before.before.enter.ensures _ (stops_at c.before.before.before.before.before.before.before.before.before.before.before.before.before.loop-k.work c.before.before.before.before.before.build_part-word.new.0 c.before.before.before.before.before.before.before.before.before.before.before.before.before.loop-k.list (c.before.before.before.before.before.before.before.before.before.before.before.before.before.loop-k.left - 1) c.before.before.before.before.before.before.before.before.enter.new.1.0 a.w a.e _ (sym c.before.before.parts.ensures ∙ c.enum_told-1.given.1) c.before.before.before.before.before.build_part-word.ensures)
+    let a = c.args in copy-costly a.work.now a.top a.fuel a.env.now a.w a.e a.c c.requires.1 _ _ _ _ _ c.loop-k.invariant c.loop-k-test.true c.if-left-eq0.false _ c.enter.ensures _ (stops_at c.loop-k.work c.build_part-word.new.work c.loop-k.list (c.loop-k.left - 1) c.enter.new.env a.w a.e _ (sym c.parts.ensures ∙ c.in_default.is) c.build_part-word.ensures)
 
 build-backwards-put-pair-requires : (t : ℕ) → build-backwards-lts.Need-put_pair-list-requires (build-backwards-claims t) (build-backwards-at t) build-backwards.Post build-backwards-Inv-loop build-backwards-μ-loop
 build-backwards-put-pair-requires t c κs =
-    let a = c.before.before.before.before.before.before.before.before.before.before.before.before.before.before.before.before.before.before.before.args in let b = gives_at c.before.before.before.before.before.before.before.before.before.before.before.before.before.before.before.loop-k.work c.before.before.before.before.before.before.before.build_part-word.new.0 c.before.before.before.before.before.before.before.before.before.before.before.before.before.before.before.loop-k.list (c.before.before.before.before.before.before.before.before.before.before.before.before.before.before.before.loop-k.left - 1) c.before.before.before.before.before.before.before.before.before.before.enter.new.1.0 a.w a.e _ _ _ (sym c.before.before.before.before.parts.ensures ∙ c.before.before.head-1.given.1) c.before.before.before.before.before.before.before.build_part-word.ensures in (copy-room a.work.now a.top a.fuel a.env.now a.w a.e a.c c.before.before.before.before.before.before.before.before.before.before.before.before.before.before.before.before.before.before.before.requires.1 _ _ _ _ _ c.before.before.before.before.before.before.before.before.before.before.before.before.before.before.before.loop-k.invariant c.before.before.before.before.before.before.before.before.before.before.before.before.before.before.loop-k-test.true c.before.before.before.before.before.before.before.before.before.before.before.before.before.if-left-eq0.false _ c.before.before.before.before.before.before.before.before.before.before.enter.ensures _ _ _ b c.before.before.before.before.before.before.before.build_part-word.auto.0, omega arith, b.paid.above)
+    let a = c.args in let b = gives_at c.loop-k.work c.build_part-word.new.work c.loop-k.list (c.loop-k.left - 1) c.enter.new.env a.w a.e _ _ _ (sym c.parts.ensures ∙ c.in-At.is) c.build_part-word.ensures in (copy-room a.work.now a.top a.fuel a.env.now a.w a.e a.c c.requires.1 _ _ _ _ _ c.loop-k.invariant c.loop-k-test.true c.if-left-eq0.false _ c.enter.ensures _ _ _ b c.build_part-word.auto.work, omega arith, b.paid.above)
 
 build-backwards-loop-less : (t : ℕ) → build-backwards-lts.Need-loop-k-smaller (build-backwards-claims t) (build-backwards-at t) build-backwards.Post build-backwards-Inv-loop build-backwards-μ-loop
 build-backwards-loop-less t c =
-    omega (arith, c.before.before.before.before.before.before.before.before.before.before.before.before.before.before.before.before.before.loop-k-test.true)
+    omega (arith, c.loop-k-test.true)
 
 build-backwards-loop-again : (t : ℕ) → build-backwards-lts.Need-loop-k-preserved (build-backwards-claims t) (build-backwards-at t) build-backwards.Post build-backwards-Inv-loop build-backwards-μ-loop
 build-backwards-loop-again t c =
-    let a = c.before.before.before.before.before.before.before.before.before.before.before.before.before.before.before.before.before.before.before.before.before.before.args in turning-more a.work.now a.top a.fuel a.env.now a.w a.e a.c c.before.before.before.before.before.before.before.before.before.before.before.before.before.before.before.before.before.before.before.before.before.before.requires.1 _ _ _ _ _ c.before.before.before.before.before.before.before.before.before.before.before.before.before.before.before.before.before.before.loop-k.invariant c.before.before.before.before.before.before.before.before.before.before.before.before.before.before.before.before.before.loop-k-test.true c.before.before.before.before.before.before.before.before.before.before.before.before.before.before.before.before.if-left-eq0.false _ c.before.before.before.before.before.before.before.before.before.before.before.before.before.enter.ensures _ _ _ (gives_at c.before.before.before.before.before.before.before.before.before.before.before.before.before.before.before.before.before.before.loop-k.work c.before.before.before.before.before.before.before.before.before.before.build_part-word.new.0 c.before.before.before.before.before.before.before.before.before.before.before.before.before.before.before.before.before.before.loop-k.list (c.before.before.before.before.before.before.before.before.before.before.before.before.before.before.before.before.before.before.loop-k.left - 1) c.before.before.before.before.before.before.before.before.before.before.before.before.before.enter.new.1.0 a.w a.e _ _ _ (sym c.before.before.before.before.before.before.before.parts.ensures ∙ c.before.before.before.before.before.head-1.given.1) c.before.before.before.before.before.before.before.before.before.before.build_part-word.ensures) c.before.before.before.before.before.before.before.before.before.before.build_part-word.auto.0 _ _ c.before.before.put_pair-list.ensures c.before.before.put_pair-list.auto.0
+    let a = c.args in turning-more a.work.now a.top a.fuel a.env.now a.w a.e a.c c.requires.1 _ _ _ _ _ c.loop-k.invariant c.loop-k-test.true c.if-left-eq0.false _ c.enter.ensures _ _ _ (gives_at c.loop-k.work c.build_part-word.new.work c.loop-k.list (c.loop-k.left - 1) c.enter.new.env a.w a.e _ _ _ (sym c.parts.ensures ∙ c.in-At.is) c.build_part-word.ensures) c.build_part-word.auto.work _ _ c.put_pair-list.ensures c.put_pair-list.auto.work
 
 build-backwards-same-length-3 : (t : ℕ) → build-backwards-lts.Need-shape_of-work (build-backwards-claims t) (build-backwards-at t) build-backwards.Post build-backwards-Inv-loop build-backwards-μ-loop
 build-backwards-same-length-3 t c =
-    c.before.before.loop-k.invariant.long
+    c.loop-k.invariant.long
 
 build-backwards-returns-3 : (t : ℕ) → build-backwards-lts.Need-returns (build-backwards-claims t) (build-backwards-at t) build-backwards.Post build-backwards-Inv-loop build-backwards-μ-loop
 build-backwards-returns-3 t c =
-    let a = c.before.before.before.before.before.before.args in backwards-packed a.work.now a.top a.fuel a.env.now a.w a.e a.c c.before.before.before.before.before.before.requires.1 _ _ _ _ c.pair.ensures (turning-ends a.work.now a.top a.fuel a.env.now a.w a.e a.c c.before.before.before.before.before.before.requires.1 _ _ _ _ _ c.before.before.loop-k.invariant (omega (arith, c.before.loop-k-test.false)))
+    let a = c.args in backwards-packed a.work.now a.top a.fuel a.env.now a.w a.e a.c c.requires.1 _ _ _ _ c.pair.ensures (turning-ends a.work.now a.top a.fuel a.env.now a.w a.e a.c c.requires.1 _ _ _ _ _ c.loop-k.invariant (omega (arith, c.loop-k-test.false)))
 
 build-copies-build-elements-requires : (t : ℕ) → build-copies-lts.Need-build_elements-requires (build-copies-claims t) (build-copies-at t) build-copies.Post
 build-copies-build-elements-requires t c κs =
-    (omega (arith, c.before.before.requires.0), c.before.before.requires.1)
+    (omega (arith, c.requires.0), c.requires.1)
 
 build-copies-same-length : (t : ℕ) → build-copies-lts.Need-shape_of-work-in_default (build-copies-claims t) (build-copies-at t) build-copies.Post
 build-copies-same-length t c =
-    c.before.before.before.before.before.build_elements.auto.0
+    c.build_elements.auto.work
 
 build-copies-returns : (t : ℕ) → build-copies-lts.Need-returns-in_default (build-copies-claims t) (build-copies-at t) build-copies.Post
 unfolding built_of
 build-copies-returns t c =
-    let a = c.before.before.before.before.before.before.before.before.args in subst (Backwards a.work.now c.before.before.before.before.before.build_elements.new.0 a.top a.fuel a.env.now a.w a.e a.c) (sym c.before.before.parts.ensures ∙ c.enum_told-1.given.1) c.before.before.before.before.before.build_elements.ensures
+    let a = c.args in subst (Backwards a.work.now c.build_elements.new.work a.top a.fuel a.env.now a.w a.e a.c) (sym c.parts.ensures ∙ c.in_default.is) c.build_elements.ensures
 
 build-copies-put-reversed-requires : (t : ℕ) → build-copies-lts.Need-put_reversed-requires (build-copies-claims t) (build-copies-at t) build-copies.Post
 build-copies-put-reversed-requires t c κs =
-    let a = c.before.before.before.before.before.before.before.before.before.before.args in reversed-asks a.work.now a.top a.fuel a.env.now a.w a.e a.c c.before.before.before.before.before.before.before.before.before.before.requires.1 _ _ _ (subst (Backwards a.work.now c.before.before.before.before.before.before.before.build_elements.new.0 a.top a.fuel a.env.now a.w a.e a.c) (sym c.before.before.before.before.parts.ensures ∙ c.before.before.list-1.given.1) c.before.before.before.before.before.before.before.build_elements.ensures) c.before.before.before.before.before.before.before.build_elements.auto.0
+    let a = c.args in reversed-asks a.work.now a.top a.fuel a.env.now a.w a.e a.c c.requires.1 _ _ _ (subst (Backwards a.work.now c.build_elements.new.work a.top a.fuel a.env.now a.w a.e a.c) (sym c.parts.ensures ∙ c.in-At.is) c.build_elements.ensures) c.build_elements.auto.work
 
 build-copies-same-length-2 : (t : ℕ) → build-copies-lts.Need-shape_of-work (build-copies-claims t) (build-copies-at t) build-copies.Post
 build-copies-same-length-2 t c =
-    c.before.before.before.put_reversed.auto.0 ∙ c.before.before.before.before.before.before.before.before.before.before.before.build_elements.auto.0
+    c.put_reversed.auto.work ∙ c.build_elements.auto.work
 
 build-copies-returns-2 : (t : ℕ) → build-copies-lts.Need-returns (build-copies-claims t) (build-copies-at t) build-copies.Post
 build-copies-returns-2 t c =
-    let a = c.before.before.before.before.before.before.before.before.before.before.before.before.before.before.args in copied-packed a.work.now a.top a.fuel a.env.now a.w a.e a.c c.before.before.before.before.before.before.before.before.before.before.before.before.before.before.requires.1 _ _ _ (subst (Backwards a.work.now c.before.before.before.before.before.before.before.before.before.before.before.build_elements.new.0 a.top a.fuel a.env.now a.w a.e a.c) (sym c.before.before.before.before.before.before.before.before.parts.ensures ∙ c.before.before.before.before.before.before.list-1.given.1) c.before.before.before.before.before.before.before.before.before.before.before.build_elements.ensures) c.before.before.before.before.before.before.before.before.before.before.before.build_elements.auto.0 _ _ _ c.pair.ensures c.before.before.before.put_reversed.ensures
+    let a = c.args in copied-packed a.work.now a.top a.fuel a.env.now a.w a.e a.c c.requires.1 _ _ _ (subst (Backwards a.work.now c.build_elements.new.work a.top a.fuel a.env.now a.w a.e a.c) (sym c.parts.ensures ∙ c.in-At.is) c.build_elements.ensures) c.build_elements.auto.work _ _ _ c.pair.ensures c.put_reversed.ensures
 
 build-elements-build-backwards-requires :
     (t : ℕ) → build-elements-lts.Need-build_backwards-requires (build-elements-claims t) (build-elements-at t) build-elements.Post
 build-elements-build-backwards-requires t c κs =
-    (omega (arith, c.before.before.before.before.before.requires.0), c.before.before.before.before.before.requires.1)
+    (omega (arith, c.requires.0), c.requires.1)
 
 build-elements-same-length : (t : ℕ) → build-elements-lts.Need-shape_of-work-then-not-is_listed (build-elements-claims t) (build-elements-at t) build-elements.Post
 build-elements-same-length t c =
-    c.before.before.build_backwards.auto.0
+    c.build_backwards.auto.work
 
 build-elements-returns : (t : ℕ) → build-elements-lts.Need-returns-then-not-is_listed (build-elements-claims t) (build-elements-at t) build-elements.Post
 build-elements-returns t c =
-    c.before.before.build_backwards.ensures
+    c.build_backwards.ensures
 
 build-elements-copy-elements-requires : (t : ℕ) → build-elements-lts.Need-copy_elements-requires (build-elements-claims t) (build-elements-at t) build-elements.Post
 build-elements-copy-elements-requires t c κs =
-    let a = c.before.before.before.before.before.before.before.before.args in listed-waits a.work.now a.top a.fuel a.env.now a.w a.e a.c c.before.before.before.before.before.before.before.before.requires.1 (c.before.before.before.before.before.is_listed.ensures (not-false _ c.before.before.before.before.if-not-is_listed.false)) _ _ c.before.before.word-k.ensures c.before.taken-list.ensures
+    let a = c.args in listed-waits a.work.now a.top a.fuel a.env.now a.w a.e a.c c.requires.1 (c.is_listed.ensures (not-false _ c.if-not-is_listed.false-raw)) _ _ c.word-k.ensures c.taken-list.ensures
 
 build-elements-same-length-2 : (t : ℕ) → build-elements-lts.Need-shape_of-work (build-elements-claims t) (build-elements-at t) build-elements.Post
 build-elements-same-length-2 t c =
-    c.before.before.copy_elements.auto.0
+    c.copy_elements.auto.work
 
 build-elements-returns-2 : (t : ℕ) → build-elements-lts.Need-returns (build-elements-claims t) (build-elements-at t) build-elements.Post
 build-elements-returns-2 t c =
-    let a = c.before.before.before.before.before.before.before.before.before.before.before.args in listed-backwards a.work.now a.top a.fuel a.env.now a.w a.e a.c c.before.before.before.before.before.before.before.before.before.before.before.requires.1 (c.before.before.before.before.before.before.before.before.is_listed.ensures (not-false _ c.before.before.before.before.before.before.before.if-not-is_listed.false)) _ _ c.before.before.before.before.before.word-k.ensures c.before.before.before.before.taken-list.ensures c.before.before.copy_elements.new.0 (built_of c.before.before.copy_elements.result) c.before.before.copy_elements.ensures
+    let a = c.args in listed-backwards a.work.now a.top a.fuel a.env.now a.w a.e a.c c.requires.1 (c.is_listed.ensures (not-false _ c.if-not-is_listed.false-raw)) _ _ c.word-k.ensures c.taken-list.ensures c.copy_elements.new.work (built_of c.copy_elements.result) c.copy_elements.ensures
 
 build-ellipsis-returns : (t : ℕ) → build-ellipsis-lts.Need-returns-in_default (build-ellipsis-claims t) (build-ellipsis-at t) build-ellipsis.Post
 unfolding built_of
 build-ellipsis-returns t c =
-    let a = c.before.before.before.before.before.before.before.before.before.args in ellipsis-differs a.work.now a.top a.fuel a.env.now a.w a.t _ refl c.before.before.before.before.before.before.before.before.before.requires.1.0 _ _ c.before.before.before.before.before.before.reference-first.ensures c.before.before.before.before.reference-rest.ensures c.before.before.before.before.before.before.before.before.before.requires.1.1 (counted-differ _ _ _ _ c.enum_told-1.given.1 c.before.before.copies.ensures)
+    let a = c.args in ellipsis-differs a.work.now a.top a.fuel a.env.now a.w a.t _ refl c.requires.1.0 _ _ c.reference-first.ensures c.reference-rest.ensures c.requires.1.1 (counted-differ _ _ _ _ c.in_default.is c.copies.ensures)
 
 build-ellipsis-build-part-requires : (t : ℕ) → build-ellipsis-lts.Need-build_part-requires (build-ellipsis-claims t) (build-ellipsis-at t) build-ellipsis.Post
 build-ellipsis-build-part-requires t c κs =
-    let a = c.before.before.before.before.before.before.before.before.before.before.before.args in let l = tag-falls a.work.now a.t _ refl 2 _ (λ z. omega (arith, c.before.before.before.before.before.before.before.before.before.before.before.requires.1.1)) c.before.before.before.before.before.before.reference-rest.ensures in (omega (arith, l, c.before.before.before.before.before.before.before.before.before.before.before.requires.0), ellipsis-rest a.work.now a.top a.fuel a.env.now a.w a.t _ refl c.before.before.before.before.before.before.before.before.before.before.before.requires.1.0 _ _ c.before.before.before.before.before.before.before.before.reference-first.ensures c.before.before.before.before.before.before.reference-rest.ensures c.before.before.before.before.before.before.before.before.before.before.before.requires.1.1)
+    let a = c.args in let l = tag-falls a.work.now a.t _ refl 2 _ (λ z. omega (arith, c.requires.1.1)) c.reference-rest.ensures in (omega (arith, l, c.requires.0), ellipsis-rest a.work.now a.top a.fuel a.env.now a.w a.t _ refl c.requires.1.0 _ _ c.reference-first.ensures c.reference-rest.ensures c.requires.1.1)
 
 build-ellipsis-same-length-2 : (t : ℕ) → build-ellipsis-lts.Need-shape_of-work-in_default-parts (build-ellipsis-claims t) (build-ellipsis-at t) build-ellipsis.Post
 build-ellipsis-same-length-2 t c =
-    c.before.before.before.before.before.build_part.auto.0
+    c.build_part.auto.work
 
 build-ellipsis-returns-2 : (t : ℕ) → build-ellipsis-lts.Need-returns-in_default-parts (build-ellipsis-claims t) (build-ellipsis-at t) build-ellipsis.Post
 unfolding built_of
 build-ellipsis-returns-2 t c =
-    let a = c.before.before.before.before.before.before.before.before.before.before.before.before.before.before.before.before.before.args in ellipsis-rest-costly a.work.now a.top a.fuel a.env.now a.w a.t _ refl c.before.before.before.before.before.before.before.before.before.before.before.before.before.before.before.before.before.requires.1.0 _ _ c.before.before.before.before.before.before.before.before.before.before.before.before.before.before.reference-first.ensures c.before.before.before.before.before.before.before.before.before.before.before.before.reference-rest.ensures c.before.before.before.before.before.before.before.before.before.before.before.before.before.before.before.before.before.requires.1.1 _ (counted_of _ _ _ _ _ c.before.before.before.before.before.before.before.before.c-1.given.1 c.before.before.before.before.before.before.before.before.before.before.copies.ensures) _ (stops_at a.work.now c.before.before.before.before.before.build_part.new.0 a.top a.fuel a.env.now a.w c.before.before.before.before.before.before.before.before.before.before.before.before.reference-rest.result _ (sym c.before.before.parts.ensures ∙ c.enum_told-in_default-parts-1.given.1) c.before.before.before.before.before.build_part.ensures)
+    let a = c.args in ellipsis-rest-costly a.work.now a.top a.fuel a.env.now a.w a.t _ refl c.requires.1.0 _ _ c.reference-first.ensures c.reference-rest.ensures c.requires.1.1 _ (counted_of _ _ _ _ _ c.in-Of.is c.copies.ensures) _ (stops_at a.work.now c.build_part.new.work a.top a.fuel a.env.now a.w c.reference-rest.result _ (sym c.parts.ensures ∙ c.in_default-parts.is) c.build_part.ensures)
 
 build-ellipsis-build-copies-requires : (t : ℕ) → build-ellipsis-lts.Need-build_copies-requires (build-ellipsis-claims t) (build-ellipsis-at t) build-ellipsis.Post
 build-ellipsis-build-copies-requires t c κs =
-    let a = c.before.before.before.before.before.before.before.before.before.before.before.before.before.before.before.before.before.before.before.args in let l = tag-falls a.work.now a.t _ refl 3 _ (λ z. omega (arith, c.before.before.before.before.before.before.before.before.before.before.before.before.before.before.before.before.before.before.before.requires.1.1)) c.before.before.before.before.before.before.before.before.before.before.before.before.before.before.before.before.reference-first.ensures in (omega (arith, l, c.before.before.before.before.before.before.before.before.before.before.before.before.before.before.before.before.before.before.before.requires.0), ellipsis-copies a.work.now a.top a.fuel a.env.now a.w a.t _ refl c.before.before.before.before.before.before.before.before.before.before.before.before.before.before.before.before.before.before.before.requires.1.0 _ _ c.before.before.before.before.before.before.before.before.before.before.before.before.before.before.before.before.reference-first.ensures c.before.before.before.before.before.before.before.before.before.before.before.before.before.before.reference-rest.ensures c.before.before.before.before.before.before.before.before.before.before.before.before.before.before.before.before.before.before.before.requires.1.1 _ (counted_of _ _ _ _ _ c.before.before.before.before.before.before.before.before.before.before.c-1.given.1 c.before.before.before.before.before.before.before.before.before.before.before.before.copies.ensures) _ _ _ (gives_at a.work.now c.before.before.before.before.before.before.before.build_part.new.0 a.top a.fuel a.env.now a.w c.before.before.before.before.before.before.before.before.before.before.before.before.before.before.reference-rest.result _ _ _ (sym c.before.before.before.before.parts.ensures ∙ c.before.before.tail-1.given.1) c.before.before.before.before.before.before.before.build_part.ensures) c.before.before.before.before.before.before.before.build_part.auto.0)
+    let a = c.args in let l = tag-falls a.work.now a.t _ refl 3 _ (λ z. omega (arith, c.requires.1.1)) c.reference-first.ensures in (omega (arith, l, c.requires.0), ellipsis-copies a.work.now a.top a.fuel a.env.now a.w a.t _ refl c.requires.1.0 _ _ c.reference-first.ensures c.reference-rest.ensures c.requires.1.1 _ (counted_of _ _ _ _ _ c.in-Of.is c.copies.ensures) _ _ _ (gives_at a.work.now c.build_part.new.work a.top a.fuel a.env.now a.w c.reference-rest.result _ _ _ (sym c.parts.ensures ∙ c.in-At.is) c.build_part.ensures) c.build_part.auto.work)
 
 build-ellipsis-same-length-3 : (t : ℕ) → build-ellipsis-lts.Need-shape_of-work (build-ellipsis-claims t) (build-ellipsis-at t) build-ellipsis.Post
 build-ellipsis-same-length-3 t c =
-    c.before.before.build_copies.auto.0 ∙ c.before.before.before.before.before.before.before.before.before.before.build_part.auto.0
+    c.build_copies.auto.work ∙ c.build_part.auto.work
 
 build-ellipsis-returns-3 : (t : ℕ) → build-ellipsis-lts.Need-returns (build-ellipsis-claims t) (build-ellipsis-at t) build-ellipsis.Post
 build-ellipsis-returns-3 t c =
-    let a = c.before.before.before.before.before.before.before.before.before.before.before.before.before.before.before.before.before.before.before.before.before.before.args in made-copies a.work.now a.top a.fuel a.env.now a.w a.t _ refl c.before.before.before.before.before.before.before.before.before.before.before.before.before.before.before.before.before.before.before.before.before.before.requires.1.0 _ _ c.before.before.before.before.before.before.before.before.before.before.before.before.before.before.before.before.before.before.before.reference-first.ensures c.before.before.before.before.before.before.before.before.before.before.before.before.before.before.before.before.before.reference-rest.ensures c.before.before.before.before.before.before.before.before.before.before.before.before.before.before.before.before.before.before.before.before.before.before.requires.1.1 _ (counted_of _ _ _ _ _ c.before.before.before.before.before.before.before.before.before.before.before.before.before.c-1.given.1 c.before.before.before.before.before.before.before.before.before.before.before.before.before.before.before.copies.ensures) _ _ _ (gives_at a.work.now c.before.before.before.before.before.before.before.before.before.before.build_part.new.0 a.top a.fuel a.env.now a.w c.before.before.before.before.before.before.before.before.before.before.before.before.before.before.before.before.before.reference-rest.result _ _ _ (sym c.before.before.before.before.before.before.before.parts.ensures ∙ c.before.before.before.before.before.tail-1.given.1) c.before.before.before.before.before.before.before.before.before.before.build_part.ensures) c.before.before.before.before.before.before.before.before.before.before.build_part.auto.0 c.before.before.build_copies.new.0 (built_of c.before.before.build_copies.result) c.before.before.build_copies.ensures
+    let a = c.args in made-copies a.work.now a.top a.fuel a.env.now a.w a.t _ refl c.requires.1.0 _ _ c.reference-first.ensures c.reference-rest.ensures c.requires.1.1 _ (counted_of _ _ _ _ _ c.in-Of.is c.copies.ensures) _ _ _ (gives_at a.work.now c.build_part.new.work a.top a.fuel a.env.now a.w c.reference-rest.result _ _ _ (sym c.parts.ensures ∙ c.in-At.is) c.build_part.ensures) c.build_part.auto.work c.build_copies.new.work (built_of c.build_copies.result) c.build_copies.ensures
 
 build-part-build-leaf-requires : (t : ℕ) → build-part-lts.Need-build_leaf-requires (build-part-claims t) (build-part-at t) build-part.Post
 build-part-build-leaf-requires t c κs =
-    (c.before.before.before.before.before.requires.1, λ z. omega (arith, c.before.before.word-tag.ensures, z, c.before.if-tag-lt-PAIR.true), λ z. omega (arith, c.before.before.word-tag.ensures, z, c.before.if-tag-lt-PAIR.true))
+    (c.requires.1, λ z. omega (arith, c.word-tag.ensures, z, c.if-tag-lt-PAIR.true), λ z. omega (arith, c.word-tag.ensures, z, c.if-tag-lt-PAIR.true))
 
 build-part-same-length : (t : ℕ) → build-part-lts.Need-shape_of-work-then-tag-lt-PAIR (build-part-claims t) (build-part-at t) build-part.Post
 build-part-same-length t c =
-    c.before.before.build_leaf.auto.0
+    c.build_leaf.auto.work
 
 build-part-returns : (t : ℕ) → build-part-lts.Need-returns-then-tag-lt-PAIR (build-part-claims t) (build-part-at t) build-part.Post
 build-part-returns t c =
-    c.before.before.build_leaf.ensures
+    c.build_leaf.ensures
 
 build-part-build-leaf-requires-2 : (t : ℕ) → build-part-lts.Need-build_leaf-requires-then-tag-gt-ELLIPSIS (build-part-claims t) (build-part-at t) build-part.Post
 build-part-build-leaf-requires-2 t c κs =
-    (c.before.before.before.before.before.before.requires.1, λ z. omega (arith, c.before.before.before.word-tag.ensures, z, c.before.if-tag-gt-ELLIPSIS.true), λ z. omega (arith, c.before.before.before.word-tag.ensures, z, c.before.if-tag-gt-ELLIPSIS.true))
+    (c.requires.1, λ z. omega (arith, c.word-tag.ensures, z, c.if-tag-gt-ELLIPSIS.true), λ z. omega (arith, c.word-tag.ensures, z, c.if-tag-gt-ELLIPSIS.true))
 
 build-part-same-length-2 : (t : ℕ) → build-part-lts.Need-shape_of-work-then-tag-gt-ELLIPSIS (build-part-claims t) (build-part-at t) build-part.Post
 build-part-same-length-2 t c =
-    c.before.before.build_leaf-then-tag-gt-ELLIPSIS.auto.0
+    c.build_leaf-then-tag-gt-ELLIPSIS.auto.work
 
 build-part-returns-2 : (t : ℕ) → build-part-lts.Need-returns-then-tag-gt-ELLIPSIS (build-part-claims t) (build-part-at t) build-part.Post
 build-part-returns-2 t c =
-    c.before.before.build_leaf-then-tag-gt-ELLIPSIS.ensures
+    c.build_leaf-then-tag-gt-ELLIPSIS.ensures
 
 build-part-build-requires : (t : ℕ) → build-part-lts.Need-build-requires (build-part-claims t) (build-part-at t) build-part.Post
 build-part-build-requires t c κs =
-    (omega (arith, c.before.before.before.before.before.before.requires.0), c.before.before.before.before.before.before.requires.1)
+    (omega (arith, c.requires.0), c.requires.1)
 
 build-part-same-length-3 : (t : ℕ) → build-part-lts.Need-shape_of-work (build-part-claims t) (build-part-at t) build-part.Post
 build-part-same-length-3 t c =
-    c.before.before.build.auto.0
+    c.build.auto.work
 
 build-part-returns-3 : (t : ℕ) → build-part-lts.Need-returns (build-part-claims t) (build-part-at t) build-part.Post
 build-part-returns-3 t c =
-    c.before.before.build.ensures
+    c.build.ensures
 
 pub +build_build_backwards_build_copies_build_elements_build_ellipsis_build_part_spec :
     {M : Type 1} → statement M

@@ -12,56 +12,56 @@ use mathlib.Core.Path.{refl, sym, ◌∙◌}
 
 copy-tree-requires : tie.Need-copy_tree-requires
 copy-tree-requires c κs =
-    let a = c.before.before.before.before.before.before.before.before.before.before.args in variable-waits a.work.now a.top a.fuel a.env.now a.w a.t _ c.before.before.before.before.before.before.before.word-tag.ensures c.before.before.before.before.before.before.before.before.before.before.requires.0 _ _ _ c.before.before.before.before.before.before.if-tag-eq-VARIABLE.true c.before.before.before.before.word-k.ensures c.before.before.word-d.ensures c.before.taken-node.ensures
+    let a = c.args in variable-waits a.work.now a.top a.fuel a.env.now a.w a.t _ c.word-tag.ensures c.requires.0 _ _ _ c.if-tag-eq-VARIABLE.true c.word-k.ensures c.word-d.ensures c.taken-node.ensures
 
 same_length : tie.Need-shape_of-work-then-tag-eq-VARIABLE
 same_length c =
-    c.before.before.copy_tree.auto.0
+    c.copy_tree.auto.work
 
 returns : tie.Need-returns-then-tag-eq-VARIABLE
 returns c =
-    let a = c.before.before.before.before.before.before.before.before.before.before.before.before.before.args in made-variable a.work.now a.top a.fuel a.env.now a.w a.t _ c.before.before.before.before.before.before.before.before.before.before.word-tag.ensures c.before.before.before.before.before.before.before.before.before.before.before.before.before.requires.0 _ _ _ c.before.before.before.before.before.before.before.before.before.if-tag-eq-VARIABLE.true c.before.before.before.before.before.before.before.word-k.ensures c.before.before.before.before.before.word-d.ensures c.before.before.before.before.taken-node.ensures c.before.before.copy_tree.new.0 (built_of c.before.before.copy_tree.result) c.before.before.copy_tree.ensures
+    let a = c.args in made-variable a.work.now a.top a.fuel a.env.now a.w a.t _ c.word-tag.ensures c.requires.0 _ _ _ c.if-tag-eq-VARIABLE.true c.word-k.ensures c.word-d.ensures c.taken-node.ensures c.copy_tree.new.work (built_of c.copy_tree.result) c.copy_tree.ensures
 
 returns-2 : tie.Need-returns-then-fuel-eq0
 unfolding built_of
 returns-2 c =
-    let a = c.before.before.before.before.before.args in made_none a.work.now a.top a.fuel a.env.now a.w a.t _ c.before.before.word-tag.ensures c.before.before.before.before.before.requires.0 c.if-fuel-eq0.true
+    let a = c.args in made_none a.work.now a.top a.fuel a.env.now a.w a.t _ c.word-tag.ensures c.requires.0 c.if-fuel-eq0.true
 
 copy-name-requires : tie.Need-copy_name-requires
 copy-name-requires c κs =
-    let a = c.before.before.before.before.before.before.before.before.before.before.before.args in (room-node a.work.now a.top a.fuel c.before.before.before.before.before.before.if-fuel-eq0.false c.before.before.before.before.before.before.before.before.before.before.before.requires.0.room, omega (arith, c.before.before.before.reference-node.ensures, reference_at-most a.work.now a.t 3, c.before.before.before.before.before.before.before.before.before.before.before.requires.0.template-below), omega (arith, c.before.reference-wrap.ensures, reference_at-most a.work.now a.t 2, c.before.before.before.before.before.before.before.before.before.before.before.requires.0.template-below))
+    let a = c.args in (room-node a.work.now a.top a.fuel c.if-fuel-eq0.false c.requires.0.room, omega (arith, c.reference-node.ensures, reference_at-most a.work.now a.t 3, c.requires.0.template-below), omega (arith, c.reference-wrap.ensures, reference_at-most a.work.now a.t 2, c.requires.0.template-below))
 
 same-length-3 : tie.Need-shape_of-work-then-tag-eq-NAME
 same-length-3 c =
-    c.before.before.before.copy_name.auto.0
+    c.copy_name.auto.work
 
 returns-3 : tie.Need-returns-then-tag-eq-NAME
 returns-3 c =
-    let a = c.before.before.before.before.before.before.before.before.before.before.before.before.before.before.before.args in made-packed a.work.now _ a.top a.fuel a.env.now a.w a.t _ _ _ c.before.before.before.before.before.before.before.before.before.before.before.before.before.before.before.requires.0 c.pair.ensures (made-insert a.work.now a.top a.fuel a.env.now a.w a.t _ c.before.before.before.before.before.before.before.before.before.before.before.before.word-tag.ensures c.before.before.before.before.before.before.before.before.before.before.before.before.before.before.before.requires.0 _ c.before.before.before.before.before.before.before.before.before.before.if-fuel-eq0.false refl _ _ _ _ c.before.before.before.before.before.before.before.before.before.if-tag-eq-NAME.true c.before.before.before.before.before.before.before.reference-node.ensures c.before.before.before.before.before.reference-wrap.ensures c.before.before.before.copy_name.ensures)
+    let a = c.args in made-packed a.work.now _ a.top a.fuel a.env.now a.w a.t _ _ _ c.requires.0 c.pair.ensures (made-insert a.work.now a.top a.fuel a.env.now a.w a.t _ c.word-tag.ensures c.requires.0 _ c.if-fuel-eq0.false refl _ _ _ _ c.if-tag-eq-NAME.true c.reference-node.ensures c.reference-wrap.ensures c.copy_name.ensures)
 
 put-constant-requires : tie.Need-put_constant-requires
 put-constant-requires c κs =
-    let a = c.before.before.before.before.before.before.before.before.before.before.before.before.before.before.args in let k = kind-plain a.work.now a.top a.fuel a.env.now a.w a.t _ c.before.before.before.before.before.before.before.before.before.before.before.word-tag.ensures c.before.before.before.before.before.before.before.before.before.before.before.before.before.before.requires.0 _ c.before.before.before.before.before.before.before.if-tag-eq-CONSTANT.true c.before.before.before.before.before.word-kind.ensures in (room-less _ _ (room-node a.work.now a.top a.fuel c.before.before.before.before.before.before.before.before.before.if-fuel-eq0.false c.before.before.before.before.before.before.before.before.before.before.before.before.before.before.requires.0.room), k.0, k.1, k.2)
+    let a = c.args in let k = kind-plain a.work.now a.top a.fuel a.env.now a.w a.t _ c.word-tag.ensures c.requires.0 _ c.if-tag-eq-CONSTANT.true c.word-kind.ensures in (room-less _ _ (room-node a.work.now a.top a.fuel c.if-fuel-eq0.false c.requires.0.room), k.0, k.1, k.2)
 
 same-length-4 : tie.Need-shape_of-work-then-tag-eq-CONSTANT
 same-length-4 c =
-    c.before.before.before.put_constant.auto.0
+    c.put_constant.auto.work
 
 returns-4 : tie.Need-returns-then-tag-eq-CONSTANT
 returns-4 c =
-    let a = c.before.before.before.before.before.before.before.before.before.before.before.before.before.before.before.before.before.before.args in made-packed a.work.now _ a.top a.fuel a.env.now a.w a.t _ _ _ c.before.before.before.before.before.before.before.before.before.before.before.before.before.before.before.before.before.before.requires.0 c.pair-then-tag-eq-CONSTANT.ensures (made-constant a.work.now a.top a.fuel a.env.now a.w a.t _ c.before.before.before.before.before.before.before.before.before.before.before.before.before.before.before.word-tag.ensures c.before.before.before.before.before.before.before.before.before.before.before.before.before.before.before.before.before.before.requires.0 _ c.before.before.before.before.before.before.before.before.before.before.before.before.before.if-fuel-eq0.false refl _ _ _ _ _ c.before.before.before.before.before.before.before.before.before.before.before.if-tag-eq-CONSTANT.true c.before.before.before.before.before.before.before.before.before.word-kind.ensures c.before.before.before.before.before.before.before.word-a.ensures c.before.before.before.before.before.word-b.ensures c.before.before.before.put_constant.ensures)
+    let a = c.args in made-packed a.work.now _ a.top a.fuel a.env.now a.w a.t _ _ _ c.requires.0 c.pair-then-tag-eq-CONSTANT.ensures (made-constant a.work.now a.top a.fuel a.env.now a.w a.t _ c.word-tag.ensures c.requires.0 _ c.if-fuel-eq0.false refl _ _ _ _ _ c.if-tag-eq-CONSTANT.true c.word-kind.ensures c.word-a.ensures c.word-b.ensures c.put_constant.ensures)
 
 put-empty-requires : tie.Need-put_empty-requires
 put-empty-requires c κs =
-    let a = c.before.before.before.before.before.before.before.before.args in room-less _ _ (room-node a.work.now a.top a.fuel c.before.before.before.if-fuel-eq0.false c.before.before.before.before.before.before.before.before.requires.0.room)
+    let a = c.args in room-less _ _ (room-node a.work.now a.top a.fuel c.if-fuel-eq0.false c.requires.0.room)
 
 same-length-5 : tie.Need-shape_of-work
 same-length-5 c =
-    c.before.before.before.put_empty.auto.0
+    c.put_empty.auto.work
 
 returns-5 : tie.Need-returns
 returns-5 c =
-    let a = c.before.before.before.before.before.before.before.before.before.before.before.before.args in made-packed a.work.now _ a.top a.fuel a.env.now a.w a.t _ _ _ c.before.before.before.before.before.before.before.before.before.before.before.before.requires.0 c.pair-2.ensures (made-empty a.work.now a.top a.fuel a.env.now a.w a.t _ c.before.before.before.before.before.before.before.before.before.word-tag.ensures c.before.before.before.before.before.before.before.before.before.before.before.before.requires.0 _ c.before.before.before.before.before.before.before.if-fuel-eq0.false refl _ _ c.before.before.before.before.before.before.before.before.if-tag-eq-VARIABLE.false c.before.before.before.before.before.before.if-tag-eq-NAME.false c.before.before.before.before.before.if-tag-eq-CONSTANT.false (λ z. c.before.before.before.before.before.before.before.before.before.before.before.before.requires.1 (sym c.before.before.before.before.before.before.before.before.before.word-tag.ensures ∙ z)) (λ z. c.before.before.before.before.before.before.before.before.before.before.before.before.requires.2 (sym c.before.before.before.before.before.before.before.before.before.word-tag.ensures ∙ z)) c.before.before.before.put_empty.ensures)
+    let a = c.args in made-packed a.work.now _ a.top a.fuel a.env.now a.w a.t _ _ _ c.requires.0 c.pair-2.ensures (made-empty a.work.now a.top a.fuel a.env.now a.w a.t _ c.word-tag.ensures c.requires.0 _ c.if-fuel-eq0.false refl _ _ c.if-tag-eq-VARIABLE.false c.if-tag-eq-NAME.false c.if-tag-eq-CONSTANT.false (λ z. c.requires.1 (sym c.word-tag.ensures ∙ z)) (λ z. c.requires.2 (sym c.word-tag.ensures ∙ z)) c.put_empty.ensures)
 
 pub build_leaf_spec : {M : Type 1} → statement M
 build_leaf_spec =

@@ -51,177 +51,124 @@ copy-part-claims t = (word-reads.Asked, word-reads.Learnt, copy-tree-below t, co
 
 copy-part-copy-tree-requires : (t : ℕ) → copy-part-lts.Need-copy_tree-requires (copy-part-claims t) (copy-part-at t) copy-part.Post
 copy-part-copy-tree-requires t c κs =
-    let pre = c.before.before.before.before.before.requires in
+    let pre = c.requires in
     (omega (arith, pre.0), pre.1)
 
 copy-part-same-length : (t : ℕ) → copy-part-lts.Need-shape_of-work-then-word-eq-PAIR (copy-part-claims t) (copy-part-at t) copy-part.Post
 copy-part-same-length t c =
-    c.before.before.copy_tree.auto.0
+    c.copy_tree.auto.work
 
 copy-part-returns : (t : ℕ) → copy-part-lts.Need-returns-then-word-eq-PAIR (copy-part-claims t) (copy-part-at t) copy-part.Post
 copy-part-returns t c =
-    c.before.before.copy_tree.ensures
+    c.copy_tree.ensures
 
 copy-part-copy-leaf-requires : (t : ℕ) → copy-part-lts.Need-copy_leaf-requires (copy-part-claims t) (copy-part-at t) copy-part.Post
 copy-part-copy-leaf-requires t c κs =
-    let pre = c.before.before.before.before.before.requires in
-    let word = c.before.before.word in
-    let if1 = c.before.if-word-eq-PAIR in
-    (pre.1, λ z. if1.false (word.ensures ∙ z))
+    let pre = c.requires in
+    (pre.1, λ z. c.if-word-eq-PAIR.false (c.word.ensures ∙ z))
 
 copy-part-same-length-2 : (t : ℕ) → copy-part-lts.Need-shape_of-work (copy-part-claims t) (copy-part-at t) copy-part.Post
 copy-part-same-length-2 t c =
-    c.before.before.copy_leaf.auto.0
+    c.copy_leaf.auto.work
 
 copy-part-returns-2 : (t : ℕ) → copy-part-lts.Need-returns (copy-part-claims t) (copy-part-at t) copy-part.Post
 copy-part-returns-2 t c =
-    c.before.before.copy_leaf.ensures
+    c.copy_leaf.ensures
 
 abbrev copy-tree-claims : ℕ → copy-tree-lts.Claims
 copy-tree-claims t = (word-reads.Asked, word-reads.Learnt, copy-leaf-reads.Asked, copy-leaf-reads.Learnt, reference-reads.Asked, reference-reads.Learnt, copy-part-below t, copy-part.Post, parts-reads.Asked, parts-reads.Learnt, put-pair-reads.Asked, put-pair-reads.Learnt, Pair-reads.Asked, Pair-reads.Learnt)
 
 copy-tree-copy-leaf-requires : (t : ℕ) → copy-tree-lts.Need-copy_leaf-requires (copy-tree-claims t) (copy-tree-at t) copy-tree.Post
 copy-tree-copy-leaf-requires t c κs =
-    let pre = c.before.before.before.before.before.requires in
-    let word = c.before.before.word in
-    let if1 = c.before.if-word-ne-PAIR in
-    (pre.1, λ z. if1.true (word.ensures ∙ z))
+    let pre = c.requires in
+    (pre.1, λ z. c.if-word-ne-PAIR.true (c.word.ensures ∙ z))
 
 copy-tree-same-length : (t : ℕ) → copy-tree-lts.Need-shape_of-work-then-word-ne-PAIR (copy-tree-claims t) (copy-tree-at t) copy-tree.Post
 copy-tree-same-length t c =
-    c.before.before.copy_leaf.auto.0
+    c.copy_leaf.auto.work
 
 copy-tree-returns : (t : ℕ) → copy-tree-lts.Need-returns-then-word-ne-PAIR (copy-tree-claims t) (copy-tree-at t) copy-tree.Post
 copy-tree-returns t c =
-    c.before.before.copy_leaf.ensures
+    c.copy_leaf.ensures
 
 copy-tree-returns-2 : (t : ℕ) → copy-tree-lts.Need-returns-then-fuel-eq0 (copy-tree-claims t) (copy-tree-at t) copy-tree.Post
 unfolding built_of
 copy-tree-returns-2 t c =
-    let a = c.before.before.before.before.before.args in
+    let a = c.args in
     unpaid-none (tree_at a.work.now a.node a.w) a.work.now a.top a.fuel c.if-fuel-eq0.true
 
 copy-tree-copy-part-requires : (t : ℕ) → copy-tree-lts.Need-copy_part-requires (copy-tree-claims t) (copy-tree-at t) copy-tree.Post
 copy-tree-copy-part-requires t c κs =
-    let entry = c.before.before.before.before.before.before.before.before.before.before in
-    let a = entry.args in
-    let pre = entry.requires in
-    let word = c.before.before.before.before.before.before.before.word in
-    let if1 = c.before.before.before.before.before.before.if-word-ne-PAIR in
-    let if2 = c.before.before.before.before.before.if-fuel-eq0 in
-    let reference = c.before.before.before.reference-first in
-    let reference2 = c.before.reference-rest in (
-      omega (arith, pre.0, reference2.ensures, pair-falls a.work.now a.node 1 (sym word.ensures ∙ if1.false)),
-      waiting-tail a.work.now a.top a.fuel a.node a.w _ if2.false refl _ word.ensures _ _ if1.false reference.ensures reference2.ensures pre.1,
+    let a = c.args in
+    let pre = c.requires in
+    (
+      omega (arith, pre.0, c.reference-rest.ensures, pair-falls a.work.now a.node 1 (sym c.word.ensures ∙ c.if-word-ne-PAIR.false)),
+      waiting-tail a.work.now a.top a.fuel a.node a.w _ c.if-fuel-eq0.false refl _ c.word.ensures _ _ c.if-word-ne-PAIR.false c.reference-first.ensures c.reference-rest.ensures pre.1,
     )
 
 copy-tree-same-length-3 : (t : ℕ) → copy-tree-lts.Need-shape_of-work-in_default (copy-tree-claims t) (copy-tree-at t) copy-tree.Post
 copy-tree-same-length-3 t c =
-    c.before.before.before.before.before.copy_part.auto.0
+    c.copy_part.auto.work
 
 copy-tree-returns-3 : (t : ℕ) → copy-tree-lts.Need-returns-in_default (copy-tree-claims t) (copy-tree-at t) copy-tree.Post
 unfolding built_of
 copy-tree-returns-3 t c =
-    let entry = c.before.before.before.before.before.before.before.before.before.before.before.before.before.before.before.before in
-    let a = entry.args in
-    let pre = entry.requires in
-    let word = c.before.before.before.before.before.before.before.before.before.before.before.before.before.word in
-    let if1 = c.before.before.before.before.before.before.before.before.before.before.before.before.if-word-ne-PAIR in
-    let if2 = c.before.before.before.before.before.before.before.before.before.before.before.if-fuel-eq0 in
-    let reference = c.before.before.before.before.before.before.before.before.before.reference-first in
-    let reference2 = c.before.before.before.before.before.before.before.reference-rest in
-    let copy-part = c.before.before.before.before.before.copy_part in
-    copied-tail-costly a.work.now a.top a.fuel a.node a.w _ if2.false refl _ word.ensures _ _ if1.false reference.ensures reference2.ensures pre.1 _
-    (unpaid-at (tree_at a.work.now reference2.result a.w) a.work.now copy-part.new.0 a.top (a.fuel - 1) _ (sym c.before.before.parts.ensures ∙ c.enum_told-1.given.1) copy-part.ensures)
+    let a = c.args in
+    let pre = c.requires in
+    copied-tail-costly a.work.now a.top a.fuel a.node a.w _ c.if-fuel-eq0.false refl _ c.word.ensures _ _ c.if-word-ne-PAIR.false c.reference-first.ensures c.reference-rest.ensures pre.1 _
+    (unpaid-at (tree_at a.work.now c.reference-rest.result a.w) a.work.now c.copy_part.new.work a.top (a.fuel - 1) _ (sym c.parts.ensures ∙ c.in_default.is) c.copy_part.ensures)
 
 copy-tree-copy-part-requires-2 : (t : ℕ) → copy-tree-lts.Need-copy_part-requires-2 (copy-tree-claims t) (copy-tree-at t) copy-tree.Post
 copy-tree-copy-part-requires-2 t c κs =
-    let entry = c.before.before.before.before.before.before.before.before.before.before.before.before.before.before.before.before.before.before in
-    let a = entry.args in
-    let pre = entry.requires in
-    let word = c.before.before.before.before.before.before.before.before.before.before.before.before.before.before.before.word in
-    let if1 = c.before.before.before.before.before.before.before.before.before.before.before.before.before.before.if-word-ne-PAIR in
-    let if2 = c.before.before.before.before.before.before.before.before.before.before.before.before.before.if-fuel-eq0 in
-    let reference = c.before.before.before.before.before.before.before.before.before.before.before.reference-first in
-    let reference2 = c.before.before.before.before.before.before.before.before.before.reference-rest in
-    let copy-part = c.before.before.before.before.before.before.before.copy_part in
-    let tail-is = sym c.before.before.before.before.parts.ensures ∙ c.before.before.tail-1.given.1 in
-    let b = paid-at (tree_at a.work.now reference2.result a.w) a.work.now copy-part.new.0 a.top (a.fuel - 1) _ _ _ tail-is copy-part.ensures in (
-      omega (arith, pre.0, reference.ensures, pair-falls a.work.now a.node 2 (sym word.ensures ∙ if1.false)),
-      waiting-head a.work.now a.top a.fuel a.node a.w _ if2.false refl _ word.ensures _ _ if1.false reference.ensures reference2.ensures pre.1 _ _ _ b copy-part.auto.0,
+    let a = c.args in
+    let pre = c.requires in
+    let tail-is = sym c.parts.ensures ∙ c.in-At.is in
+    let b = paid-at (tree_at a.work.now c.reference-rest.result a.w) a.work.now c.copy_part.new.work a.top (a.fuel - 1) _ _ _ tail-is c.copy_part.ensures in (
+      omega (arith, pre.0, c.reference-first.ensures, pair-falls a.work.now a.node 2 (sym c.word.ensures ∙ c.if-word-ne-PAIR.false)),
+      waiting-head a.work.now a.top a.fuel a.node a.w _ c.if-fuel-eq0.false refl _ c.word.ensures _ _ c.if-word-ne-PAIR.false c.reference-first.ensures c.reference-rest.ensures pre.1 _ _ _ b c.copy_part.auto.work,
     )
 
 copy-tree-same-length-4 : (t : ℕ) → copy-tree-lts.Need-shape_of-work-in_default-parts (copy-tree-claims t) (copy-tree-at t) copy-tree.Post
 copy-tree-same-length-4 t c =
-    let copy-part = c.before.before.before.before.before.before.before.before.before.before.before.before.before.copy_part in
-    let copy-part2 = c.before.before.before.before.before.copy_part-2 in
-    copy-part2.auto.0 ∙ copy-part.auto.0
+    c.copy_part-2.auto.work ∙ c.copy_part.auto.work
 
 copy-tree-returns-4 : (t : ℕ) → copy-tree-lts.Need-returns-in_default-parts (copy-tree-claims t) (copy-tree-at t) copy-tree.Post
 unfolding built_of
 copy-tree-returns-4 t c =
-    let entry = c.before.before.before.before.before.before.before.before.before.before.before.before.before.before.before.before.before.before.before.before.before.before.before.before in
-    let a = entry.args in
-    let pre = entry.requires in
-    let word = c.before.before.before.before.before.before.before.before.before.before.before.before.before.before.before.before.before.before.before.before.before.word in
-    let if1 = c.before.before.before.before.before.before.before.before.before.before.before.before.before.before.before.before.before.before.before.before.if-word-ne-PAIR in
-    let if2 = c.before.before.before.before.before.before.before.before.before.before.before.before.before.before.before.before.before.before.before.if-fuel-eq0 in
-    let reference = c.before.before.before.before.before.before.before.before.before.before.before.before.before.before.before.before.before.reference-first in
-    let reference2 = c.before.before.before.before.before.before.before.before.before.before.before.before.before.before.before.reference-rest in
-    let copy-part = c.before.before.before.before.before.before.before.before.before.before.before.before.before.copy_part in
-    let tail-is = sym c.before.before.before.before.before.before.before.before.before.before.parts.ensures ∙ c.before.before.before.before.before.before.before.before.tail-1.given.1 in
-    let copy-part2 = c.before.before.before.before.before.copy_part-2 in
-    let b = paid-at (tree_at a.work.now reference2.result a.w) a.work.now copy-part.new.0 a.top (a.fuel - 1) _ _ _ tail-is copy-part.ensures in
-    copied-head-costly a.work.now a.top a.fuel a.node a.w _ if2.false refl _ word.ensures _ _ if1.false reference.ensures reference2.ensures pre.1 _ _ _ b copy-part.auto.0 _
-    (unpaid-at (tree_at copy-part.new.0 reference.result a.w) copy-part.new.0 copy-part2.new.0 _ _ _ (sym c.before.before.parts-2.ensures ∙ c.enum_told-in_default-parts-1.given.1) copy-part2.ensures)
+    let a = c.args in
+    let pre = c.requires in
+    let tail-is = sym c.parts.ensures ∙ c.in-At.is in
+    let b = paid-at (tree_at a.work.now c.reference-rest.result a.w) a.work.now c.copy_part.new.work a.top (a.fuel - 1) _ _ _ tail-is c.copy_part.ensures in
+    copied-head-costly a.work.now a.top a.fuel a.node a.w _ c.if-fuel-eq0.false refl _ c.word.ensures _ _ c.if-word-ne-PAIR.false c.reference-first.ensures c.reference-rest.ensures pre.1 _ _ _ b c.copy_part.auto.work _
+    (unpaid-at (tree_at c.copy_part.new.work c.reference-first.result a.w) c.copy_part.new.work c.copy_part-2.new.work _ _ _ (sym c.parts-2.ensures ∙ c.in_default-parts.is) c.copy_part-2.ensures)
 
 copy-tree-put-pair-requires : (t : ℕ) → copy-tree-lts.Need-put_pair-requires (copy-tree-claims t) (copy-tree-at t) copy-tree.Post
 copy-tree-put-pair-requires t c κs =
-    let entry = c.before.before.before.before.before.before.before.before.before.before.before.before.before.before.before.before.before.before.before.before.before.before.before.before.before.before in
-    let a = entry.args in
-    let pre = entry.requires in
-    let word = c.before.before.before.before.before.before.before.before.before.before.before.before.before.before.before.before.before.before.before.before.before.before.before.word in
-    let if1 = c.before.before.before.before.before.before.before.before.before.before.before.before.before.before.before.before.before.before.before.before.before.before.if-word-ne-PAIR in
-    let if2 = c.before.before.before.before.before.before.before.before.before.before.before.before.before.before.before.before.before.before.before.before.before.if-fuel-eq0 in
-    let reference = c.before.before.before.before.before.before.before.before.before.before.before.before.before.before.before.before.before.before.before.reference-first in
-    let reference2 = c.before.before.before.before.before.before.before.before.before.before.before.before.before.before.before.before.before.reference-rest in
-    let copy-part = c.before.before.before.before.before.before.before.before.before.before.before.before.before.before.before.copy_part in
-    let tail-is = sym c.before.before.before.before.before.before.before.before.before.before.before.before.parts.ensures ∙ c.before.before.before.before.before.before.before.before.before.before.tail-1.given.1 in
-    let copy-part2 = c.before.before.before.before.before.before.before.copy_part-2 in
-    let head-is = sym c.before.before.before.before.parts-2.ensures ∙ c.before.before.head-1.given.1 in
-    let b = paid-at (tree_at a.work.now reference2.result a.w) a.work.now copy-part.new.0 a.top (a.fuel - 1) _ _ _ tail-is copy-part.ensures in
-    let h = paid-at (tree_at copy-part.new.0 reference.result a.w) copy-part.new.0 copy-part2.new.0 _ _ _ _ _ head-is copy-part2.ensures in (
-      copied-room a.work.now a.top a.fuel a.node a.w _ if2.false refl _ word.ensures _ _ if1.false reference.ensures reference2.ensures pre.1 _ _ _ b copy-part.auto.0 _ _ _ h copy-part2.auto.0,
+    let a = c.args in
+    let pre = c.requires in
+    let tail-is = sym c.parts.ensures ∙ c.in-At.is in
+    let head-is = sym c.parts-2.ensures ∙ c.in-At-parts.is in
+    let b = paid-at (tree_at a.work.now c.reference-rest.result a.w) a.work.now c.copy_part.new.work a.top (a.fuel - 1) _ _ _ tail-is c.copy_part.ensures in
+    let h = paid-at (tree_at c.copy_part.new.work c.reference-first.result a.w) c.copy_part.new.work c.copy_part-2.new.work _ _ _ _ _ head-is c.copy_part-2.ensures in (
+      copied-room a.work.now a.top a.fuel a.node a.w _ c.if-fuel-eq0.false refl _ c.word.ensures _ _ c.if-word-ne-PAIR.false c.reference-first.ensures c.reference-rest.ensures pre.1 _ _ _ b c.copy_part.auto.work _ _ _ h c.copy_part-2.auto.work,
       omega arith,
       h.above,
     )
 
 copy-tree-same-length-5 : (t : ℕ) → copy-tree-lts.Need-shape_of-work (copy-tree-claims t) (copy-tree-at t) copy-tree.Post
 copy-tree-same-length-5 t c =
-    let copy-part = c.before.before.before.before.before.before.before.before.before.before.before.before.before.before.before.before.before.before.before.copy_part in
-    let copy-part2 = c.before.before.before.before.before.before.before.before.before.before.before.copy_part-2 in
-    let put-pair = c.before.before.before.put_pair in
-    put-pair.auto.0 ∙ copy-part2.auto.0 ∙ copy-part.auto.0
+    c.put_pair.auto.work ∙ c.copy_part-2.auto.work ∙ c.copy_part.auto.work
 
 copy-tree-returns-5 : (t : ℕ) → copy-tree-lts.Need-returns (copy-tree-claims t) (copy-tree-at t) copy-tree.Post
 copy-tree-returns-5 t c =
-    let entry = c.before.before.before.before.before.before.before.before.before.before.before.before.before.before.before.before.before.before.before.before.before.before.before.before.before.before.before.before.before.before in
-    let a = entry.args in
-    let pre = entry.requires in
-    let word = c.before.before.before.before.before.before.before.before.before.before.before.before.before.before.before.before.before.before.before.before.before.before.before.before.before.before.before.word in
-    let if1 = c.before.before.before.before.before.before.before.before.before.before.before.before.before.before.before.before.before.before.before.before.before.before.before.before.before.before.if-word-ne-PAIR in
-    let if2 = c.before.before.before.before.before.before.before.before.before.before.before.before.before.before.before.before.before.before.before.before.before.before.before.before.before.if-fuel-eq0 in
-    let reference = c.before.before.before.before.before.before.before.before.before.before.before.before.before.before.before.before.before.before.before.before.before.before.before.reference-first in
-    let reference2 = c.before.before.before.before.before.before.before.before.before.before.before.before.before.before.before.before.before.before.before.before.before.reference-rest in
-    let copy-part = c.before.before.before.before.before.before.before.before.before.before.before.before.before.before.before.before.before.before.before.copy_part in
-    let tail-is = sym c.before.before.before.before.before.before.before.before.before.before.before.before.before.before.before.before.parts.ensures ∙ c.before.before.before.before.before.before.before.before.before.before.before.before.before.before.tail-1.given.1 in
-    let copy-part2 = c.before.before.before.before.before.before.before.before.before.before.before.copy_part-2 in
-    let head-is = sym c.before.before.before.before.before.before.before.before.parts-2.ensures ∙ c.before.before.before.before.before.before.head-1.given.1 in
-    let put-pair = c.before.before.before.put_pair in
-    let b = paid-at (tree_at a.work.now reference2.result a.w) a.work.now copy-part.new.0 a.top (a.fuel - 1) _ _ _ tail-is copy-part.ensures in
-    let h = paid-at (tree_at copy-part.new.0 reference.result a.w) copy-part.new.0 copy-part2.new.0 _ _ _ _ _ head-is copy-part2.ensures in
+    let a = c.args in
+    let pre = c.requires in
+    let tail-is = sym c.parts.ensures ∙ c.in-At.is in
+    let head-is = sym c.parts-2.ensures ∙ c.in-At-parts.is in
+    let b = paid-at (tree_at a.work.now c.reference-rest.result a.w) a.work.now c.copy_part.new.work a.top (a.fuel - 1) _ _ _ tail-is c.copy_part.ensures in
+    let h = paid-at (tree_at c.copy_part.new.work c.reference-first.result a.w) c.copy_part.new.work c.copy_part-2.new.work _ _ _ _ _ head-is c.copy_part-2.ensures in
     pays-packed (tree_at a.work.now a.node a.w) a.work.now _ a.top a.fuel _ _ _ pre.1.room c.pair.ensures
-    (copied-pair a.work.now a.top a.fuel a.node a.w _ if2.false refl _ word.ensures _ _ if1.false reference.ensures reference2.ensures pre.1 _ _ _ b copy-part.auto.0 _ _ _ h _ _ put-pair.ensures)
+    (copied-pair a.work.now a.top a.fuel a.node a.w _ c.if-fuel-eq0.false refl _ c.word.ensures _ _ c.if-word-ne-PAIR.false c.reference-first.ensures c.reference-rest.ensures pre.1 _ _ _ b c.copy_part.auto.work _ _ _ h _ _ c.put_pair.ensures)
 
 pub +copy_part_copy_tree_spec : {M : Type 1} → statement M
 +copy_part_copy_tree_spec = close μ-copy-part μ-copy-tree (λ t. copy-part-lts.spec (copy-part-claims t)

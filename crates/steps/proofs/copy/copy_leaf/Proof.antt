@@ -10,86 +10,59 @@ use mathlib.Core.Path.{refl, sym, ◌∙◌}
 returns : tie.Need-returns-then-fuel-eq0
 unfolding built_of
 returns c =
-    let a = c.before.before.args in
+    let a = c.args in
     unpaid-none (tree_at a.work.now a.node a.w) a.work.now a.top a.fuel c.if-fuel-eq0.true
 
 put-empty-requires : tie.Need-put_empty-requires
 put-empty-requires c κs =
-    let entry = c.before.before.before.before.before.before in
-    let a = entry.args in
-    let pre = entry.requires in
-    let if1 = c.before.before.before.before.if-fuel-eq0 in
-    room-less _ _ (room-node a.work.now a.top a.fuel if1.false pre.0.room)
+    let a = c.args in
+    let pre = c.requires in
+    room-less _ _ (room-node a.work.now a.top a.fuel c.if-fuel-eq0.false pre.0.room)
 
 same_length : tie.Need-shape_of-work-then-kind-eq-EMPTY
 same_length c =
-    c.before.before.before.put_empty.auto.0
+    c.put_empty.auto.work
 
 returns-2 : tie.Need-returns-then-kind-eq-EMPTY
 returns-2 c =
-    let entry = c.before.before.before.before.before.before.before.before.before.before in
-    let a = entry.args in
-    let pre = entry.requires in
-    let if1 = c.before.before.before.before.before.before.before.before.if-fuel-eq0 in
-    let word = c.before.before.before.before.before.before.word-kind in
-    let if2 = c.before.before.before.before.before.if-kind-eq-EMPTY in
-    let put-empty = c.before.before.before.put_empty in
+    let a = c.args in
+    let pre = c.requires in
     pays-packed (tree_at a.work.now a.node a.w) a.work.now _ a.top a.fuel _ _ _ pre.0.room c.pair.ensures
-    (copied-empty a.work.now a.top a.fuel a.node a.w _ if1.false refl _ word.ensures _ _ if2.true put-empty.ensures)
+    (copied-empty a.work.now a.top a.fuel a.node a.w _ c.if-fuel-eq0.false refl _ c.word-kind.ensures _ _ c.if-kind-eq-EMPTY.true c.put_empty.ensures)
 
 copy-name-requires : tie.Need-copy_name-requires
 copy-name-requires c κs =
-    let entry = c.before.before.before.before.before.before.before in
-    let a = entry.args in
-    let pre = entry.requires in
-    let if1 = c.before.before.before.before.before.if-fuel-eq0 in
-    (room-node a.work.now a.top a.fuel if1.false pre.0.room, pre.0.node-below, pre.0.wrap-below)
+    let a = c.args in
+    let pre = c.requires in
+    (room-node a.work.now a.top a.fuel c.if-fuel-eq0.false pre.0.room, pre.0.node-below, pre.0.wrap-below)
 
 same-length-2 : tie.Need-shape_of-work-then-kind-eq-NAME
 same-length-2 c =
-    c.before.before.before.copy_name.auto.0
+    c.copy_name.auto.work
 
 returns-3 : tie.Need-returns-then-kind-eq-NAME
 returns-3 c =
-    let entry = c.before.before.before.before.before.before.before.before.before.before.before in
-    let a = entry.args in
-    let pre = entry.requires in
-    let if1 = c.before.before.before.before.before.before.before.before.before.if-fuel-eq0 in
-    let word = c.before.before.before.before.before.before.before.word-kind in
-    let if3 = c.before.before.before.before.before.if-kind-eq-NAME in
-    let copy_name = c.before.before.before.copy_name in
+    let a = c.args in
+    let pre = c.requires in
     pays-packed (tree_at a.work.now a.node a.w) a.work.now _ a.top a.fuel _ _ _ pre.0.room c.pair-then-kind-eq-NAME.ensures
-    (copied-name a.work.now a.top a.fuel a.node a.w _ if1.false refl _ word.ensures _ _ if3.true copy_name.ensures)
+    (copied-name a.work.now a.top a.fuel a.node a.w _ c.if-fuel-eq0.false refl _ c.word-kind.ensures _ _ c.if-kind-eq-NAME.true c.copy_name.ensures)
 
 put-constant-requires : tie.Need-put_constant-requires
 put-constant-requires c κs =
-    let entry = c.before.before.before.before.before.before.before.before.before.before.before in
-    let a = entry.args in
-    let pre = entry.requires in
-    let if1 = c.before.before.before.before.before.before.before.before.before.if-fuel-eq0 in
-    let word = c.before.before.before.before.before.before.before.word-kind in
-    let if2 = c.before.before.before.before.before.before.if-kind-eq-EMPTY in
-    let if3 = c.before.before.before.before.before.if-kind-eq-NAME in
-    (room-less _ _ (room-node a.work.now a.top a.fuel if1.false pre.0.room), if2.false, if3.false, λ z. pre.1 (sym word.ensures ∙ z))
+    let a = c.args in
+    let pre = c.requires in
+    (room-less _ _ (room-node a.work.now a.top a.fuel c.if-fuel-eq0.false pre.0.room), c.if-kind-eq-EMPTY.false, c.if-kind-eq-NAME.false, λ z. pre.1 (sym c.word-kind.ensures ∙ z))
 
 same-length-3 : tie.Need-shape_of-work
 same-length-3 c =
-    c.before.before.before.put_constant.auto.0
+    c.put_constant.auto.work
 
 returns-4 : tie.Need-returns
 returns-4 c =
-    let entry = c.before.before.before.before.before.before.before.before.before.before.before.before.before.before.before in
-    let a = entry.args in
-    let pre = entry.requires in
-    let if1 = c.before.before.before.before.before.before.before.before.before.before.before.before.before.if-fuel-eq0 in
-    let word = c.before.before.before.before.before.before.before.before.before.before.before.word-kind in
-    let if2 = c.before.before.before.before.before.before.before.before.before.before.if-kind-eq-EMPTY in
-    let if3 = c.before.before.before.before.before.before.before.before.before.if-kind-eq-NAME in
-    let word2 = c.before.before.before.before.before.before.before.word-a in
-    let word3 = c.before.before.before.before.before.word-b in
-    let put-constant = c.before.before.before.put_constant in
+    let a = c.args in
+    let pre = c.requires in
     pays-packed (tree_at a.work.now a.node a.w) a.work.now _ a.top a.fuel _ _ _ pre.0.room c.pair-2.ensures
-    (copied-constant a.work.now a.top a.fuel a.node a.w _ if1.false refl _ word.ensures _ _ _ _ if2.false if3.false pre.1 word2.ensures word3.ensures put-constant.ensures)
+    (copied-constant a.work.now a.top a.fuel a.node a.w _ c.if-fuel-eq0.false refl _ c.word-kind.ensures _ _ _ _ c.if-kind-eq-EMPTY.false c.if-kind-eq-NAME.false pre.1 c.word-a.ensures c.word-b.ensures c.put_constant.ensures)
 
 pub copy_leaf_spec : {M : Type 1} → statement M
 copy_leaf_spec =

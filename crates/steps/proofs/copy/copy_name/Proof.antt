@@ -10,31 +10,31 @@ use mathlib.Core.Path.{◌∙◌}
 
 put-name-requires : tie.Need-put_name-requires
 put-name-requires c κs =
-    (room-less _ _ c.before.before.before.before.before.before.before.before.requires.0, omega (arith, c.before.before.before.before.before.before.before.before.requires.2))
+    (room-less _ _ c.requires.0, omega (arith, c.requires.2))
 
 same_length : tie.Need-shape_of-work-then-own-eq0
 same_length c =
-    c.before.before.put_name.auto.0
+    c.put_name.auto.work
 
 returns : tie.Need-returns-then-own-eq0
 returns c =
-    let a = c.before.before.before.before.before.before.before.before.before.before.before.args in fresh-bare a.work.now a.top a.node a.w _ _ _ c.before.before.before.before.before.before.before.before.word.ensures c.before.before.before.before.before.before.before.produced-origin.ensures c.before.before.before.before.before.reference-own.ensures _ _ c.before.before.before.before.if-own-eq0.true c.before.before.put_name.ensures
+    let a = c.args in fresh-bare a.work.now a.top a.node a.w _ _ _ c.word.ensures c.produced-origin.ensures c.reference-own.ensures _ _ c.if-own-eq0.true c.put_name.ensures
 
 put-join-requires : tie.Need-put_join-joined-requires
 put-join-requires c κs =
-    let a = c.before.before.before.before.before.before.before.before.args in (room-less _ _ c.before.before.before.before.before.before.before.before.requires.0, c.before.before.before.before.before.before.before.before.requires.2, omega (arith, c.before.before.reference-own.ensures, reference_at-most a.work.now a.node 1, c.before.before.before.before.before.before.before.before.requires.1))
+    let a = c.args in (room-less _ _ c.requires.0, c.requires.2, omega (arith, c.reference-own.ensures, reference_at-most a.work.now a.node 1, c.requires.1))
 
 put-name-requires-2 : tie.Need-put_name-requires-2
 put-name-requires-2 c κs =
-    (record { fits = omega (arith, c.before.before.before.before.before.before.before.before.before.before.before.before.requires.0.fits, c.before.before.before.put_join-joined.ensures.end, c.before.before.before.put_join-joined.auto.0); small = omega (arith, c.before.before.before.before.before.before.before.before.before.before.before.before.requires.0.small, c.before.before.before.put_join-joined.ensures.end) }, omega arith)
+    (record { fits = omega (arith, c.requires.0.fits, c.put_join-joined.ensures.end, c.put_join-joined.auto.work); small = omega (arith, c.requires.0.small, c.put_join-joined.ensures.end) }, omega arith)
 
 same-length-2 : tie.Need-shape_of-work
 same-length-2 c =
-    c.before.before.put_name-2.auto.0 ∙ c.before.before.before.before.before.before.put_join-joined.auto.0
+    c.put_name-2.auto.work ∙ c.put_join-joined.auto.work
 
 returns-2 : tie.Need-returns
 returns-2 c =
-    let a = c.before.before.before.before.before.before.before.before.before.before.before.before.before.before.before.args in fresh-joined a.work.now a.top a.node a.w _ _ _ c.before.before.before.before.before.before.before.before.before.before.before.before.word.ensures c.before.before.before.before.before.before.before.before.before.before.before.produced-origin.ensures c.before.before.before.before.before.before.before.before.before.reference-own.ensures _ _ _ _ c.before.before.before.before.before.before.put_join-joined.ensures c.before.before.put_name-2.ensures
+    let a = c.args in fresh-joined a.work.now a.top a.node a.w _ _ _ c.word.ensures c.produced-origin.ensures c.reference-own.ensures _ _ _ _ c.put_join-joined.ensures c.put_name-2.ensures
 
 pub copy_name_spec : {M : Type 1} → statement M
 copy_name_spec =

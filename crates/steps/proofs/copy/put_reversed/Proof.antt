@@ -16,27 +16,27 @@ decreases-loop work₀ top list tail c at₀ node₀ rest₀ k₀ work at node r
 
 loop-holds : tie.Need-loop-k-init invariant-loop decreases-loop
 loop-holds c =
-    let a = c.before.args in reversing-begins a.work.now a.top a.list a.tail a.c c.before.requires.0 c.before.requires.1 c.before.requires.2
+    let a = c.args in reversing-begins a.work.now a.top a.list a.tail a.c c.requires.0 c.requires.1 c.requires.2
 
 put-pair-requires : tie.Need-put_pair-at-requires invariant-loop decreases-loop
 put-pair-requires c κs =
-    let a = c.before.before.before.before.before.before.args in reversing-asks a.work.now a.top a.list a.tail a.c c.before.before.before.before.before.before.requires.0 c.before.before.before.before.before.before.requires.1 c.before.before.before.before.before.before.requires.2 _ _ _ _ _ c.before.before.before.before.loop-k.invariant c.before.before.before.loop-k-test.true _ c.before.first-first.ensures
+    let a = c.args in reversing-asks a.work.now a.top a.list a.tail a.c c.requires.0 c.requires.1 c.requires.2 _ _ _ _ _ c.loop-k.invariant c.loop-k-test.true _ c.first-first.ensures
 
 loop-less : tie.Need-loop-k-smaller invariant-loop decreases-loop
 loop-less c =
-    omega (arith, c.before.before.before.before.before.before.before.before.loop-k-test.true)
+    omega (arith, c.loop-k-test.true)
 
 loop-again : tie.Need-loop-k-preserved invariant-loop decreases-loop
 loop-again c =
-    let a = c.before.before.before.before.before.before.before.before.before.before.before.args in reversing-more a.work.now a.top a.list a.tail a.c c.before.before.before.before.before.before.before.before.before.before.before.requires.0 c.before.before.before.before.before.before.before.before.before.before.before.requires.1 c.before.before.before.before.before.before.before.before.before.before.before.requires.2 _ _ _ _ _ c.before.before.before.before.before.before.before.before.before.loop-k.invariant c.before.before.before.before.before.before.before.before.loop-k-test.true _ c.before.before.before.before.before.before.first-first.ensures _ _ c.before.before.before.before.put_pair-at.ensures c.before.before.before.before.put_pair-at.auto.0 _ c.rest-node.ensures
+    let a = c.args in reversing-more a.work.now a.top a.list a.tail a.c c.requires.0 c.requires.1 c.requires.2 _ _ _ _ _ c.loop-k.invariant c.loop-k-test.true _ c.first-first.ensures _ _ c.put_pair-at.ensures c.put_pair-at.auto.work _ c.rest-node.ensures
 
 same_length : tie.Need-shape_of-work invariant-loop decreases-loop
 same_length c =
-    c.before.loop-k.invariant.long
+    c.loop-k.invariant.long
 
 returns : tie.Need-returns invariant-loop decreases-loop
 returns c =
-    let a = c.before.before.before.args in reversing-ends a.work.now a.top a.list a.tail a.c c.before.before.before.requires.0 c.before.before.before.requires.1 c.before.before.before.requires.2 _ _ _ _ _ c.before.loop-k.invariant (omega (arith, c.loop-k-test.false))
+    let a = c.args in reversing-ends a.work.now a.top a.list a.tail a.c c.requires.0 c.requires.1 c.requires.2 _ _ _ _ _ c.loop-k.invariant (omega (arith, c.loop-k-test.false))
 
 pub put_reversed_spec : {M : Type 1} → statement M
 put_reversed_spec =

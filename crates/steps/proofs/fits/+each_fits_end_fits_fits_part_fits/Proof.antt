@@ -96,95 +96,71 @@ each-fits-μ-loop work p list w behind element node₀ ahead₀ node ahead =
 
 each-fits-returns : (t : ℕ) → each-fits-lts.Need-returns-in_default (each-fits-claims t) (each-fits-at t) each_fits.Post each-fits-Inv-loop each-fits-μ-loop
 each-fits-returns t c =
-    let a = c.before.before.before.before.args in
-    each-short a.work.now a.p a.list a.w c.before.before.before.before.requires.1 (subst (λ r. LooksAhead a.work.now a.p a.list r) c.enum_told-1.given.1 c.before.before.look_ahead.ensures)
+    let a = c.args in
+    each-short a.work.now a.p a.list a.w c.requires.1 (subst (λ r. LooksAhead a.work.now a.p a.list r) c.in_default.is c.look_ahead.ensures)
 
 each-fits-loop-holds : (t : ℕ) → each-fits-lts.Need-loop-first-init (each-fits-claims t) (each-fits-at t) each_fits.Post each-fits-Inv-loop each-fits-μ-loop
 each-fits-loop-holds t c =
-    let a = c.before.before.before.before.before.before.args in
-    each-begins a.work.now a.p a.list a.w c.before.before.before.before.before.before.requires.1 _ (subst (λ r. LooksAhead a.work.now a.p a.list r) c.before.before.behind-1.given.1 c.before.before.before.before.look_ahead.ensures)
+    let a = c.args in
+    each-begins a.work.now a.p a.list a.w c.requires.1 _ (subst (λ r. LooksAhead a.work.now a.p a.list r) c.in-Yes.is c.look_ahead.ensures)
 
 each-fits-part-fits-requires : (t : ℕ) → each-fits-lts.Need-part_fits-requires (each-fits-claims t) (each-fits-at t) each_fits.Post each-fits-Inv-loop each-fits-μ-loop
 each-fits-part-fits-requires t c κs =
-    let a = c.before.before.before.before.before.before.before.before.before.before.args in
-    let pre = c.before.before.before.before.before.before.before.before.before.before.requires in
-    let l = tag-falls a.work.now a.p 7 (sym pre.1) 3 _ (λ z. omega arith) c.before.before.before.before.reference-element.ensures in
+    let a = c.args in
+    let pre = c.requires in
+    let l = tag-falls a.work.now a.p 7 (sym pre.1) 3 _ (λ z. omega arith) c.reference-element.ensures in
     omega (arith, l, pre.0)
 
 each-fits-returns-2 : (t : ℕ) → each-fits-lts.Need-returns-then-not-part_fits (each-fits-claims t) (each-fits-at t) each_fits.Post each-fits-Inv-loop each-fits-μ-loop
 each-fits-returns-2 t c =
-    let a = c.before.before.before.before.before.before.before.before.before.before.before.before.args in
-    let reference = c.before.before.before.before.before.before.reference-element in
-    let loop = c.before.before.before.before.before.loop-first in
-    let word = c.before.before.before.before.word in
-    let if1 = c.before.before.before.loop-first-test in
-    each-no a.work.now a.p a.list a.w loop.node loop.ahead _ word.ensures loop.invariant _ _ _ if1.true reference.ensures c.before.before.reference-first.ensures c.before.part_fits.ensures _ refl (not-true _ c.if-not-part_fits.true)
+    let a = c.args in
+    each-no a.work.now a.p a.list a.w c.loop-first.node c.loop-first.ahead _ c.word.ensures c.loop-first.invariant _ _ _ c.loop-first-test.true c.reference-element.ensures c.reference-first.ensures c.part_fits.ensures _ refl (not-true _ c.if-not-part_fits.true-raw)
 
 each-fits-loop-less : (t : ℕ) → each-fits-lts.Need-loop-first-smaller (each-fits-claims t) (each-fits-at t) each_fits.Post each-fits-Inv-loop each-fits-μ-loop
 each-fits-loop-less t c =
-    let a = c.before.before.before.before.before.before.before.before.before.before.before.before.before.before.args in
-    let loop = c.before.before.before.before.before.before.before.loop-first in
-    let word = c.before.before.before.before.before.before.word in
-    let if1 = c.before.before.before.before.before.loop-first-test in
-    omega (arith, c.reference-ahead.ensures, pair-falls a.work.now loop.ahead 1 (sym word.ensures ∙ if1.true))
+    let a = c.args in
+    omega (arith, c.reference-ahead.ensures, pair-falls a.work.now c.loop-first.ahead 1 (sym c.word.ensures ∙ c.loop-first-test.true))
 
 each-fits-loop-again : (t : ℕ) → each-fits-lts.Need-loop-first-preserved (each-fits-claims t) (each-fits-at t) each_fits.Post each-fits-Inv-loop each-fits-μ-loop
 each-fits-loop-again t c =
-    let a = c.before.before.before.before.before.before.before.before.before.before.before.before.before.before.args in
-    let reference = c.before.before.before.before.before.before.before.before.reference-element in
-    let loop = c.before.before.before.before.before.before.before.loop-first in
-    let word = c.before.before.before.before.before.before.word in
-    let if1 = c.before.before.before.before.before.loop-first-test in
-    let reference2 = c.before.before.before.before.reference-first in
-    let part-fits = c.before.before.before.part_fits in
-    let if2 = c.before.before.if-not-part_fits in
-    each_more a.work.now a.p a.list a.w loop.node loop.ahead _ word.ensures loop.invariant _ _ _ if1.true reference.ensures reference2.ensures part-fits.ensures _ c.before.reference-node.ensures _ (not-false _ if2.false) c.reference-ahead.ensures
+    let a = c.args in
+    each_more a.work.now a.p a.list a.w c.loop-first.node c.loop-first.ahead _ c.word.ensures c.loop-first.invariant _ _ _ c.loop-first-test.true c.reference-element.ensures c.reference-first.ensures c.part_fits.ensures _ c.reference-node.ensures _ (not-false _ c.if-not-part_fits.false-raw) c.reference-ahead.ensures
 
 each-fits-fits-requires : (t : ℕ) → each-fits-lts.Need-fits-requires (each-fits-claims t) (each-fits-at t) each_fits.Post each-fits-Inv-loop each-fits-μ-loop
 each-fits-fits-requires t c κs =
-    let a = c.before.before.before.before.before.before.before.before.before.before.args in
-    let pre = c.before.before.before.before.before.before.before.before.before.before.requires in
+    let a = c.args in
+    let pre = c.requires in
     let l = tag-falls a.work.now a.p 7 (sym pre.1) 2 _ (λ z. omega arith) c.reference-rest.ensures in
     (omega (arith, l, pre.0), tt)
 
 each-fits-returns-3 : (t : ℕ) → each-fits-lts.Need-returns (each-fits-claims t) (each-fits-at t) each_fits.Post each-fits-Inv-loop each-fits-μ-loop
 each-fits-returns-3 t c =
-    let a = c.before.before.before.before.before.before.before.before.before.before.before.args in
-    let loop = c.before.before.before.before.loop-first in
-    let word = c.before.before.before.word in
-    let if1 = c.before.before.loop-first-test in
-    each-ends a.work.now a.p a.list a.w loop.node loop.ahead _ word.ensures loop.invariant _ _ if1.false c.before.reference-rest.ensures c.fits2.ensures
+    let a = c.args in
+    each-ends a.work.now a.p a.list a.w c.loop-first.node c.loop-first.ahead _ c.word.ensures c.loop-first.invariant _ _ c.loop-first-test.false c.reference-rest.ensures c.fits2.ensures
 
 end-fits-returns : (t : ℕ) → end-fits-lts.Need-returns-then-tag-eq-VARIABLE (end-fits-claims t) (end-fits-at t) end_fits.Post
 end-fits-returns t c =
-    let a = c.before.before.before.args in
-    let word = c.before.word-tag in
-    fits-variable a.work.now a.p _ word.ensures a.u a.w c.if-tag-eq-VARIABLE.true
+    let a = c.args in
+    fits-variable a.work.now a.p _ c.word-tag.ensures a.u a.w c.if-tag-eq-VARIABLE.true
 
 end-fits-returns-2 : (t : ℕ) → end-fits-lts.Need-returns-then-tag-eq-NAME (end-fits-claims t) (end-fits-at t) end_fits.Post
 end-fits-returns-2 t c =
-    let a = c.before.before.before.before.before.args in
-    let word = c.before.before.before.word-tag in
-    let if2 = c.before.if-tag-eq-NAME in
-    let literal-fits = c.literal_fits in
-    fits-literal a.work.now a.p _ word.ensures a.u a.w _ if2.true literal-fits.ensures
+    let a = c.args in
+    fits-literal a.work.now a.p _ c.word-tag.ensures a.u a.w _ c.if-tag-eq-NAME.true c.literal_fits.ensures
 
 end-fits-returns-3 : (t : ℕ) → end-fits-lts.Need-returns-then-tag-eq-WILDCARD (end-fits-claims t) (end-fits-at t) end_fits.Post
 end-fits-returns-3 t c =
-    let a = c.before.before.before.before.before.args in
-    let word = c.before.before.before.word-tag in
-    fits-wildcard a.work.now a.p _ word.ensures a.u a.w c.if-tag-eq-WILDCARD.true
+    let a = c.args in
+    fits-wildcard a.work.now a.p _ c.word-tag.ensures a.u a.w c.if-tag-eq-WILDCARD.true
 
 end-fits-returns-4 : (t : ℕ) → end-fits-lts.Need-returns-then-tag-eq-CONSTANT (end-fits-claims t) (end-fits-at t) end_fits.Post
 end-fits-returns-4 t c =
-    let a = c.before.before.before.before.before.before.before.args in
-    let word = c.before.before.before.before.before.word-tag in
-    let if4 = c.before.if-tag-eq-CONSTANT in
-    fits-constant a.work.now a.p _ word.ensures a.u a.w _ if4.true c.constant_fits.ensures
+    let a = c.args in
+    fits-constant a.work.now a.p _ c.word-tag.ensures a.u a.w _ c.if-tag-eq-CONSTANT.true c.constant_fits.ensures
 
 end-fits-each-fits-requires : (t : ℕ) → end-fits-lts.Need-each_fits-requires (end-fits-claims t) (end-fits-at t) end_fits.Post
 end-fits-each-fits-requires t c κs =
-    (omega (arith, c.before.before.before.before.before.before.before.requires.0), sym c.before.before.before.before.before.word-tag.ensures ∙ c.if-tag-eq-ELLIPSIS.true)
+    (omega (arith, c.requires.0), sym c.word-tag.ensures ∙ c.if-tag-eq-ELLIPSIS.true)
 
 end-fits-returns-5 : (t : ℕ) → end-fits-lts.Need-returns-then-tag-eq-ELLIPSIS (end-fits-claims t) (end-fits-at t) end_fits.Post
 end-fits-returns-5 t c =
@@ -192,15 +168,9 @@ end-fits-returns-5 t c =
 
 end-fits-returns-6 : (t : ℕ) → end-fits-lts.Need-returns (end-fits-claims t) (end-fits-at t) end_fits.Post
 end-fits-returns-6 t c =
-    let a = c.before.before.before.before.before.before.before.before.args in
-    let pre = c.before.before.before.before.before.before.before.before.requires in
-    let word = c.before.before.before.before.before.before.word-tag in
-    let if1 = c.before.before.before.before.before.if-tag-eq-VARIABLE in
-    let if2 = c.before.before.before.before.if-tag-eq-NAME in
-    let if3 = c.before.before.before.if-tag-eq-WILDCARD in
-    let if4 = c.before.before.if-tag-eq-CONSTANT in
-    let if5 = c.before.if-tag-eq-ELLIPSIS in
-    fits-empty a.work.now a.p _ word.ensures a.u a.w _ c.word.ensures if1.false if2.false if3.false if4.false pre.1 if5.false
+    let a = c.args in
+    let pre = c.requires in
+    fits-empty a.work.now a.p _ c.word-tag.ensures a.u a.w _ c.word.ensures c.if-tag-eq-VARIABLE.false c.if-tag-eq-NAME.false c.if-tag-eq-WILDCARD.false c.if-tag-eq-CONSTANT.false pre.1 c.if-tag-eq-ELLIPSIS.false
 
 abbrev fits-Inv-loop : fits-lts.invariant-loop
 fits-Inv-loop work p u w at₀ node₀ at node =
@@ -284,13 +254,12 @@ fits-returns-3 t c =
 
 part-fits-returns : (t : ℕ) → part-fits-lts.Need-returns-then-word-eq-VARIABLE (part-fits-claims t) (part-fits-at t) part-fits.Post
 part-fits-returns t c =
-    let a = c.before.before.before.args in
-    let word = c.before.word in
-    fits-variable a.work.now a.p _ word.ensures a.u a.w c.if-word-eq-VARIABLE.true
+    let a = c.args in
+    fits-variable a.work.now a.p _ c.word.ensures a.u a.w c.if-word-eq-VARIABLE.true
 
 part-fits-fits-requires : (t : ℕ) → part-fits-lts.Need-fits-requires (part-fits-claims t) (part-fits-at t) part-fits.Post
 part-fits-fits-requires t c κs =
-    let pre = c.before.before.before.requires in
+    let pre = c.requires in
     (omega arith, pre.1)
 
 part-fits-returns-2 : (t : ℕ) → part-fits-lts.Need-returns (part-fits-claims t) (part-fits-at t) part-fits.Post

@@ -9,19 +9,19 @@ use mathlib.Core.Logic.{inl, inr}
 
 returns : tie.Need-returns-then-kind-eq-EMPTY
 returns c =
-    let a = c.before.before.before.args in constant-no a.work.now a.p a.u _ c.before.word-kind.ensures (inl c.if-kind-eq-EMPTY.true)
+    let a = c.args in constant-no a.work.now a.p a.u _ c.word-kind.ensures (inl c.if-kind-eq-EMPTY.true)
 
 returns-2 : tie.Need-returns-then-kind-eq-NAME
 returns-2 c =
-    let a = c.before.before.before.before.args in constant-no a.work.now a.p a.u _ c.before.before.word-kind.ensures (inr (inl c.if-kind-eq-NAME.true))
+    let a = c.args in constant-no a.work.now a.p a.u _ c.word-kind.ensures (inr (inl c.if-kind-eq-NAME.true))
 
 returns-3 : tie.Need-returns-then-kind-eq-PAIR
 returns-3 c =
-    let a = c.before.before.before.before.before.args in constant-no a.work.now a.p a.u _ c.before.before.before.word-kind.ensures (inr (inr c.if-kind-eq-PAIR.true))
+    let a = c.args in constant-no a.work.now a.p a.u _ c.word-kind.ensures (inr (inr c.if-kind-eq-PAIR.true))
 
 returns-4 : tie.Need-returns
 returns-4 c =
-    let a = c.before.before.before.before.before.before.before.before.before.before.before.args in constant-matches a.work.now a.p a.u _ c.before.before.before.before.before.before.before.before.before.word-kind.ensures c.before.before.before.before.before.before.before.before.if-kind-eq-EMPTY.false c.before.before.before.before.before.before.before.if-kind-eq-NAME.false c.before.before.before.before.before.before.if-kind-eq-PAIR.false _ _ _ _ _ c.before.before.before.before.before.word.ensures c.before.before.before.before.word-2.ensures c.before.before.before.word-3.ensures c.before.before.word-4.ensures c.before.word-5.ensures _ c.matches.ensures
+    let a = c.args in constant-matches a.work.now a.p a.u _ c.word-kind.ensures c.if-kind-eq-EMPTY.false c.if-kind-eq-NAME.false c.if-kind-eq-PAIR.false _ _ _ _ _ c.word.ensures c.word-2.ensures c.word-3.ensures c.word-4.ensures c.word-5.ensures _ c.matches.ensures
 
 pub constant_fits_spec : {M : Type 1} → statement M
 constant_fits_spec =

@@ -16,23 +16,23 @@ decreases-loop work rules u w rule₀ rule =
 
 loop-holds : tie.Need-loop-rule-init invariant-loop decreases-loop
 loop-holds c =
-    let a = c.before.args in tried-begins a.work.now a.rules a.u a.w
+    let a = c.args in tried-begins a.work.now a.rules a.u a.w
 
 returns : tie.Need-returns-then-fits invariant-loop decreases-loop
 returns c =
-    let a = c.before.before.before.before.before.before.args in tried-fits a.work.now a.rules a.u a.w c.before.before.before.before.loop-rule.rule c.before.before.before.before.loop-rule.invariant _ _ c.before.before.before.loop-rule-test.true c.before.before.reference.ensures c.before.fits2.ensures c.if-fits.true
+    let a = c.args in tried-fits a.work.now a.rules a.u a.w c.loop-rule.rule c.loop-rule.invariant _ _ c.loop-rule-test.true c.reference.ensures c.fits2.ensures c.if-fits.true
 
 loop-less : tie.Need-loop-rule-smaller invariant-loop decreases-loop
 loop-less c =
-    let a = c.before.before.before.before.before.before.before.args in omega (arith, c.reference-rule.ensures, reference_at-falls a.work.now c.before.before.before.before.before.loop-rule.rule 1 (omega arith))
+    let a = c.args in omega (arith, c.reference-rule.ensures, reference_at-falls a.work.now c.loop-rule.rule 1 (omega arith))
 
 loop-again : tie.Need-loop-rule-preserved invariant-loop decreases-loop
 loop-again c =
-    let a = c.before.before.before.before.before.before.before.args in tried-more a.work.now a.rules a.u a.w c.before.before.before.before.before.loop-rule.rule c.before.before.before.before.before.loop-rule.invariant _ _ c.before.before.before.before.loop-rule-test.true c.before.before.before.reference.ensures c.before.before.fits2.ensures _ c.before.if-fits.false c.reference-rule.ensures
+    let a = c.args in tried-more a.work.now a.rules a.u a.w c.loop-rule.rule c.loop-rule.invariant _ _ c.loop-rule-test.true c.reference.ensures c.fits2.ensures _ c.if-fits.false c.reference-rule.ensures
 
 returns-2 : tie.Need-returns invariant-loop decreases-loop
 returns-2 c =
-    let a = c.before.before.before.args in tried-ends a.work.now a.rules a.u a.w c.before.loop-rule.rule c.before.loop-rule.invariant c.loop-rule-test.false
+    let a = c.args in tried-ends a.work.now a.rules a.u a.w c.loop-rule.rule c.loop-rule.invariant c.loop-rule-test.false
 
 pub first_fit_spec : {M : Type 1} → statement M
 first_fit_spec =

@@ -9,7 +9,7 @@ word-requires c κs = search rules
 
 returns : tie.Need-returns-then-word-ne-NAME
 returns c =
-    let a = c.before.before.before.args in literal-no-name a.work.now a.u a.w _ c.before.word.ensures a.p c.if-word-ne-NAME.true
+    let a = c.args in literal-no-name a.work.now a.u a.w _ c.word.ensures a.p c.if-word-ne-NAME.true
 
 word-requires-2 : tie.Need-word-number-requires
 word-requires-2 c κs = search rules
@@ -22,7 +22,7 @@ agrees-requires c κs = search rules
 
 returns-2 : tie.Need-returns
 returns-2 c =
-    let a = c.before.before.before.before.before.before.args in literal-name a.work.now a.u a.w _ c.before.before.before.before.word.ensures a.p _ _ _ c.before.before.before.if-word-ne-NAME.false c.before.before.word-number.ensures c.before.word-binding.ensures c.agrees.ensures
+    let a = c.args in literal-name a.work.now a.u a.w _ c.word.ensures a.p _ _ _ c.if-word-ne-NAME.false c.word-number.ensures c.word-binding.ensures c.agrees.ensures
 
 pub literal_fits_spec : {M : Type 1} → statement M
 literal_fits_spec =

@@ -8,23 +8,23 @@ use Rattle.supplier.specs.ToldLaws.{lambda-three, front-lambda, front-names}
 
 sub-names : tie.Need-overflow_sub-names
 sub-names c =
-    omega (arith, lambda-three _ _ _ c.before.requires)
+    omega (arith, lambda-three _ _ _ c.requires)
 
 add-of : tie.Need-overflow_add-wide
 add-of c =
-    omega (arith, c.wide-then-wide-names.ensures, c.before.before.before.before.well_formed.0)
+    omega (arith, c.wide-then-wide-names.ensures, c.well_formed.0)
 
 returns : tie.Need-returns-then-wide-names
 returns c =
-    subst (Fronted _) (sym c.of.ensures) (front-lambda _ _ _ c.before.before.before.before.before.requires (omega (arith, c.before.before.if-wide-names.true, c.before.before.before.wide.ensures)) _ (omega (arith, c.before.wide-then-wide-names.ensures)))
+    subst (Fronted _) (sym c.of.ensures) (front-lambda _ _ _ c.requires (omega (arith, c.if-wide-names.true, c.wide.ensures)) _ (omega (arith, c.wide-then-wide-names.ensures)))
 
 cast-of : tie.Need-overflow_cast-names
 cast-of c =
-    omega (arith, c.before.wide.ensures, c.if-wide-names.false, c.before.before.before.well_formed)
+    omega (arith, c.wide.ensures, c.if-wide-names.false, c.well_formed)
 
 returns-2 : tie.Need-returns
 returns-2 c =
-    subst (Fronted _) (sym c.of-2.ensures) (front-names _ _ _ c.before.before.before.before.requires (omega (arith, c.before.if-wide-names.false, c.before.before.wide.ensures)))
+    subst (Fronted _) (sym c.of-2.ensures) (front-names _ _ _ c.requires (omega (arith, c.if-wide-names.false, c.wide.ensures)))
 
 pub lambda_spec : {M : Type 1} → statement M
 lambda_spec =

@@ -9,66 +9,48 @@ use Rattle.supplier.specs.ToldLaws.{front-variable, front-operation, front-integ
 
 lambda-requires : tie.Need-lambda-requires
 lambda-requires c κs =
-    let at_first = c.before in
-    let at-opened = at_first.before.before in
-    let args' = at-opened.before.before.args in
-    sym (subst (λ x. node_at args'.words.now ≡ node_in args'.words.now x) at_first.first-1.given.1 (sym at-opened.opened.ensures))
+    let args' = c.args in
+    sym (subst (λ x. node_at args'.words.now ≡ node_in args'.words.now x) c.in-Lambda.is (sym c.opened.ensures))
 
 returns : tie.Need-returns-in-Variable
 returns c =
-    let at_n = c.before.before in
-    let at-opened = at_n.before.before in
-    let args' = at-opened.before.before.args in
-    subst (Fronted _) (sym c.of.ensures) (front-variable _ _ (sym (subst (λ x. node_at args'.words.now ≡ node_in args'.words.now x) at_n.n-1.given.1 (sym at-opened.opened.ensures))))
+    let args' = c.args in
+    subst (Fronted _) (sym c.of.ensures) (front-variable _ _ (sym (subst (λ x. node_at args'.words.now ≡ node_in args'.words.now x) c.in-Variable.is (sym c.opened.ensures))))
 
 returns-2 : tie.Need-returns-in-Operation
 returns-2 c =
-    let at-n2 = c.before.before in
-    let at-opened = at-n2.before.before in
-    let args' = at-opened.before.before.args in
-    subst (Fronted _) (sym c.of-in-Operation.ensures) (front-operation _ _ (sym (subst (λ x. node_at args'.words.now ≡ node_in args'.words.now x) at-n2.n-in-Operation-1.given.1 (sym at-opened.opened.ensures))))
+    let args' = c.args in
+    subst (Fronted _) (sym c.of-in-Operation.ensures) (front-operation _ _ (sym (subst (λ x. node_at args'.words.now ≡ node_in args'.words.now x) c.in-Operation.is (sym c.opened.ensures))))
 
 returns-3 : tie.Need-returns-in-Integer
 returns-3 c =
-    let at-w = c.before.before in
-    let at-opened = at-w.before.before in
-    let args' = at-opened.before.before.args in
-    subst (Fronted _) (sym c.of-in-Integer.ensures) (front-integer _ _ (sym (subst (λ x. node_at args'.words.now ≡ node_in args'.words.now x) at-w.w-1.given.1 (sym at-opened.opened.ensures))))
+    let args' = c.args in
+    subst (Fronted _) (sym c.of-in-Integer.ensures) (front-integer _ _ (sym (subst (λ x. node_at args'.words.now ≡ node_in args'.words.now x) c.in-Integer.is (sym c.opened.ensures))))
 
 returns-4 : tie.Need-returns-in-Boolean
 returns-4 c =
-    let at-w2 = c.before.before in
-    let at-opened = at-w2.before.before in
-    let args' = at-opened.before.before.args in
-    subst (Fronted _) (sym c.of-in-Boolean.ensures) (front-boolean _ _ (sym (subst (λ x. node_at args'.words.now ≡ node_in args'.words.now x) at-w2.w-in-Boolean-1.given.1 (sym at-opened.opened.ensures))))
+    let args' = c.args in
+    subst (Fronted _) (sym c.of-in-Boolean.ensures) (front-boolean _ _ (sym (subst (λ x. node_at args'.words.now ≡ node_in args'.words.now x) c.in-Boolean.is (sym c.opened.ensures))))
 
 returns-5 : tie.Need-returns-in-Decimal
 returns-5 c =
-    let at-w3 = c.before.before in
-    let at-opened = at-w3.before.before in
-    let args' = at-opened.before.before.args in
-    subst (Fronted _) (sym c.of-in-Decimal.ensures) (front-decimal _ _ _ (sym (subst (λ x. node_at args'.words.now ≡ node_in args'.words.now x) at-w3.w-in-Decimal-1.given.1 (sym at-opened.opened.ensures))))
+    let args' = c.args in
+    subst (Fronted _) (sym c.of-in-Decimal.ensures) (front-decimal _ _ _ (sym (subst (λ x. node_at args'.words.now ≡ node_in args'.words.now x) c.in-Decimal.is (sym c.opened.ensures))))
 
 returns-6 : tie.Need-returns-in-Name
 returns-6 c =
-    let at-n3 = c.before.before in
-    let at-opened = at-n3.before.before in
-    let args' = at-opened.before.before.args in
-    subst (Fronted _) (sym c.of-in-Name.ensures) (front-name _ _ (sym (subst (λ x. node_at args'.words.now ≡ node_in args'.words.now x) at-n3.n-in-Name-1.given.1 (sym at-opened.opened.ensures))))
+    let args' = c.args in
+    subst (Fronted _) (sym c.of-in-Name.ensures) (front-name _ _ (sym (subst (λ x. node_at args'.words.now ≡ node_in args'.words.now x) c.in-Name.is (sym c.opened.ensures))))
 
 returns-7 : tie.Need-returns-in-List
 returns-7 c =
-    let at-n4 = c.before.before in
-    let at-opened = at-n4.before.before in
-    let args' = at-opened.before.before.args in
-    subst (Fronted _) (sym c.of-in-List.ensures) (front-list _ _ (sym (subst (λ x. node_at args'.words.now ≡ node_in args'.words.now x) at-n4.n-in-List-1.given.1 (sym at-opened.opened.ensures))))
+    let args' = c.args in
+    subst (Fronted _) (sym c.of-in-List.ensures) (front-list _ _ (sym (subst (λ x. node_at args'.words.now ≡ node_in args'.words.now x) c.in-List.is (sym c.opened.ensures))))
 
 returns-8 : tie.Need-returns-in-If
 returns-8 c =
-    let at-enum-told = c.before in
-    let at-opened = at-enum-told.before.before in
-    let args' = at-opened.before.before.args in
-    subst (Fronted _) (sym c.of-in-If.ensures) (front-if _ (sym (subst (λ x. node_at args'.words.now ≡ node_in args'.words.now x) at-enum-told.enum_told-1.given.1 (sym at-opened.opened.ensures))))
+    let args' = c.args in
+    subst (Fronted _) (sym c.of-in-If.ensures) (front-if _ (sym (subst (λ x. node_at args'.words.now ≡ node_in args'.words.now x) c.in-If.is (sym c.opened.ensures))))
 
 returns-9 : tie.Need-returns-in-Lambda
 returns-9 c =
@@ -76,17 +58,13 @@ returns-9 c =
 
 returns-10 : tie.Need-returns-in-Application
 returns-10 c =
-    let at-n5 = c.before.before in
-    let at-opened = at-n5.before.before in
-    let args' = at-opened.before.before.args in
-    subst (Fronted _) (sym c.of-in-Application.ensures) (front-application _ _ (sym (subst (λ x. node_at args'.words.now ≡ node_in args'.words.now x) at-n5.n-in-Application-1.given.1 (sym at-opened.opened.ensures))))
+    let args' = c.args in
+    subst (Fronted _) (sym c.of-in-Application.ensures) (front-application _ _ (sym (subst (λ x. node_at args'.words.now ≡ node_in args'.words.now x) c.in-Application.is (sym c.opened.ensures))))
 
 returns-11 : tie.Need-returns-in-None
 returns-11 c =
-    let at-enum-told2 = c.before in
-    let at-opened = at-enum-told2.before.before in
-    let args' = at-opened.before.before.args in
-    subst (Fronted _) (sym c.of-in-None.ensures) (front-none _ (sym (subst (λ x. node_at args'.words.now ≡ node_in args'.words.now x) at-enum-told2.enum_told-in-None-1.given.1 (sym at-opened.opened.ensures))))
+    let args' = c.args in
+    subst (Fronted _) (sym c.of-in-None.ensures) (front-none _ (sym (subst (λ x. node_at args'.words.now ≡ node_in args'.words.now x) c.in-None.is (sym c.opened.ensures))))
 
 pub own_spec : {M : Type 1} → statement M
 own_spec =

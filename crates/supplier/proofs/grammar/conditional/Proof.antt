@@ -13,11 +13,11 @@ use Rattle.supplier.specs.Told.{found_of}
 returns : tie.Need-returns-then-count-ne3
 unfolding found_of
 returns c =
-    λ ds o. told-as _ _ _ _ (ap (λ b. cond b (takes if_sort 0 (ours_of (node_at c.before.before.before.before.before.args.words.now))) outside) (sym (ne_eqb (D.count ds) 3 (λ e. c.before.if-count-ne3.true (c.before.before.count.ensures ds o ∙ e))))) c.lost.ensures
+    λ ds o. told-as _ _ _ _ (ap (λ b. cond b (takes if_sort 0 (ours_of (node_at c.args.words.now))) outside) (sym (ne_eqb (D.count ds) 3 (λ e. c.if-count-ne3.true (c.count.ensures ds o ∙ e))))) c.lost.ensures
 
 returns-2 : tie.Need-returns
 returns-2 c =
-    λ ds o. told-as _ _ _ _ (ap (λ b. cond b (takes if_sort 0 (ours_of (node_at c.before.before.before.before.before.args.words.now))) outside) (sym (eq-eqb (D.count ds) 3 (sym (c.before.before.count.ensures ds o) ∙ c.before.if-count-ne3.false)))) c.takes.ensures
+    λ ds o. told-as _ _ _ _ (ap (λ b. cond b (takes if_sort 0 (ours_of (node_at c.args.words.now))) outside) (sym (eq-eqb (D.count ds) 3 (sym (c.count.ensures ds o) ∙ c.if-count-ne3.false)))) c.takes.ensures
 
 pub conditional_spec : {M : Type 1} → statement M
 conditional_spec =

@@ -21,7 +21,7 @@ decreases-loop items i j₀ n₀ j n =
 
 loop-holds : tie.Need-loop-j-init invariant-loop decreases-loop
 loop-holds c =
-    (c.before.requires, counting-start _ _, omega arith)
+    (c.requires, counting-start _ _, omega arith)
 
 kind-requires : tie.Need-kind-requires invariant-loop decreases-loop
 kind-requires c κs =
@@ -29,30 +29,25 @@ kind-requires c κs =
 
 tail-requires : tie.Need-tail-j-requires invariant-loop decreases-loop
 tail-requires c κs =
-    all_in _ _ c.before.before.loop-j.invariant.0
+    all_in _ _ c.loop-j.invariant.0
 
 add-n : tie.Need-overflow_add-n invariant-loop decreases-loop
 add-n c =
-    let loop = c.before.before.before.loop-j in
-    omega (arith, loop.invariant.2, all_in _ _ loop.invariant.0, c.before.before.before.before.before.well_formed.0)
+    omega (arith, c.loop-j.invariant.2, all_in _ _ c.loop-j.invariant.0, c.well_formed.0)
 
 loop-less : tie.Need-loop-j-smaller invariant-loop decreases-loop
 loop-less c =
-    let loop = c.before.before.before.loop-j in
-    let t = tail-held _ _ _ c.before.before.kind.ensures c.before.loop-j-test.true loop.invariant.0 _ c.tail-j.ensures in
-    omega (arith, t.1, all_in _ _ loop.invariant.0)
+    let t = tail-held _ _ _ c.kind.ensures c.loop-j-test.true c.loop-j.invariant.0 _ c.tail-j.ensures in
+    omega (arith, t.1, all_in _ _ c.loop-j.invariant.0)
 
 loop-again : tie.Need-loop-j-preserved invariant-loop decreases-loop
 loop-again c =
-    let loop = c.before.before.before.loop-j in
-    let kind = c.before.before.kind in
-    let if1 = c.before.loop-j-test in
-    let t = tail-held _ _ _ kind.ensures if1.true loop.invariant.0 _ c.tail-j.ensures in
-    (t.0, counting-next _ _ _ _ loop.invariant.1 _ kind.ensures if1.true _ c.tail-j.ensures, omega (arith, loop.invariant.2, t.1))
+    let t = tail-held _ _ _ c.kind.ensures c.loop-j-test.true c.loop-j.invariant.0 _ c.tail-j.ensures in
+    (t.0, counting-next _ _ _ _ c.loop-j.invariant.1 _ c.kind.ensures c.loop-j-test.true _ c.tail-j.ensures, omega (arith, c.loop-j.invariant.2, t.1))
 
 returns : tie.Need-returns invariant-loop decreases-loop
 returns c =
-    counting-end _ _ _ _ c.before.before.loop-j.invariant.1 _ c.before.kind.ensures c.loop-j-test.false
+    counting-end _ _ _ _ c.loop-j.invariant.1 _ c.kind.ensures c.loop-j-test.false
 
 pub count_spec : {M : Type 1} → statement M
 count_spec =

@@ -11,42 +11,31 @@ use Rattle.supplier.specs.ListLaws.{quotes-other, one-held, quotes-at-name, quot
 
 returns : tie.Need-returns-then-count-ne1
 returns c =
-    quotes-other _ _ _ c.before.count.ensures c.if-count-ne1.true
+    quotes-other _ _ _ c.count.ensures c.if-count-ne1.true
 
 head-requires : tie.Need-head-requires
 head-requires c κs =
-    all_in _ _ c.before.before.before.requires
+    all_in _ _ c.requires
 
 kind-requires : tie.Need-kind-k-requires
 kind-requires c κs =
-    held_in _ _ (one-held _ _ _ c.before.before.count.ensures c.before.if-count-ne1.false _ c.head.ensures c.before.before.before.before.requires)
+    held_in _ _ (one-held _ _ _ c.count.ensures c.if-count-ne1.false _ c.head.ensures c.requires)
 
 returns-2 : tie.Need-returns-then-k-eq-NAME
 returns-2 c =
-    quotes-at-name _ _ _ c.before.before.before.before.count.ensures c.before.before.before.if-count-ne1.false _ c.before.before.head.ensures _ c.before.kind-k.ensures c.if-k-eq-NAME.true
+    quotes-at-name _ _ _ c.count.ensures c.if-count-ne1.false _ c.head.ensures _ c.kind-k.ensures c.if-k-eq-NAME.true
 
 returns-3 : tie.Need-returns-then-k-eq-EMPTY
 returns-3 c =
-    let at-kind = c.before.before in
-    let at_head = at-kind.before in
-    let at-if1 = at_head.before in
-    quotes-at-empty _ _ _ at-if1.before.count.ensures at-if1.if-count-ne1.false _ at_head.head.ensures _ at-kind.kind-k.ensures c.if-k-eq-EMPTY.true
+    quotes-at-empty _ _ _ c.count.ensures c.if-count-ne1.false _ c.head.ensures _ c.kind-k.ensures c.if-k-eq-EMPTY.true
 
 returns-4 : tie.Need-returns-then-k-eq-PAIR
 returns-4 c =
-    let at-kind = c.before.before.before in
-    let at_head = at-kind.before in
-    let at-if1 = at_head.before in
-    quotes-at-pair _ _ _ at-if1.before.count.ensures at-if1.if-count-ne1.false _ at_head.head.ensures _ at-kind.kind-k.ensures c.if-k-eq-PAIR.true
+    quotes-at-pair _ _ _ c.count.ensures c.if-count-ne1.false _ c.head.ensures _ c.kind-k.ensures c.if-k-eq-PAIR.true
 
 returns-5 : tie.Need-returns
 returns-5 c =
-    let at-if3 = c.before in
-    let at-if2 = at-if3.before in
-    let at-kind = at-if2.before in
-    let at_head = at-kind.before in
-    let at-if1 = at_head.before in
-    quotes-at-constant _ _ _ at-if1.before.count.ensures at-if1.if-count-ne1.false _ at_head.head.ensures _ at-kind.kind-k.ensures at-if3.if-k-eq-EMPTY.false c.if-k-eq-PAIR.false at-if2.if-k-eq-NAME.false
+    quotes-at-constant _ _ _ c.count.ensures c.if-count-ne1.false _ c.head.ensures _ c.kind-k.ensures c.if-k-eq-EMPTY.false c.if-k-eq-PAIR.false c.if-k-eq-NAME.false
 
 pub is_quotation_spec : {M : Type 1} → statement M
 is_quotation_spec =

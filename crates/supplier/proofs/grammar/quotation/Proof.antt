@@ -10,12 +10,12 @@ use Rattle.supplier.specs.Told.{found_of}
 
 returns : tie.Need-returns-then-is_quotation
 returns c =
-    λ ds o. told-as _ _ _ _ (ap (λ b. cond b (same c.before.before.before.before.args.words.now) outside) (sym c.if-is_quotation.true ∙ c.before.is_quotation.ensures ds o)) (told_same _ 0 (omega arith))
+    λ ds o. told-as _ _ _ _ (ap (λ b. cond b (same c.args.words.now) outside) (sym c.if-is_quotation.true ∙ c.is_quotation.ensures ds o)) (told_same _ 0 (omega arith))
 
 returns-2 : tie.Need-returns
 unfolding found_of
 returns-2 c =
-    λ ds o. told-as _ _ _ _ (ap (λ b. cond b (same c.before.before.before.before.before.args.words.now) outside) (sym c.before.if-is_quotation.false ∙ c.before.before.is_quotation.ensures ds o)) c.lost.ensures
+    λ ds o. told-as _ _ _ _ (ap (λ b. cond b (same c.args.words.now) outside) (sym c.if-is_quotation.false ∙ c.is_quotation.ensures ds o)) c.lost.ensures
 
 pub quotation_spec : {M : Type 1} → statement M
 quotation_spec =

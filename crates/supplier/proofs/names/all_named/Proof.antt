@@ -25,25 +25,17 @@ loop-holds c =
 
 returns : tie.Need-returns-then-not-has_name invariant-loop decreases-loop
 returns c =
-    let at-has-name = c.before in
-    let at_small = at-has-name.before in
-    let at-loop-test = at_small.before.before in
-    let at-loop = at-loop-test.before in
-    let args' = at-loop.before.before.before.args in
-    names-bad (has_name args'.names.now) args'.numbers.now at-loop.loop-k.k at-loop.loop-k.invariant.1 at-loop-test.loop-k-test.true (sym (ap (has_name args'.names.now) at_small.small.ensures) ∙ sym at-has-name.has_name.ensures ∙ not-true _ c.if-not-has_name.true)
+    let args' = c.args in
+    names-bad (has_name args'.names.now) args'.numbers.now c.loop-k.k c.loop-k.invariant.1 c.loop-k-test.true (sym (ap (has_name args'.names.now) c.small.ensures) ∙ sym c.has_name.ensures ∙ not-true _ c.if-not-has_name.true-raw)
 
 loop-again : tie.Need-loop-k-preserved invariant-loop decreases-loop
 loop-again c =
-    let at-has-name = c.before in
-    let at_small = at-has-name.before in
-    let at-loop-test = at_small.before.before in
-    let at-loop = at-loop-test.before in
-    let args' = at-loop.before.before.before.args in
-    (omega (arith, at-loop-test.loop-k-test.true), names-next (has_name args'.names.now) args'.numbers.now at-loop.loop-k.k at-loop.loop-k.invariant.1 at-loop-test.loop-k-test.true (sym (ap (has_name args'.names.now) at_small.small.ensures) ∙ sym at-has-name.has_name.ensures ∙ not-false _ c.if-not-has_name.false))
+    let args' = c.args in
+    (omega (arith, c.loop-k-test.true), names-next (has_name args'.names.now) args'.numbers.now c.loop-k.k c.loop-k.invariant.1 c.loop-k-test.true (sym (ap (has_name args'.names.now) c.small.ensures) ∙ sym c.has_name.ensures ∙ not-false _ c.if-not-has_name.false-raw))
 
 returns-2 : tie.Need-returns invariant-loop decreases-loop
 returns-2 c =
-    names-end (has_name c.before.before.before.before.args.names.now) c.before.before.before.before.args.numbers.now c.before.loop-k.k c.before.loop-k.invariant.1 (omega (arith, c.before.loop-k.invariant.0, c.loop-k-test.false))
+    names-end (has_name c.args.names.now) c.args.numbers.now c.loop-k.k c.loop-k.invariant.1 (omega (arith, c.loop-k.invariant.0, c.loop-k-test.false))
 
 pub all_named_spec : {M : Type 1} → statement M
 all_named_spec =

@@ -25,42 +25,28 @@ decreases-loop theirs n ours numbers k₀ k =
 
 loop-holds : tie.Need-loop-k-init invariant-loop decreases-loop
 loop-holds c =
-    let args = c.before.before.before.args in
+    let args = c.args in
     (omega arith, sym (any-start (equal (name_at args.theirs.now args.n)) (name_at args.ours.now) args.numbers.now))
 
 same-name-requires : tie.Need-same_name-requires invariant-loop decreases-loop
 same-name-requires c κs =
-    let at-loop-test = c.before.before in
-    let at-loop = at-loop-test.before in
-    let at-args = at-loop.before.before.before.before in
-    let pre = at-args.requires in
-    (pre.0, subst (Slot at-args.args.ours.now) (sym c.small.ensures) (pre.1 at-loop.loop-k.k at-loop-test.loop-k-test.true))
+    let pre = c.requires in
+    (pre.0, subst (Slot c.args.ours.now) (sym c.small.ensures) (pre.1 c.loop-k.k c.loop-k-test.true))
 
 returns : tie.Need-returns-then-same_name invariant-loop decreases-loop
 returns c =
-    let at-same-name = c.before in
-    let at_small = at-same-name.before in
-    let at-loop-test = at_small.before.before in
-    let at-loop = at-loop-test.before in
-    let args = at-loop.before.before.before.before.args in
-    let loop = at-loop.loop-k in
-    sym (loop.invariant.1 ∙ any_found (equal (name_at args.theirs.now args.n)) (name_at args.ours.now) args.numbers.now loop.k at-loop-test.loop-k-test.true (ap (λ m. equal (name_at args.theirs.now args.n) (name_at args.ours.now m)) (sym at_small.small.ensures) ∙ sym at-same-name.same_name.ensures ∙ c.if-same_name.true))
+    let args = c.args in
+    sym (c.loop-k.invariant.1 ∙ any_found (equal (name_at args.theirs.now args.n)) (name_at args.ours.now) args.numbers.now c.loop-k.k c.loop-k-test.true (ap (λ m. equal (name_at args.theirs.now args.n) (name_at args.ours.now m)) (sym c.small.ensures) ∙ sym c.same_name.ensures ∙ c.if-same_name.true))
 
 loop-again : tie.Need-loop-k-preserved invariant-loop decreases-loop
 loop-again c =
-    let at-same-name = c.before in
-    let at_small = at-same-name.before in
-    let at-loop-test = at_small.before.before in
-    let at-loop = at-loop-test.before in
-    let args = at-loop.before.before.before.before.args in
-    let loop = at-loop.loop-k in
-    (omega arith, loop.invariant.1 ∙ any_next (equal (name_at args.theirs.now args.n)) (name_at args.ours.now) args.numbers.now loop.k _ at-loop-test.loop-k-test.true refl (ap (λ m. equal (name_at args.theirs.now args.n) (name_at args.ours.now m)) (sym at_small.small.ensures) ∙ sym at-same-name.same_name.ensures ∙ c.if-same_name.false))
+    let args = c.args in
+    (omega arith, c.loop-k.invariant.1 ∙ any_next (equal (name_at args.theirs.now args.n)) (name_at args.ours.now) args.numbers.now c.loop-k.k _ c.loop-k-test.true refl (ap (λ m. equal (name_at args.theirs.now args.n) (name_at args.ours.now m)) (sym c.small.ensures) ∙ sym c.same_name.ensures ∙ c.if-same_name.false))
 
 returns-2 : tie.Need-returns invariant-loop decreases-loop
 returns-2 c =
-    let args = c.before.before.before.before.before.args in
-    let loop = c.before.loop-k in
-    sym (loop.invariant.1 ∙ any-end (equal (name_at args.theirs.now args.n)) (name_at args.ours.now) args.numbers.now loop.k c.loop-k-test.false)
+    let args = c.args in
+    sym (c.loop-k.invariant.1 ∙ any-end (equal (name_at args.theirs.now args.n)) (name_at args.ours.now) args.numbers.now c.loop-k.k c.loop-k-test.false)
 
 pub any_name_spec : {M : Type 1} → statement M
 any_name_spec =

@@ -14,19 +14,19 @@ use Rattle.supplier.specs.NamesLaws.{part-name}
 add-to : tie.Need-overflow_add-to
 unfolding length_at
 add-to c =
-    let pre = c.before.before.before.before.requires in
-    omega (arith, c.length_of.ensures, pre.0.0, pre.0.1, c.before.before.before.before.well_formed.0)
+    let pre = c.requires in
+    omega (arith, c.length_of.ensures, pre.0.0, pre.0.1, c.well_formed.0)
 
 part-spells-end : tie.Need-slice_bounds-spells-end
 unfolding length_at
 part-spells-end c =
-    let pre = c.before.before.before.before.requires in
+    let pre = c.requires in
     omega (arith, c.length_of.ensures, pre.0.0, pre.0.1)
 
 returns : tie.Need-returns
 returns c =
-    let args = c.before.before.before.before.before.before.args in
-    c.spells.ensures ∙ ap (λ w. equal w (name_at args.ours.now args.m)) (part-name args.theirs.now args.n _ (omega (arith, c.before.before.length_of.ensures)))
+    let args = c.args in
+    c.spells.ensures ∙ ap (λ w. equal w (name_at args.ours.now args.m)) (part-name args.theirs.now args.n _ (omega (arith, c.length_of.ensures)))
 
 pub same_name_spec : {M : Type 1} → statement M
 same_name_spec =

@@ -21,22 +21,18 @@ loop-holds c =
 
 returns : tie.Need-returns-then-scope-k invariant-loop decreases-loop
 returns c =
-    let at-loop-test = c.before.before in
-    let at-loop = at-loop-test.before in
-    let args' = at-loop.before.args in
-    sym (at-loop.loop-k.invariant.1 ∙ innermost-found args'.name args'.scope.now at-loop.loop-k.k at-loop-test.loop-k-test.true c.if-scope-k.true)
+    let args' = c.args in
+    sym (c.loop-k.invariant.1 ∙ innermost-found args'.name args'.scope.now c.loop-k.k c.loop-k-test.true c.if-scope-k.true)
 
 loop-again : tie.Need-loop-k-preserved invariant-loop decreases-loop
 loop-again c =
-    let at-loop-test = c.before.before in
-    let at-loop = at-loop-test.before in
-    let args' = at-loop.before.args in
-    (omega arith, at-loop.loop-k.invariant.1 ∙ innermost-next args'.name args'.scope.now at-loop.loop-k.k at-loop-test.loop-k-test.true c.if-scope-k.false)
+    let args' = c.args in
+    (omega arith, c.loop-k.invariant.1 ∙ innermost-next args'.name args'.scope.now c.loop-k.k c.loop-k-test.true c.if-scope-k.false)
 
 returns-2 : tie.Need-returns invariant-loop decreases-loop
 unfolding innermost
 returns-2 c =
-    let e : c.before.loop-k.k ≡ 0 = omega (arith, c.loop-k-test.false) in sym (c.before.loop-k.invariant.1 ∙ ap (innermost c.before.before.args.name c.before.before.args.scope.now) e)
+    let e : c.loop-k.k ≡ 0 = omega (arith, c.loop-k-test.false) in sym (c.loop-k.invariant.1 ∙ ap (innermost c.args.name c.args.scope.now) e)
 
 pub innermost_spec : {M : Type 1} → statement M
 innermost_spec =

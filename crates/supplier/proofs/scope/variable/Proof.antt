@@ -9,7 +9,7 @@ mul-result c =
 
 shared-slice-read-result : tie.Need-bounds-scope-k
 shared-slice-read-result c =
-    c.before.requires
+    c.requires
 
 pub variable_spec : {M : Type 1} → statement M
 variable_spec =

@@ -65,8 +65,7 @@ expression-claims t = (kind-reads.Asked, kind-reads.Learnt, head-reads.Asked, he
 
 all-loop-holds : (t : ℕ) → all-lts.Need-loop-from-init (all-claims t) (all-at t) all.Post all-Inv-loop all-μ-loop
 all-loop-holds t c =
-    let at-args = c.before.before.before.before.before.before in
-    (at-args.requires.1.0, walking_start _ _ _ _ at-args.args.words.now _ _ _ _ _, at-args.requires.1.3, (λ k l. refl), refl, omega arith)
+    (c.requires.1.0, walking_start _ _ _ _ c.args.words.now _ _ _ _ _, c.requires.1.3, (λ k l. refl), refl, omega arith)
 
 all-kind-requires : (t : ℕ) → all-lts.Need-kind-requires (all-claims t) (all-at t) all.Post all-Inv-loop all-μ-loop
 all-kind-requires t c κs =
@@ -74,153 +73,106 @@ all-kind-requires t c κs =
 
 all-head-requires : (t : ℕ) → all-lts.Need-head-requires (all-claims t) (all-at t) all.Post all-Inv-loop all-μ-loop
 all-head-requires t c κs =
-    all_in _ _ c.before.before.loop-from.invariant.0
+    all_in _ _ c.loop-from.invariant.0
 
 all-mul-expression : (t : ℕ) → all-lts.Need-offset_bounds-words-taken (all-claims t) (all-at t) all.Post all-Inv-loop all-μ-loop
 all-mul-expression t c =
-    let at-loop = c.before.before.before in
-    omega (arith, at-loop.loop-from.invariant.2.within, at-loop.before.before.before.before.before.before.before.well_formed)
+    omega (arith, c.loop-from.invariant.2.within, c.well_formed)
 
 all-sub-expression : (t : ℕ) → all-lts.Need-slice_bounds-expression-count (all-claims t) (all-at t) all.Post all-Inv-loop all-μ-loop
 all-sub-expression t c =
-    omega (arith, c.before.before.before.loop-from.invariant.2.within)
+    omega (arith, c.loop-from.invariant.2.within)
 
 all-part-expression-start : (t : ℕ) → all-lts.Need-slice_bounds-expression-start (all-claims t) (all-at t) all.Post all-Inv-loop all-μ-loop
 all-part-expression-start t c =
-    omega (arith, c.before.before.before.loop-from.invariant.2.within)
+    omega (arith, c.loop-from.invariant.2.within)
 
 all-part-expression-end : (t : ℕ) → all-lts.Need-slice_bounds-expression-end (all-claims t) (all-at t) all.Post all-Inv-loop all-μ-loop
 all-part-expression-end t c =
-    omega (arith, c.before.before.before.loop-from.invariant.2.within)
+    omega (arith, c.loop-from.invariant.2.within)
 
 all-expression-requires : (t : ℕ) → all-lts.Need-expression-next-requires (all-claims t) (all-at t) all.Post all-Inv-loop all-μ-loop
 all-expression-requires t c κs =
-    let at_head = c.before.before in
-    let at-if1 = at_head.before in
-    let at-kind = at-if1.before in
-    let at-loop = at-kind.before in
-    let pre' = at-loop.before.before.before.before.before.before.before.requires in
-    let h = head-held _ _ _ at-kind.kind.ensures at-if1.loop-from-test.true at-loop.loop-from.invariant.0 _ at_head.head.ensures in (omega (arith, pre'.0, h.1, at-loop.loop-from.invariant.5, all_in _ _ at-loop.loop-from.invariant.0), (h.0, (omega (arith, pre'.1.1.0, h.1, at-loop.loop-from.invariant.5), pre'.1.1.1, omega (arith, pre'.1.1.2, at-loop.loop-from.invariant.4)), pre'.1.2))
+    let pre' = c.requires in
+    let h = head-held _ _ _ c.kind.ensures c.loop-from-test.true c.loop-from.invariant.0 _ c.head.ensures in (omega (arith, pre'.0, h.1, c.loop-from.invariant.5, all_in _ _ c.loop-from.invariant.0), (h.0, (omega (arith, pre'.1.1.0, h.1, c.loop-from.invariant.5), pre'.1.1.1, omega (arith, pre'.1.1.2, c.loop-from.invariant.4)), pre'.1.2))
 
 all-joined-requires : (t : ℕ) → all-lts.Need-joined-found-requires (all-claims t) (all-at t) all.Post all-Inv-loop all-μ-loop
 all-joined-requires t c κs =
-    let at-expression = c.before.before in
-    let at_head = at-expression.before.before.before in
-    let at-if1 = at_head.before in
-    let at-kind = at-if1.before in
-    let at-loop = at-kind.before in
-    (at-loop.loop-from.invariant.2.within, next-within _ _ _ _ _ _ _ _ _ _ _ _ at-loop.loop-from.invariant.1 _ at-kind.kind.ensures at-if1.loop-from-test.true _ at_head.head.ensures at-loop.loop-from.invariant.2 _ at-loop.loop-from.invariant.3 _ (rest-is at-loop.loop-from.found.taken at-loop.before.before.before.before.before.before.before.args.words.now) _ at-expression.expression-next.ensures.0 (head-held _ _ _ at-kind.kind.ensures at-if1.loop-from-test.true at-loop.loop-from.invariant.0 _ at_head.head.ensures).0)
+    (c.loop-from.invariant.2.within, next-within _ _ _ _ _ _ _ _ _ _ _ _ c.loop-from.invariant.1 _ c.kind.ensures c.loop-from-test.true _ c.head.ensures c.loop-from.invariant.2 _ c.loop-from.invariant.3 _ (rest-is c.loop-from.found.taken c.args.words.now) _ c.expression-next.ensures.0 (head-held _ _ _ c.kind.ensures c.loop-from-test.true c.loop-from.invariant.0 _ c.head.ensures).0)
 
 all-tail-requires : (t : ℕ) → all-lts.Need-tail-j-requires (all-claims t) (all-at t) all.Post all-Inv-loop all-μ-loop
 all-tail-requires t c κs =
-    all_in _ _ c.before.before.before.before.before.before.before.before.before.loop-from.invariant.0
+    all_in _ _ c.loop-from.invariant.0
 
 all-loop-less : (t : ℕ) → all-lts.Need-loop-from-smaller (all-claims t) (all-at t) all.Post all-Inv-loop all-μ-loop
 all-loop-less t c =
-    let at-if1 = c.before.before.before.before.before.before.before.before in
-    let at-kind = at-if1.before in
-    let loop' = at-kind.before.loop-from in
-    omega (arith, (tail-held _ _ _ at-kind.kind.ensures at-if1.loop-from-test.true loop'.invariant.0 _ c.tail-j.ensures).1, all_in _ _ loop'.invariant.0)
+    omega (arith, (tail-held _ _ _ c.kind.ensures c.loop-from-test.true c.loop-from.invariant.0 _ c.tail-j.ensures).1, all_in _ _ c.loop-from.invariant.0)
 
 all-loop-again : (t : ℕ) → all-lts.Need-loop-from-preserved (all-claims t) (all-at t) all.Post all-Inv-loop all-μ-loop
 all-loop-again t c =
-    let at_joined = c.before in
-    let at-expression = at_joined.before.before.before in
-    let at_head = at-expression.before.before.before in
-    let at-if1 = at_head.before in
-    let at-kind = at-if1.before in
-    let at-loop = at-kind.before in
-    let n = tail-held _ _ _ at-kind.kind.ensures at-if1.loop-from-test.true at-loop.loop-from.invariant.0 _ c.tail-j.ensures in (n.0, walking-next _ _ _ _ _ _ _ _ _ _ _ _ at-loop.loop-from.invariant.1 _ at-kind.kind.ensures at-if1.loop-from-test.true _ at_head.head.ensures at-loop.loop-from.invariant.2 _ at-loop.loop-from.invariant.3 _ (rest-is at-loop.loop-from.found.taken at-loop.before.before.before.before.before.before.before.args.words.now) _ at-expression.expression-next.ensures.0 _ at_joined.joined-found.ensures _ c.tail-j.ensures, (at_joined.joined-found.ensures _ refl).1, (λ k l. at-expression.expression-next.ensures.1 k l ∙ at-loop.loop-from.invariant.3 k l), at-expression.expression-next.auto.1.1.1.1.1.0 ∙ at-loop.loop-from.invariant.4, omega (arith, at-loop.loop-from.invariant.5, n.1))
+    let n = tail-held _ _ _ c.kind.ensures c.loop-from-test.true c.loop-from.invariant.0 _ c.tail-j.ensures in (n.0, walking-next _ _ _ _ _ _ _ _ _ _ _ _ c.loop-from.invariant.1 _ c.kind.ensures c.loop-from-test.true _ c.head.ensures c.loop-from.invariant.2 _ c.loop-from.invariant.3 _ (rest-is c.loop-from.found.taken c.args.words.now) _ c.expression-next.ensures.0 _ c.joined-found.ensures _ c.tail-j.ensures, (c.joined-found.ensures _ refl).1, (λ k l. c.expression-next.ensures.1 k l ∙ c.loop-from.invariant.3 k l), c.expression-next.auto.scope ∙ c.loop-from.invariant.4, omega (arith, c.loop-from.invariant.5, n.1))
 
 all-same-length : (t : ℕ) → all-lts.Need-shape_of-scope (all-claims t) (all-at t) all.Post all-Inv-loop all-μ-loop
 all-same-length t c =
-    c.before.before.loop-from.invariant.4
+    c.loop-from.invariant.4
 
 all-returns : (t : ℕ) → all-lts.Need-returns (all-claims t) (all-at t) all.Post all-Inv-loop all-μ-loop
 all-returns t c =
-    (walking-end _ _ _ _ _ _ _ _ _ _ _ _ c.before.before.loop-from.invariant.1 _ c.before.kind.ensures c.loop-from-test.false c.before.before.loop-from.invariant.2, c.before.before.loop-from.invariant.3)
+    (walking-end _ _ _ _ _ _ _ _ _ _ _ _ c.loop-from.invariant.1 _ c.kind.ensures c.loop-from-test.false c.loop-from.invariant.2, c.loop-from.invariant.3)
 
 expression-kind-requires : (t : ℕ) → expression-lts.Need-kind-k-requires (expression-claims t) (expression-at t) expression.Post
 expression-kind-requires t c κs =
-    held_in _ _ c.before.before.before.before.before.before.requires.1.0
+    held_in _ _ c.requires.1.0
 
 expression-head-requires : (t : ℕ) → expression-lts.Need-head-n-requires (expression-claims t) (expression-at t) expression.Post
 expression-head-requires t c κs =
-    held_in _ _ c.before.before.before.before.before.before.before.before.requires.1.0
+    held_in _ _ c.requires.1.0
 
 expression-quoted-name-requires : (t : ℕ) → expression-lts.Need-quoted_name-requires (expression-claims t) (expression-at t) expression.Post
 expression-quoted-name-requires t c κs =
-    let at_head = c.before in
-    let at-if1 = at_head.before in
-    let at-kind = at-if1.before in
-    let pre' = at-kind.before.before.before.before.before.before.before.requires in
-    pre'.1.2.0 _ (name-held _ _ _ at-kind.kind-k.ensures pre'.1.0 at-if1.if-k-eq-NAME.true _ at_head.head-n.ensures)
+    let pre' = c.requires in
+    pre'.1.2.0 _ (name-held _ _ _ c.kind-k.ensures pre'.1.0 c.if-k-eq-NAME.true _ c.head-n.ensures)
 
 expression-returns : (t : ℕ) → expression-lts.Need-returns-then-at (expression-claims t) (expression-at t) expression.Post
 expression-returns t c =
-    (walks-quoted _ _ _ _ _ _ _ _ _ _ c.before.before.before.before.kind-k.ensures _ c.before.before.before.if-k-eq-NAME.true _ c.before.before.head-n.ensures c.before.if-at.true c.quoted_name.ensures, λ k l. refl)
+    (walks-quoted _ _ _ _ _ _ _ _ _ _ c.kind-k.ensures _ c.if-k-eq-NAME.true _ c.head-n.ensures c.if-at.true c.quoted_name.ensures, λ k l. refl)
 
 expression-reference-requires : (t : ℕ) → expression-lts.Need-reference-requires (expression-claims t) (expression-at t) expression.Post
 expression-reference-requires t c κs =
-    let at_head = c.before.before in
-    let at-if1 = at_head.before in
-    let at-kind = at-if1.before in
-    let pre' = at-kind.before.before.before.before.before.before.before.requires in
-    (pre'.1.2, name-held _ _ _ at-kind.kind-k.ensures pre'.1.0 at-if1.if-k-eq-NAME.true _ at_head.head-n.ensures, omega (arith, pre'.1.1.0, pre'.1.1.1, pre'.1.1.2, held_in _ _ pre'.1.0))
+    let pre' = c.requires in
+    (pre'.1.2, name-held _ _ _ c.kind-k.ensures pre'.1.0 c.if-k-eq-NAME.true _ c.head-n.ensures, omega (arith, pre'.1.1.0, pre'.1.1.1, pre'.1.1.2, held_in _ _ pre'.1.0))
 
 expression-returns-2 : (t : ℕ) → expression-lts.Need-returns-then-k-eq-NAME (expression-claims t) (expression-at t) expression.Post
 expression-returns-2 t c =
-    let at-if2 = c.before.before in
-    let at_head = at-if2.before in
-    let at-if1 = at_head.before in
-    (walks-name _ _ _ _ _ _ _ _ _ _ at-if1.before.kind-k.ensures _ at-if1.if-k-eq-NAME.true _ at_head.head-n.ensures _ at-if2.if-at.false c.reference.ensures, λ k l. refl)
+    (walks-name _ _ _ _ _ _ _ _ _ _ c.kind-k.ensures _ c.if-k-eq-NAME.true _ c.head-n.ensures _ c.if-at.false c.reference.ensures, λ k l. refl)
 
 expression-head-requires-2 : (t : ℕ) → expression-lts.Need-head-requires (expression-claims t) (expression-at t) expression.Post
 expression-head-requires-2 t c κs =
-    held_in _ _ c.before.before.before.before.before.before.before.before.before.before.requires.1.0
+    held_in _ _ c.requires.1.0
 
 expression-tail-requires : (t : ℕ) → expression-lts.Need-tail-requires (expression-claims t) (expression-at t) expression.Post
 expression-tail-requires t c κs =
-    held_in _ _ c.before.before.before.before.before.before.before.before.before.before.before.requires.1.0
+    held_in _ _ c.requires.1.0
 
 expression-returns-3 : (t : ℕ) → expression-lts.Need-returns-then-not-is_list_kind (expression-claims t) (expression-at t) expression.Post
 expression-returns-3 t c =
-    let at_tail = c.before in
-    let at-head2 = at_tail.before in
-    let at-if3 = at-head2.before in
-    let at-is-list-kind = at-if3.before in
-    let at-if1 = at-is-list-kind.before in
-    (walks-constant _ _ _ _ _ _ _ _ _ _ at-if1.before.kind-k.ensures _ (sym at-is-list-kind.is_list_kind.ensures ∙ not-true _ at-if3.if-not-is_list_kind.true) at-if1.if-k-eq-NAME.false _ _ at-head2.head.ensures at_tail.tail.ensures c.constant.ensures, λ k l. refl)
+    (walks-constant _ _ _ _ _ _ _ _ _ _ c.kind-k.ensures _ (sym c.is_list_kind.ensures ∙ not-true _ c.if-not-is_list_kind.true-raw) c.if-k-eq-NAME.false _ _ c.head.ensures c.tail.ensures c.constant.ensures, λ k l. refl)
 
 expression-list-requires : (t : ℕ) → expression-lts.Need-list-from-requires (expression-claims t) (expression-at t) expression.Post
 expression-list-requires t c κs =
-    let at-if3 = c.before in
-    let at-is-list-kind = at-if3.before in
-    let at-kind = at-is-list-kind.before.before in
-    let at-args = at-kind.before.before.before.before.before.before.before in
-    (list_held at-args.args.theirs.now at-args.args.ours.now at-args.args.operations.now _ at-args.args.words.now at-args.args.at.quoted at-args.args.scope.now at-args.args.at.top _ _ at-kind.kind-k.ensures (record { rank = 0; taken = 0 }) (sym at-is-list-kind.is_list_kind.ensures ∙ not-false _ at-if3.if-not-is_list_kind.false) at-args.requires.1.0, at-args.requires.1.1)
+    (list_held c.args.theirs.now c.args.ours.now c.args.operations.now _ c.args.words.now c.args.at.quoted c.args.scope.now c.args.at.top _ _ c.kind-k.ensures (record { rank = 0; taken = 0 }) (sym c.is_list_kind.ensures ∙ not-false _ c.if-not-is_list_kind.false-raw) c.requires.1.0, c.requires.1.1)
 
 expression-all-requires : (t : ℕ) → expression-lts.Need-all-requires (expression-claims t) (expression-at t) expression.Post
 expression-all-requires t c κs =
-    let at-list = c.before.before.before in
-    let at-if3 = at-list.before.before in
-    let at-is-list-kind = at-if3.before in
-    let at-kind = at-is-list-kind.before.before in
-    let at-args = at-kind.before.before.before.before.before.before.before in
-    let s = at-list.list-from.ensures in (omega (arith, at-args.requires.0, s.1.later), (start-held at-args.args.theirs.now at-args.args.ours.now at-args.args.operations.now _ at-args.args.words.now at-args.args.at.quoted at-args.args.scope.now at-args.args.at.top _ _ at-kind.kind-k.ensures (record { rank = 0; taken = 0 }) (sym at-is-list-kind.is_list_kind.ensures ∙ not-false _ at-if3.if-not-is_list_kind.false) at-args.args.at refl refl refl _ _ s at-args.requires.1.0, (s.1.room, at-args.requires.1.1.1, omega (arith, at-args.requires.1.1.2, at-list.list-from.auto.1.1.0)), at-args.requires.1.2, s.1.stands))
+    let s = c.list-from.ensures in (omega (arith, c.requires.0, s.1.later), (start-held c.args.theirs.now c.args.ours.now c.args.operations.now _ c.args.words.now c.args.at.quoted c.args.scope.now c.args.at.top _ _ c.kind-k.ensures (record { rank = 0; taken = 0 }) (sym c.is_list_kind.ensures ∙ not-false _ c.if-not-is_list_kind.false-raw) c.args.at refl refl refl _ _ s c.requires.1.0, (s.1.room, c.requires.1.1.1, omega (arith, c.requires.1.1.2, c.list-from.auto.scope)), c.requires.1.2, s.1.stands))
 
 expression-same-length-2 : (t : ℕ) → expression-lts.Need-shape_of-scope (expression-claims t) (expression-at t) expression.Post
 expression-same-length-2 t c =
-    c.before.before.all.auto.1.1.1.1.1.0 ∙ c.before.before.before.before.before.before.list-from.auto.1.1.0
+    c.all.auto.scope ∙ c.list-from.auto.scope
 
 expression-returns-4 : (t : ℕ) → expression-lts.Need-returns (expression-claims t) (expression-at t) expression.Post
 expression-returns-4 t c =
-    let at_all = c.before.before in
-    let at-list = at_all.before.before.before.before in
-    let at-if3 = at-list.before.before in
-    let at-is-list-kind = at-if3.before in
-    let at-kind = at-is-list-kind.before.before in
-    (walks-list _ _ _ _ _ _ _ _ _ _ at-kind.kind-k.ensures _ (sym at-is-list-kind.is_list_kind.ensures ∙ not-false _ at-if3.if-not-is_list_kind.false) at-kind.before.before.before.before.before.before.before.args.at refl refl refl _ _ at-list.list-from.ensures at_all.all.ensures.0, λ k l. at_all.all.ensures.1 k (omega (arith, at-list.list-from.ensures.1.more)) ∙ at-list.list-from.ensures.1.kept k l)
+    (walks-list _ _ _ _ _ _ _ _ _ _ c.kind-k.ensures _ (sym c.is_list_kind.ensures ∙ not-false _ c.if-not-is_list_kind.false-raw) c.args.at refl refl refl _ _ c.list-from.ensures c.all.ensures.0, λ k l. c.all.ensures.1 k (omega (arith, c.list-from.ensures.1.more)) ∙ c.list-from.ensures.1.kept k l)
 
 pub +all_expression_spec : {M : Type 1} → statement M
 +all_expression_spec =

@@ -8,32 +8,22 @@ use Rattle.supplier.specs.Walk.{is_operation}
 
 returns : tie.Need-returns-then-is_place
 returns c =
-    free-same _ _ _ _ _ c.before.before.own-node.ensures _ _ (c.before.is_place.ensures _ c.before.before.own-node.ensures) c.if-is_place.true
+    free-same _ _ _ _ _ c.own-node.ensures _ _ (c.is_place.ensures _ c.own-node.ensures) c.if-is_place.true
 
 any-name-requires : tie.Need-any_name-requires
 any-name-requires c κs =
-    let pre' = c.before.before.before.before.before.before.before.requires in
+    let pre' = c.requires in
     (pre'.0.0 _ pre'.1, pre'.0.1)
 
 returns-2 : tie.Need-returns-then-any_name
 unfolding is_operation
 returns-2 c =
-    let at-if2 = c.before in
-    let at-any-name = at-if2.before in
-    let at-if1 = at-any-name.before in
-    let at-is-place = at-if1.before in
-    let own' = at-is-place.before.own-node in
-    free_other _ _ _ _ _ own'.ensures _ _ (at-is-place.is_place.ensures _ own'.ensures) at-if1.if-is_place.false _ at-any-name.any_name.ensures _ at-if2.if-any_name.true c.lost.ensures
+    free_other _ _ _ _ _ c.own-node.ensures _ _ (c.is_place.ensures _ c.own-node.ensures) c.if-is_place.false _ c.any_name.ensures _ c.if-any_name.true c.lost.ensures
 
 returns-3 : tie.Need-returns
 unfolding is_operation
 returns-3 c =
-    let at-if2 = c.before in
-    let at-any-name = at-if2.before in
-    let at-if1 = at-any-name.before in
-    let at-is-place = at-if1.before in
-    let own' = at-is-place.before.own-node in
-    free_open _ _ _ _ _ own'.ensures _ _ (at-is-place.is_place.ensures _ own'.ensures) at-if1.if-is_place.false _ at-any-name.any_name.ensures _ at-if2.if-any_name.false c.lost-2.ensures
+    free_open _ _ _ _ _ c.own-node.ensures _ _ (c.is_place.ensures _ c.own-node.ensures) c.if-is_place.false _ c.any_name.ensures _ c.if-any_name.false c.lost-2.ensures
 
 pub free_spec : {M : Type 1} → statement M
 free_spec =

@@ -12,20 +12,16 @@ returns c =
 
 returns-2 : tie.Need-returns-then-operations-p
 returns-2 c =
-    λ ws f. place-past _ _ _ ws _ f _ _ c.before.wide-p.ensures c.if-operations-p.true
+    λ ws f. place-past _ _ _ ws _ f _ _ c.wide-p.ensures c.if-operations-p.true
 
 same-name-requires : tie.Need-same_name-requires
 same-name-requires c κs =
-    let at-if2 = c.before.before in
-    let pre' = at-if2.before.before.before.before.before.before.before.requires in
-    (pre'.0.0 _ pre'.1, subst (Slot _) (sym c.small.ensures) (pre'.0.1 _ at-if2.if-operations-p.false))
+    let pre' = c.requires in
+    (pre'.0.0 _ pre'.1, subst (Slot _) (sym c.small.ensures) (pre'.0.1 _ c.if-operations-p.false))
 
 returns-3 : tie.Need-returns
 returns-3 c =
-    let at_small = c.before in
-    let at-if2 = at_small.before.before in
-    let at_wide = at-if2.before in
-    λ ws f. place_is _ _ _ ws _ f _ _ at_wide.wide-p.ensures at_wide.before.if-node-ne-OPERATION.false at-if2.if-operations-p.false _ at_small.small.ensures _ c.same_name.ensures
+    λ ws f. place_is _ _ _ ws _ f _ _ c.wide-p.ensures c.if-node-ne-OPERATION.false c.if-operations-p.false _ c.small.ensures _ c.same_name.ensures
 
 pub is_place_spec : {M : Type 1} → statement M
 is_place_spec =

@@ -8,34 +8,23 @@ use Rattle.supplier.specs.ToldLaws.{quoted-sort, quoted-unnamed, quoted-other, q
 
 returns : tie.Need-returns-then-node-ne-NAME
 returns c =
-    λ operations. quoted-sort _ _ operations _ _ c.before.before.before.own-node.ensures _ c.before.if-node-ne-NAME.true _ c.lost.ensures
+    λ operations. quoted-sort _ _ operations _ _ c.own-node.ensures _ c.if-node-ne-NAME.true _ c.lost.ensures
 
 returns-2 : tie.Need-returns-then-not-has_name
 returns-2 c =
-    let at-if2 = c.before in
-    let at-has-name = at-if2.before in
-    let at_wide = at-has-name.before in
-    λ operations. quoted-unnamed _ _ operations _ _ at_wide.before.before.before.own-node.ensures _ _ at_wide.wide-m.ensures (sym at-has-name.has_name.ensures ∙ not-true _ at-if2.if-not-has_name.true) _ c.lost-then-not-has_name.ensures
+    λ operations. quoted-unnamed _ _ operations _ _ c.own-node.ensures _ _ c.wide-m.ensures (sym c.has_name.ensures ∙ not-true _ c.if-not-has_name.true-raw) _ c.lost-then-not-has_name.ensures
 
 same-name-requires : tie.Need-same_name-requires
 same-name-requires c κs =
-    (c.before.before.before.before.before.before.before.before.before.requires, has-slot _ _ (sym c.before.has_name.ensures ∙ not-false _ c.if-not-has_name.false))
+    (c.requires, has-slot _ _ (sym c.has_name.ensures ∙ not-false _ c.if-not-has_name.false-raw))
 
 returns-3 : tie.Need-returns-then-same_name
 returns-3 c =
-    let at-same-name = c.before in
-    let at-if2 = at-same-name.before in
-    let at-has-name = at-if2.before in
-    let at_wide = at-has-name.before in
-    let at-if1 = at_wide.before in
-    λ operations. quoted-same _ _ operations _ _ at-if1.before.before.own-node.ensures _ _ at_wide.wide-m.ensures at-if1.if-node-ne-NAME.false (sym at-has-name.has_name.ensures ∙ not-false _ at-if2.if-not-has_name.false) (sym at-same-name.same_name.ensures ∙ c.if-same_name.true)
+    λ operations. quoted-same _ _ operations _ _ c.own-node.ensures _ _ c.wide-m.ensures c.if-node-ne-NAME.false (sym c.has_name.ensures ∙ not-false _ c.if-not-has_name.false-raw) (sym c.same_name.ensures ∙ c.if-same_name.true)
 
 returns-4 : tie.Need-returns
 returns-4 c =
-    let at-if3 = c.before in
-    let at-same-name = at-if3.before in
-    let at_wide = at-same-name.before.before.before in
-    λ operations. quoted-other _ _ operations _ _ at_wide.before.before.before.own-node.ensures _ _ at_wide.wide-m.ensures (sym at-same-name.same_name.ensures ∙ at-if3.if-same_name.false) _ c.lost-2.ensures
+    λ operations. quoted-other _ _ operations _ _ c.own-node.ensures _ _ c.wide-m.ensures (sym c.same_name.ensures ∙ c.if-same_name.false) _ c.lost-2.ensures
 
 pub quoted_name_spec : {M : Type 1} → statement M
 quoted_name_spec =

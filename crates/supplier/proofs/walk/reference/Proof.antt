@@ -6,20 +6,20 @@ use Rattle.supplier.specs.ToldLaws.{reference-outside, reference-free, reference
 
 returns : tie.Need-returns-then-n-lt3
 returns c =
-    reference-outside _ _ _ _ _ _ _ _ c.before.if-n-lt3.true c.lost.ensures
+    reference-outside _ _ _ _ _ _ _ _ c.if-n-lt3.true c.lost.ensures
 
 innermost-requires : tie.Need-innermost-k-requires
 innermost-requires c κs =
-    c.before.before.before.before.before.before.requires.2
+    c.requires.2
 
 free-requires : tie.Need-free-requires
 free-requires c κs =
-    let pre' = c.before.before.before.before.before.before.before.before.requires in
+    let pre' = c.requires in
     (pre'.0, pre'.1)
 
 returns-2 : tie.Need-returns-then-k-eq0
 returns-2 c =
-    reference-free _ _ _ _ _ _ _ _ c.before.before.before.if-n-lt3.false _ c.before.before.innermost-k.ensures c.before.if-k-eq0.true c.free.ensures
+    reference-free _ _ _ _ _ _ _ _ c.if-n-lt3.false _ c.innermost-k.ensures c.if-k-eq0.true c.free.ensures
 
 sub-variable : tie.Need-overflow_sub-k
 sub-variable c =
@@ -27,14 +27,11 @@ sub-variable c =
 
 variable-requires : tie.Need-variable-requires
 variable-requires c κs =
-    let at-innermost = c.before in
-    let at-if1 = at-innermost.before in
-    let at-args = at-if1.before.before.before.before.before.before in
-    omega (arith, at-args.requires.2, reference-within at-args.args.theirs.now at-args.args.ours.now at-args.args.operations.now at-args.args.words.now at-args.args.scope.now at-args.args.top at-args.args.n (record { rank = 0; taken = 0 }) at-if1.if-n-lt3.false _ at-innermost.innermost-k.ensures c.if-k-eq0.false)
+    omega (arith, c.requires.2, reference-within c.args.theirs.now c.args.ours.now c.args.operations.now c.args.words.now c.args.scope.now c.args.top c.args.n (record { rank = 0; taken = 0 }) c.if-n-lt3.false _ c.innermost-k.ensures c.if-k-eq0.false)
 
 returns-3 : tie.Need-returns
 returns-3 c =
-    reference-variable _ _ _ _ _ _ _ _ c.before.before.before.before.if-n-lt3.false _ c.before.before.before.innermost-k.ensures c.before.before.if-k-eq0.false _ c.before.variable.ensures c.takes.ensures
+    reference-variable _ _ _ _ _ _ _ _ c.if-n-lt3.false _ c.innermost-k.ensures c.if-k-eq0.false _ c.variable.ensures c.takes.ensures
 
 pub reference_spec : {M : Type 1} → statement M
 reference_spec =

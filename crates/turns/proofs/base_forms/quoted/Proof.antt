@@ -6,35 +6,35 @@ use mathlib.Core.Path.{sym, ◌∙◌}
 use borrow.Author.Tests.{not-true, not-false}
 use Rattle.turns.specs.QuotedLaws.{quote-refused, quote-room, quote-small, quote-made}
 
-returns : tie.Need-returns-then-not-is_list_of
+returns : tie.Need-returns
 returns c =
     let a = c.before.before.before.before.before.args in
-    quote-refused a.work.now a.core.now a.node a.reached _ (λ w. sym (c.before.before.is_list_of.ensures w) ∙ not-true _ c.before.if-not-is_list_of.true) c.refuse.ensures
+    quote-refused a.work.now a.core.now a.node a.reached _ (λ w. sym (c.before.before.is-list-of.ensures w) ∙ not-true _ c.before.if1.true) c.refuse.ensures
 
-quote-requires : tie.Need-quote-at-requires
+quote-requires : tie.Need-quote-requires
 quote-requires c κs =
     let entry = c.before.before.before.before.before.before.before in
     let a = entry.args in
-    quote-room a.work.now a.core.now a.node a.reached _ c.before.before.element-datum.ensures entry.requires
+    quote-room a.work.now a.core.now a.node a.reached _ c.before.before.element.ensures entry.requires
 
-cast-moved : tie.Need-overflow_cast-at
+cast-moved : tie.Need-overflow-cast-moved
 cast-moved c =
     let at-quote = c.before.before in
     let at-element = at-quote.before.before.before in
     let entry = at-element.before.before.before.before.before in
     let a = entry.args in
-    record { fits = quote-small a.work.now a.core.now a.node a.reached _ at-element.element-datum.ensures entry.requires _ at-quote.quote-at.ensures.end }
+    record { fits = quote-small a.work.now a.core.now a.node a.reached _ at-element.element.ensures entry.requires _ at-quote.quote.ensures.end }
 
-returns-2 : tie.Need-returns
+returns-2 : tie.Need-returns-2
 returns-2 c =
     let at-quote = c.before.before.before in
     let at_before = at-quote.before.before.before in
     let a = at_before.before.before.before.before.before.args in
     let shaped = at_before.before in
-    quote-made a.work.now a.core.now a.node a.reached _ at_before.element-datum.ensures _ _ (λ w. sym (shaped.before.is_list_of.ensures w) ∙ not-false _ shaped.if-not-is_list_of.false) at-quote.quote-at.ensures _ c.moved.ensures
+    quote-made a.work.now a.core.now a.node a.reached _ at_before.element.ensures _ _ (λ w. sym (shaped.before.is-list-of.ensures w) ∙ not-false _ shaped.if1.false) at-quote.quote.ensures _ c.moved.ensures
 
-pub quoted_spec : {M : Type 1} → statement M
-quoted_spec =
+pub quoted-spec : {M : Type 1} → statement M
+quoted-spec =
     tie.close
     (tie.spec
     (λ c κs. search rules)  -- is-list-of-requires

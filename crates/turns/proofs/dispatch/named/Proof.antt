@@ -20,7 +20,7 @@ means c f m g e = ap means_of (sym e) ∙ found-by _ _ c.lookup.ensures f g
 room : (c : tie.Start) → CoreRoom c.args.core.now c.args.reached.at 4
 room c = let a = c.args in application-room a.work.now a.core.now a.macros.now a.fuel a.list.node a.list.wrap a.reached c.requires.1 c.requires.0 a.list.tail _ c.requires.2
 
-returns : tie.Need-returns-in_default
+returns : tie.Need-returns
 returns c =
     let at-enum-told = c.before in
     let at-lookup = at-enum-told.before.before in
@@ -28,9 +28,9 @@ returns c =
     let a = entry.args in
     let x = name_at a.work.now a.list.head a.list.wrap in
     λ operations lent. nothing-turned macros_most operations a.work.now a.core.now a.macros.now a.fuel a.list.node a.list.tail a.list.wrap a.reached x entry.requires.2 entry.requires.0 entry.requires.1 _
-    (nothing-by (lookup_in a.operations.now x) _ at-lookup.lookup.ensures at-enum-told.enum_told-1.given.1 ∙ lookup-in operations a.operations.now x lent) c.refuse.ensures
+    (nothing-by (lookup_in a.operations.now x) _ at-lookup.lookup.ensures at-enum-told.enum_told.given.1 ∙ lookup-in operations a.operations.now x lent) c.refuse.ensures
 
-macro-use-requires : tie.Need-macro_use-requires
+macro-use-requires : tie.Need-macro-use-requires
 macro-use-requires c κs =
     let entry = c.before.before.before.before.before.before.before.before.before.before.before.before.before.before in
     let a = entry.args in
@@ -44,11 +44,11 @@ form-requires c κs =
     let entry = at_before.before.before.before.before.before.before.before in
     let a = entry.args in (
       form-heads a.operations.now a.work.now a.list.node a.list.tail a.list.wrap _ (name_at a.work.now a.list.head a.list.wrap) entry.requires.2
-          (means at_before.before _ _ at-found.found-1.given.1 at-found5.found-in-Form-1.given.1),
+          (means at_before.before _ _ at-found.found.given.1 at-found5.found5.given.1),
       form-room a.work.now a.core.now a.macros.now a.fuel a.list.node a.list.wrap a.reached entry.requires.1 entry.requires.0,
     )
 
-returns-2 : tie.Need-returns-in-Variable
+returns-2 : tie.Need-returns-2
 returns-2 c =
     let at-put-application = c.before.before in
     let at-found2 = at-put-application.before.before.before.before in
@@ -58,9 +58,9 @@ returns-2 c =
     let a = entry.args in
     let x = name_at a.work.now a.list.head a.list.wrap in
     λ operations lent. variable-turned macros_most operations a.work.now a.core.now a.macros.now a.fuel a.list.node a.list.tail a.list.wrap a.reached x entry.requires.2 entry.requires.0 entry.requires.1 _ _ _
-    (means at_before.before _ _ at-found.found-1.given.1 at-found2.found-in-Variable-1.given.1 ∙ lookup-in operations a.operations.now x lent) at-put-application.put_application.ensures
+    (means at_before.before _ _ at-found.found.given.1 at-found2.found2.given.1 ∙ lookup-in operations a.operations.now x lent) at-put-application.put-application.ensures
 
-returns-3 : tie.Need-returns-in-Operation
+returns-3 : tie.Need-returns-3
 returns-3 c =
     let at-put-application2 = c.before.before in
     let at-found3 = at-put-application2.before.before.before.before in
@@ -70,9 +70,9 @@ returns-3 c =
     let a = entry.args in
     let x = name_at a.work.now a.list.head a.list.wrap in
     λ operations lent. operation-turned macros_most operations a.work.now a.core.now a.macros.now a.fuel a.list.node a.list.tail a.list.wrap a.reached x entry.requires.2 entry.requires.0 entry.requires.1 _ _ _
-    (means at_before.before _ _ at-found.found-1.given.1 at-found3.found-in-Operation-1.given.1 ∙ lookup-in operations a.operations.now x lent) at-put-application2.put_application-in-Operation.ensures
+    (means at_before.before _ _ at-found.found.given.1 at-found3.found3.given.1 ∙ lookup-in operations a.operations.now x lent) at-put-application2.put-application2.ensures
 
-returns-4 : tie.Need-returns-in-Macro
+returns-4 : tie.Need-returns-4
 returns-4 c =
     let at-macro-use = c.before.before in
     let at-found4 = at-macro-use.before.before.before.before in
@@ -81,17 +81,17 @@ returns-4 c =
     let entry = at_before.before.before.before.before.before.before.before in
     let a = entry.args in
     let x = name_at a.work.now a.list.head a.list.wrap in
-    λ operations lent. macro-turned macros_most operations a.work.now a.core.now a.macros.now a.fuel a.list.node a.list.tail a.list.wrap a.reached x entry.requires.2 entry.requires.0 entry.requires.1 _ at-macro-use.macro_use.new.0 at-macro-use.macro_use.result
-    (means at_before.before _ _ at-found.found-1.given.1 at-found4.found-in-Macro-1.given.1 ∙ lookup-in operations a.operations.now x lent) at-macro-use.macro_use.auto.0 at-macro-use.macro_use.ensures
+    λ operations lent. macro-turned macros_most operations a.work.now a.core.now a.macros.now a.fuel a.list.node a.list.tail a.list.wrap a.reached x entry.requires.2 entry.requires.0 entry.requires.1 _ at-macro-use.macro-use.new.0 at-macro-use.macro-use.result
+    (means at_before.before _ _ at-found.found.given.1 at-found4.found4.given.1 ∙ lookup-in operations a.operations.now x lent) at-macro-use.macro-use.auto.0 at-macro-use.macro-use.ensures
 
-returns-5 : tie.Need-returns-in-Form
+returns-5 : tie.Need-returns-5
 returns-5 c =
     let at-form = c.before.before.before.before.before.before in
     let entry = at-form.before.before.before.before.before.before.before.before.before.before.before.before.before.before.before.before in
     λ operations lent. at-form.form.ensures operations entry.args.fuel entry.requires.1
 
-pub named_spec : {M : Type 1} → statement M
-named_spec =
+pub named-spec : {M : Type 1} → statement M
+named-spec =
     tie.close
     (tie.spec
     (λ c κs. search rules)  -- lookup-requires

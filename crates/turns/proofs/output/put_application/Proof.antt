@@ -9,10 +9,10 @@ returns c =
     let at-put-four = c.before.before.before in
     let at_count = at-put-four.before.before in
     let a = at_count.before.before.before.args in
-    header-moved a.list a.code a.number _ _ a.reached _ a.work.now a.core.now _ at_count.count-count.ensures.is c.moved.ensures at-put-four.put_four-at.ensures
+    header-moved a.list a.code a.number _ _ a.reached _ a.work.now a.core.now _ at_count.count.ensures.is c.moved.ensures at-put-four.put_four.ensures
 
-pub put_application_spec : {M : Type 1} → statement M
-put_application_spec =
+pub put-application-spec : {M : Type 1} → statement M
+put-application-spec =
     tie.close
     (tie.spec
     (λ c κs. search rules)  -- count-requires

@@ -5,10 +5,10 @@ use native.Mathlib.Omega.{arith}
 use Rattle.words.specs.SignedLaws.{word_fits, word-is}
 
 sub-result-2 : tie.Need-overflow_sub-result-else-w-lt2147483648
-sub-result-2 c = word_fits c.before.args.w (omega arith) (omega arith)
+sub-result-2 c = word_fits c.args.w (omega arith) (omega arith)
 
 returns-2 : tie.Need-returns-else-w-lt2147483648
-returns-2 c = word-is c.before.args.w (omega arith) (omega arith)
+returns-2 c = word-is c.args.w (omega arith) (omega arith)
 
 pub of_word_spec : {M : Type 1} → statement M
 of_word_spec =

@@ -17,6 +17,6 @@ zero_bytes_spec =
     (λ c. search rules)  -- slice-write-bytes
     (λ c. search rules)  -- add-i
     (λ c. search rules)  -- loop-less
-    (λ c. zeroed-more c.before.loop-i.invariant (omega arith))  -- loop-again
+    (λ c. zeroed-more c.loop-i.invariant (omega arith))  -- loop-again
     (λ c. search rules)  -- same-length
-    (λ c. zeroed-all c.before.loop-i.invariant (omega arith)))  -- returns
+    (λ c. zeroed-all c.loop-i.invariant (omega arith)))  -- returns

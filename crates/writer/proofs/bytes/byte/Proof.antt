@@ -18,7 +18,7 @@ add-result c =
 
 returns-2 : tie.Need-returns-then-not-ink
 returns-2 c =
-    place-holds (Left _ _ _ _ _) (omega arith) (done refl (omega arith) (sym (laid-dry c.before.before.args.ink _ _ _ (not-true c.before.before.args.ink c.if-not-ink.true))))
+    place-holds (Left _ _ _ _ _) (omega arith) (done refl (omega arith) (sym (laid-dry c.args.ink _ _ _ (not-true c.args.ink c.if-not-ink.true-raw))))
 
 slice-write-out : tie.Need-bounds-out-at
 slice-write-out c =
@@ -34,7 +34,7 @@ same_length c =
 
 returns-3 : tie.Need-returns
 returns-3 c =
-    place-holds (Left _ _ _ _ _) (omega arith) (done refl (omega arith) (laid-byte _ _ c.before.before.args.out.now c.before.if-at-out.false ∙ sym (laid-wet c.before.before.args.ink (c.before.before.args.b ∷ []) _ _ (not-false c.before.before.args.ink c.if-not-ink.false))))
+    place-holds (Left _ _ _ _ _) (omega arith) (done refl (omega arith) (laid-byte _ _ c.args.out.now c.if-at-out.false ∙ sym (laid-wet c.args.ink (c.args.b ∷ []) _ _ (not-false c.args.ink c.if-not-ink.false-raw))))
 
 pub byte_spec : {M : Type 1} → statement M
 byte_spec =

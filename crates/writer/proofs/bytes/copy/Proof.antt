@@ -23,32 +23,29 @@ returns c =
 
 returns-2 : tie.Need-returns-then-not-ink invariant-loop decreases-loop
 returns-2 c =
-    place-holds (Left _ _ _ _ _) (omega arith) (done refl (omega arith) (sym (laid-dry c.before.before.args.ink _ _ _ (not-true c.before.before.args.ink c.if-not-ink.true))))
+    place-holds (Left _ _ _ _ _) (omega arith) (done refl (omega arith) (sym (laid-dry c.args.ink _ _ _ (not-true c.args.ink c.if-not-ink.true-raw))))
 
 loop-holds : tie.Need-loop-i-init invariant-loop decreases-loop
 loop-holds c =
-    (refl, omega arith, paste-zero c.before.before.args.out.now c.before.before.args.at c.before.before.args.src.now)
+    (refl, omega arith, paste-zero c.args.out.now c.args.at c.args.src.now)
 
 slice-write-out : tie.Need-bounds-out-at invariant-loop decreases-loop
 slice-write-out c =
-    omega (arith, c.before.before.loop-i.invariant.0)
+    omega (arith, c.loop-i.invariant.0)
 
 loop-again : tie.Need-loop-i-preserved invariant-loop decreases-loop
 loop-again c =
-    let at-loop = c.before.before in
-    let args' = at-loop.before.before.before.args in
-    (length-set at-loop.loop-i.out _ _ ∙ at-loop.loop-i.invariant.0, omega arith, copy_more args'.out.now _ args'.src.now at-loop.loop-i.out at-loop.loop-i.i (omega arith) (omega arith) at-loop.loop-i.invariant.2)
+    let args' = c.args in
+    (length-set c.loop-i.out _ _ ∙ c.loop-i.invariant.0, omega arith, copy_more args'.out.now _ args'.src.now c.loop-i.out c.loop-i.i (omega arith) (omega arith) c.loop-i.invariant.2)
 
 same_length : tie.Need-shape_of-out invariant-loop decreases-loop
 same_length c =
-    c.before.loop-i.invariant.0
+    c.loop-i.invariant.0
 
 returns-3 : tie.Need-returns invariant-loop decreases-loop
 returns-3 c =
-    let at-loop = c.before in
-    let at-if2 = at-loop.before in
-    let args' = at-if2.before.before.args in
-    place-holds (Left _ _ _ _ _) (omega arith) (done refl (omega arith) (copy_done args'.out.now _ args'.src.now _ at-loop.loop-i.i args'.ink (omega arith) (not-false args'.ink at-if2.if-not-ink.false) at-loop.loop-i.invariant.2))
+    let args' = c.args in
+    place-holds (Left _ _ _ _ _) (omega arith) (done refl (omega arith) (copy_done args'.out.now _ args'.src.now _ c.loop-i.i args'.ink (omega arith) (not-false args'.ink c.if-not-ink.false-raw) c.loop-i.invariant.2))
 
 pub copy_spec : {M : Type 1} → statement M
 copy_spec =

@@ -19,91 +19,57 @@ decreases-loop words n at₀ seen₀ at seen =
 
 loop-holds : tie.Need-loop-at-init invariant-loop decreases-loop
 loop-holds c =
-    (scan-start c.before.args.words.now c.before.requires.0, omega arith)
+    (scan-start c.args.words.now c.requires.0, omega arith)
 
 add-end : tie.Need-overflow_add-end invariant-loop decreases-loop
 add-end c =
-    let at-shape-at = c.before in
-    let at-loop-test = at-shape-at.before.before in
-    let at-loop = at-loop-test.before in
-    let at-args = at-loop.before.before in
-    let z = scan-sizes at-args.args.words.now _ _ at-loop.loop-at.invariant.0 at-loop-test.loop-at-test.true at-shape-at.shape_at-node.result at-shape-at.shape_at-node.ensures in omega (arith, z.2, at-args.well_formed.1)
+    let z = scan-sizes c.args.words.now _ _ c.loop-at.invariant.0 c.loop-at-test.true c.shape_at-node.result c.shape_at-node.ensures in omega (arith, z.2, c.well_formed.1)
 
 sub-if1 : tie.Need-overflow_sub-n invariant-loop decreases-loop
 sub-if1 c =
-    c.before.before.before.before.loop-at.invariant.1
+    c.loop-at.invariant.1
 
 sub_wide : tie.Need-overflow_sub-end invariant-loop decreases-loop
 sub_wide c =
-    let at-shape-at = c.before.before.before.before in
-    let at-loop-test = at-shape-at.before.before in
-    let at-loop = at-loop-test.before in
-    let z = scan-sizes at-loop.before.before.args.words.now _ _ at-loop.loop-at.invariant.0 at-loop-test.loop-at-test.true at-shape-at.shape_at-node.result at-shape-at.shape_at-node.ensures in omega (arith, z.1)
+    let z = scan-sizes c.args.words.now _ _ c.loop-at.invariant.0 c.loop-at-test.true c.shape_at-node.result c.shape_at-node.ensures in omega (arith, z.1)
 
 sub-wide-2 : tie.Need-overflow_sub-n-then-n-seen invariant-loop decreases-loop
 sub-wide-2 c =
-    c.before.before.before.before.before.before.before.loop-at.invariant.1
+    c.loop-at.invariant.1
 
 add_wide : tie.Need-overflow_add-end-then-n-seen invariant-loop decreases-loop
 add_wide c =
-    let at-if1 = c.before in
-    let at-shape-at = at-if1.before.before.before in
-    let at-loop-test = at-shape-at.before.before in
-    let at-loop = at-loop-test.before in
-    let at-args = at-loop.before.before in
-    let z = scan-sizes at-args.args.words.now _ _ at-loop.loop-at.invariant.0 at-loop-test.loop-at-test.true at-shape-at.shape_at-node.result at-shape-at.shape_at-node.ensures in omega (arith, z.1, z.2, at-if1.if-n-seen.true, at-args.well_formed.1)
+    let z = scan-sizes c.args.words.now _ _ c.loop-at.invariant.0 c.loop-at-test.true c.shape_at-node.result c.shape_at-node.ensures in omega (arith, z.1, z.2, c.if-n-seen.true, c.well_formed.1)
 
 mul_wide : tie.Need-offset_bounds-words-end invariant-loop decreases-loop
 mul_wide c =
-    let at-if1 = c.before in
-    let at-shape-at = at-if1.before.before.before in
-    let at-loop-test = at-shape-at.before.before in
-    let at-loop = at-loop-test.before in
-    let at-args = at-loop.before.before in
-    let z = scan-sizes at-args.args.words.now _ _ at-loop.loop-at.invariant.0 at-loop-test.loop-at-test.true at-shape-at.shape_at-node.result at-shape-at.shape_at-node.ensures in omega (arith, z.1, z.2, at-if1.if-n-seen.true, at-args.well_formed.1)
+    let z = scan-sizes c.args.words.now _ _ c.loop-at.invariant.0 c.loop-at-test.true c.shape_at-node.result c.shape_at-node.ensures in omega (arith, z.1, z.2, c.if-n-seen.true, c.well_formed.1)
 
 shared-slice-read-wide : tie.Need-bounds-words-end invariant-loop decreases-loop
 shared-slice-read-wide c =
-    let at-if1 = c.before.before in
-    let at-shape-at = at-if1.before.before.before in
-    let at-loop-test = at-shape-at.before.before in
-    let at-loop = at-loop-test.before in
-    let z = scan-sizes at-loop.before.before.args.words.now _ _ at-loop.loop-at.invariant.0 at-loop-test.loop-at-test.true at-shape-at.shape_at-node.result at-shape-at.shape_at-node.ensures in omega (arith, z.1, z.2, at-if1.if-n-seen.true, at-loop.loop-at.invariant.1)
+    let z = scan-sizes c.args.words.now _ _ c.loop-at.invariant.0 c.loop-at-test.true c.shape_at-node.result c.shape_at-node.ensures in omega (arith, z.1, z.2, c.if-n-seen.true, c.loop-at.invariant.1)
 
 returns : tie.Need-returns-then-n-seen invariant-loop decreases-loop
 returns c =
-    let at-if1 = c.before.before.before in
-    let at-shape-at = at-if1.before.before.before in
-    let at-loop-test = at-shape-at.before.before in
-    let at-loop = at-loop-test.before in
-    let args' = at-loop.before.before.args in
-    let z = scan-sizes args'.words.now _ _ at-loop.loop-at.invariant.0 at-loop-test.loop-at-test.true at-shape-at.shape_at-node.result at-shape-at.shape_at-node.ensures in
-    c.wide.ensures ∙ name-here args'.words.now at-loop.loop-at.at at-loop.loop-at.seen at-shape-at.shape_at-node.result.own at-shape-at.shape_at-node.result.names args'.n (scan-names args'.words.now _ _ at-loop.loop-at.invariant.0 at-loop-test.loop-at-test.true at-shape-at.shape_at-node.result at-shape-at.shape_at-node.ensures) at-loop.loop-at.invariant.1 at-if1.if-n-seen.true z.1
+    let args' = c.args in
+    let z = scan-sizes args'.words.now _ _ c.loop-at.invariant.0 c.loop-at-test.true c.shape_at-node.result c.shape_at-node.ensures in
+    c.wide.ensures ∙ name-here args'.words.now c.loop-at.at c.loop-at.seen c.shape_at-node.result.own c.shape_at-node.result.names args'.n (scan-names args'.words.now _ _ c.loop-at.invariant.0 c.loop-at-test.true c.shape_at-node.result c.shape_at-node.ensures) c.loop-at.invariant.1 c.if-n-seen.true z.1
 
 add-seen : tie.Need-overflow_add-seen invariant-loop decreases-loop
 add-seen c =
-    omega (arith, c.before.if-n-seen.false, c.before.before.before.before.before.before.before.loop-at.invariant.1)
+    omega (arith, c.if-n-seen.false, c.loop-at.invariant.1)
 
 loop-less : tie.Need-loop-at-smaller invariant-loop decreases-loop
 loop-less c =
-    let at-shape-at = c.before.before.before.before in
-    let at-loop-test = at-shape-at.before.before in
-    let at-loop = at-loop-test.before in
-    let z = scan-sizes at-loop.before.before.args.words.now _ _ at-loop.loop-at.invariant.0 at-loop-test.loop-at-test.true at-shape-at.shape_at-node.result at-shape-at.shape_at-node.ensures in omega (arith, z.0, z.2)
+    let z = scan-sizes c.args.words.now _ _ c.loop-at.invariant.0 c.loop-at-test.true c.shape_at-node.result c.shape_at-node.ensures in omega (arith, z.0, z.2)
 
 loop-again : tie.Need-loop-at-preserved invariant-loop decreases-loop
 loop-again c =
-    let at-if1 = c.before in
-    let at-shape-at = at-if1.before.before.before in
-    let at-loop-test = at-shape-at.before.before in
-    let at-loop = at-loop-test.before in
-    (scan-next at-loop.before.before.args.words.now _ _ at-loop.loop-at.invariant.0 at-loop-test.loop-at-test.true at-shape-at.shape_at-node.result at-shape-at.shape_at-node.ensures, omega (arith, at-if1.if-n-seen.false, at-loop.loop-at.invariant.1))
+    (scan-next c.args.words.now _ _ c.loop-at.invariant.0 c.loop-at-test.true c.shape_at-node.result c.shape_at-node.ensures, omega (arith, c.if-n-seen.false, c.loop-at.invariant.1))
 
 returns-2 : tie.Need-returns invariant-loop decreases-loop
 returns-2 c =
-    let at-loop = c.before in
-    let at-args = at-loop.before.before in
-    let e : at-loop.loop-at.at ≡ length at-args.args.words.now = omega (arith, at-loop.loop-at.invariant.0.inside, c.loop-at-test.false) in absurd (omega (arith, scan-end at-args.args.words.now _ _ at-loop.loop-at.invariant.0 e, at-args.requires.1, at-loop.loop-at.invariant.1))
+    let e : c.loop-at.at ≡ length c.args.words.now = omega (arith, c.loop-at.invariant.0.inside, c.loop-at-test.false) in absurd (omega (arith, scan-end c.args.words.now _ _ c.loop-at.invariant.0 e, c.requires.1, c.loop-at.invariant.1))
 
 pub find_spec : {M : Type 1} → statement M
 find_spec =

@@ -10,11 +10,11 @@ use Rattle.writer.specs.CalledLaws.{called-table, called-words}
 
 mul_wide : tie.Need-offset_bounds-called-n
 mul_wide c =
-    omega (arith, c.before.before.requires.0, ap length (called-table c.before.before.args.direct c.before.before.args.called.now c.if-direct.true), c.before.before.well_formed.1.0.1)
+    omega (arith, c.requires.0, ap length (called-table c.args.direct c.args.called.now c.if-direct.true), c.well_formed.1.0.1)
 
 shared-slice-read-wide : tie.Need-bounds-called-n
 shared-slice-read-wide c =
-    omega (arith, c.before.before.before.requires.0, ap length (called-table c.before.before.before.args.direct c.before.before.before.args.called.now c.before.if-direct.true))
+    omega (arith, c.requires.0, ap length (called-table c.args.direct c.args.called.now c.if-direct.true))
 
 wide-requires : tie.Need-wide-requires
 wide-requires c κs =
@@ -22,17 +22,16 @@ wide-requires c κs =
 
 returns : tie.Need-returns-then-direct
 returns c =
-    let at-if1 = c.before.before in
-    let args' = at-if1.before.before.args in
-    c.wide.ensures ∙ ap (λ (l : List ℕ). get_or l args'.n 0) (sym (called-table args'.direct args'.called.now at-if1.if-direct.true))
+    let args' = c.args in
+    c.wide.ensures ∙ ap (λ (l : List ℕ). get_or l args'.n 0) (sym (called-table args'.direct args'.called.now c.if-direct.true))
 
 find-requires : tie.Need-find-requires
 find-requires c κs =
-    (c.before.before.requires.1 c.if-direct.false, subst (λ (l : List ℕ). c.before.before.args.n < length l) (called-words c.before.before.args.direct c.before.before.args.called.now c.if-direct.false) c.before.before.requires.0)
+    (c.requires.1 c.if-direct.false, subst (λ (l : List ℕ). c.args.n < length l) (called-words c.args.direct c.args.called.now c.if-direct.false) c.requires.0)
 
 returns-2 : tie.Need-returns
 returns-2 c =
-    c.find.ensures ∙ ap (λ (l : List ℕ). get_or l c.before.before.before.args.n 0) (sym (called-words c.before.before.before.args.direct c.before.before.before.args.called.now c.before.if-direct.false))
+    c.find.ensures ∙ ap (λ (l : List ℕ). get_or l c.args.n 0) (sym (called-words c.args.direct c.args.called.now c.if-direct.false))
 
 pub name_of_spec : {M : Type 1} → statement M
 name_of_spec =

@@ -19,125 +19,84 @@ decreases-loop words count table₀ at₀ seen₀ table at seen =
 
 loop-holds : tie.Need-loop-seen-init invariant-loop decreases-loop
 loop-holds c =
-    (scan-start c.before.before.args.words.now c.before.before.requires.0, refl, refl)
+    (scan-start c.args.words.now c.requires.0, refl, refl)
 
 mul-shape-at : tie.Need-offset_bounds-words-at invariant-loop decreases-loop
 mul-shape-at c =
-    let at-loop = c.before in
-    let at-args = at-loop.before.before.before in
-    let m = scan-more at-args.args.words.now _ _ at-loop.loop-seen.invariant.0 (omega (arith, c.loop-seen-test.true, at-args.requires.1)) in omega (arith, at-loop.loop-seen.invariant.0.inside, at-args.well_formed)
+    let m = scan-more c.args.words.now _ _ c.loop-seen.invariant.0 (omega (arith, c.loop-seen-test.true, c.requires.1)) in omega (arith, c.loop-seen.invariant.0.inside, c.well_formed)
 
 sub-shape-at : tie.Need-slice_bounds-shape_at-count invariant-loop decreases-loop
 sub-shape-at c =
-    c.before.loop-seen.invariant.0.inside
+    c.loop-seen.invariant.0.inside
 
 part-shape-at-start : tie.Need-slice_bounds-shape_at-start invariant-loop decreases-loop
 part-shape-at-start c =
-    c.before.loop-seen.invariant.0.inside
+    c.loop-seen.invariant.0.inside
 
 add-end : tie.Need-overflow_add-end invariant-loop decreases-loop
 add-end c =
-    let at-shape-at = c.before in
-    let at-loop-test = at-shape-at.before.before in
-    let at-loop = at-loop-test.before in
-    let at-args = at-loop.before.before.before in
-    let m = scan-more at-args.args.words.now _ _ at-loop.loop-seen.invariant.0 (omega (arith, at-loop-test.loop-seen-test.true, at-args.requires.1)) in
-    let z = scan-sizes at-args.args.words.now _ _ at-loop.loop-seen.invariant.0 m at-shape-at.shape_at-node.result at-shape-at.shape_at-node.ensures in omega (arith, z.2, at-args.well_formed)
+    let m = scan-more c.args.words.now _ _ c.loop-seen.invariant.0 (omega (arith, c.loop-seen-test.true, c.requires.1)) in
+    let z = scan-sizes c.args.words.now _ _ c.loop-seen.invariant.0 m c.shape_at-node.result c.shape_at-node.ensures in omega (arith, z.2, c.well_formed)
 
 sub-put : tie.Need-overflow_sub-end invariant-loop decreases-loop
 sub-put c =
-    let at-shape-at = c.before.before in
-    let at-loop-test = at-shape-at.before.before in
-    let at-loop = at-loop-test.before in
-    let at-args = at-loop.before.before.before in
-    let m = scan-more at-args.args.words.now _ _ at-loop.loop-seen.invariant.0 (omega (arith, at-loop-test.loop-seen-test.true, at-args.requires.1)) in
-    let z = scan-sizes at-args.args.words.now _ _ at-loop.loop-seen.invariant.0 m at-shape-at.shape_at-node.result at-shape-at.shape_at-node.ensures in omega (arith, z.1)
+    let m = scan-more c.args.words.now _ _ c.loop-seen.invariant.0 (omega (arith, c.loop-seen-test.true, c.requires.1)) in
+    let z = scan-sizes c.args.words.now _ _ c.loop-seen.invariant.0 m c.shape_at-node.result c.shape_at-node.ensures in omega (arith, z.1)
 
 mul-put : tie.Need-offset_bounds-words-end invariant-loop decreases-loop
 mul-put c =
-    let at-shape-at = c.before.before in
-    let at-loop-test = at-shape-at.before.before in
-    let at-loop = at-loop-test.before in
-    let at-args = at-loop.before.before.before in
-    let m = scan-more at-args.args.words.now _ _ at-loop.loop-seen.invariant.0 (omega (arith, at-loop-test.loop-seen-test.true, at-args.requires.1)) in
-    let z = scan-sizes at-args.args.words.now _ _ at-loop.loop-seen.invariant.0 m at-shape-at.shape_at-node.result at-shape-at.shape_at-node.ensures in omega (arith, z.1, z.2, at-args.well_formed)
+    let m = scan-more c.args.words.now _ _ c.loop-seen.invariant.0 (omega (arith, c.loop-seen-test.true, c.requires.1)) in
+    let z = scan-sizes c.args.words.now _ _ c.loop-seen.invariant.0 m c.shape_at-node.result c.shape_at-node.ensures in omega (arith, z.1, z.2, c.well_formed)
 
 part-put-start : tie.Need-slice_bounds-put-start invariant-loop decreases-loop
 part-put-start c =
-    let at-shape-at = c.before.before in
-    let at-loop-test = at-shape-at.before.before in
-    let at-loop = at-loop-test.before in
-    let at-args = at-loop.before.before.before in
-    let m = scan-more at-args.args.words.now _ _ at-loop.loop-seen.invariant.0 (omega (arith, at-loop-test.loop-seen-test.true, at-args.requires.1)) in
-    let z = scan-sizes at-args.args.words.now _ _ at-loop.loop-seen.invariant.0 m at-shape-at.shape_at-node.result at-shape-at.shape_at-node.ensures in omega (arith, z.1)
+    let m = scan-more c.args.words.now _ _ c.loop-seen.invariant.0 (omega (arith, c.loop-seen-test.true, c.requires.1)) in
+    let z = scan-sizes c.args.words.now _ _ c.loop-seen.invariant.0 m c.shape_at-node.result c.shape_at-node.ensures in omega (arith, z.1)
 
 part-put-end : tie.Need-slice_bounds-put-end invariant-loop decreases-loop
 part-put-end c =
-    let at-shape-at = c.before.before in
-    let at-loop-test = at-shape-at.before.before in
-    let at-loop = at-loop-test.before in
-    let at-args = at-loop.before.before.before in
-    let m = scan-more at-args.args.words.now _ _ at-loop.loop-seen.invariant.0 (omega (arith, at-loop-test.loop-seen-test.true, at-args.requires.1)) in
-    let z = scan-sizes at-args.args.words.now _ _ at-loop.loop-seen.invariant.0 m at-shape-at.shape_at-node.result at-shape-at.shape_at-node.ensures in omega (arith, z.2)
+    let m = scan-more c.args.words.now _ _ c.loop-seen.invariant.0 (omega (arith, c.loop-seen-test.true, c.requires.1)) in
+    let z = scan-sizes c.args.words.now _ _ c.loop-seen.invariant.0 m c.shape_at-node.result c.shape_at-node.ensures in omega (arith, z.2)
 
 put-requires : tie.Need-put-requires invariant-loop decreases-loop
 put-requires c κs =
-    let at-shape-at = c.before.before.before.before in
-    let at-loop-test = at-shape-at.before.before in
-    let at-loop = at-loop-test.before in
-    let at-args = at-loop.before.before.before in
-    let m = scan-more at-args.args.words.now _ _ at-loop.loop-seen.invariant.0 (omega (arith, at-loop-test.loop-seen-test.true, at-args.requires.1)) in
-    let z = scan-sizes at-args.args.words.now _ _ at-loop.loop-seen.invariant.0 m at-shape-at.shape_at-node.result at-shape-at.shape_at-node.ensures in omega (arith, z.3, scan-count at-args.args.words.now _ _ at-loop.loop-seen.invariant.0 m at-shape-at.shape_at-node.result at-shape-at.shape_at-node.ensures, at-loop.loop-seen.invariant.1, at-args.requires.1, at-args.requires.2)
+    let m = scan-more c.args.words.now _ _ c.loop-seen.invariant.0 (omega (arith, c.loop-seen-test.true, c.requires.1)) in
+    let z = scan-sizes c.args.words.now _ _ c.loop-seen.invariant.0 m c.shape_at-node.result c.shape_at-node.ensures in omega (arith, z.3, scan-count c.args.words.now _ _ c.loop-seen.invariant.0 m c.shape_at-node.result c.shape_at-node.ensures, c.loop-seen.invariant.1, c.requires.1, c.requires.2)
 
 add-seen : tie.Need-overflow_add-seen invariant-loop decreases-loop
 add-seen c =
-    let at-shape-at = c.before.before.before.before.before.before.before.before in
-    let at-loop-test = at-shape-at.before.before in
-    let at-loop = at-loop-test.before in
-    let at-args = at-loop.before.before.before in
-    let m = scan-more at-args.args.words.now _ _ at-loop.loop-seen.invariant.0 (omega (arith, at-loop-test.loop-seen-test.true, at-args.requires.1)) in
-    let z = scan-sizes at-args.args.words.now _ _ at-loop.loop-seen.invariant.0 m at-shape-at.shape_at-node.result at-shape-at.shape_at-node.ensures in omega (arith, z.3, at-args.requires.1, at-args.requires.2, at-args.well_formed)
+    let m = scan-more c.args.words.now _ _ c.loop-seen.invariant.0 (omega (arith, c.loop-seen-test.true, c.requires.1)) in
+    let z = scan-sizes c.args.words.now _ _ c.loop-seen.invariant.0 m c.shape_at-node.result c.shape_at-node.ensures in omega (arith, z.3, c.requires.1, c.requires.2, c.well_formed)
 
 loop-less : tie.Need-loop-seen-smaller invariant-loop decreases-loop
 loop-less c =
-    let at-shape-at = c.before.before.before.before.before.before.before.before in
-    let at-loop-test = at-shape-at.before.before in
-    let at-loop = at-loop-test.before in
-    let at-args = at-loop.before.before.before in
-    let m = scan-more at-args.args.words.now _ _ at-loop.loop-seen.invariant.0 (omega (arith, at-loop-test.loop-seen-test.true, at-args.requires.1)) in
-    let z = scan-sizes at-args.args.words.now _ _ at-loop.loop-seen.invariant.0 m at-shape-at.shape_at-node.result at-shape-at.shape_at-node.ensures in omega (arith, z.0, z.2)
+    let m = scan-more c.args.words.now _ _ c.loop-seen.invariant.0 (omega (arith, c.loop-seen-test.true, c.requires.1)) in
+    let z = scan-sizes c.args.words.now _ _ c.loop-seen.invariant.0 m c.shape_at-node.result c.shape_at-node.ensures in omega (arith, z.0, z.2)
 
 loop-again : tie.Need-loop-seen-preserved invariant-loop decreases-loop
 loop-again c =
-    let at-put = c.before.before.before in
-    let at-shape-at = at-put.before.before.before.before.before in
-    let at-loop-test = at-shape-at.before.before in
-    let at-loop = at-loop-test.before in
-    let at-args = at-loop.before.before.before in
-    let m = scan-more at-args.args.words.now _ _ at-loop.loop-seen.invariant.0 (omega (arith, at-loop-test.loop-seen-test.true, at-args.requires.1)) in
-    let z = scan-sizes at-args.args.words.now _ _ at-loop.loop-seen.invariant.0 m at-shape-at.shape_at-node.result at-shape-at.shape_at-node.ensures in
-    let ws = at-args.args.words.now in
-    let count = at-shape-at.shape_at-node.result.names in
-    let end = at-loop.loop-seen.at + at-shape-at.shape_at-node.result.own in
-    let k = scan-count ws _ _ at-loop.loop-seen.invariant.0 m at-shape-at.shape_at-node.result at-shape-at.shape_at-node.ensures in
-    let n = scan-names ws _ _ at-loop.loop-seen.invariant.0 m at-shape-at.shape_at-node.result at-shape-at.shape_at-node.ensures in
-    let room : at-loop.loop-seen.seen + count ≤ length at-loop.loop-seen.table = omega (arith, z.3, at-loop.loop-seen.invariant.1, at-args.requires.1, at-args.requires.2) in (
-      scan-next ws _ _ at-loop.loop-seen.invariant.0 m at-shape-at.shape_at-node.result at-shape-at.shape_at-node.ensures,
-      at-put.put.auto.1.0 ∙ at-loop.loop-seen.invariant.1,
-      ap (take (at-loop.loop-seen.seen + count)) at-put.put.ensures
-          ∙ notes-more ws at-loop.loop-seen.table (take (end - (end - count)) (drop (end - count) ws)) at-loop.loop-seen.seen count at-loop.loop-seen.invariant.2 room z.3 k n,
+    let m = scan-more c.args.words.now _ _ c.loop-seen.invariant.0 (omega (arith, c.loop-seen-test.true, c.requires.1)) in
+    let z = scan-sizes c.args.words.now _ _ c.loop-seen.invariant.0 m c.shape_at-node.result c.shape_at-node.ensures in
+    let ws = c.args.words.now in
+    let count = c.shape_at-node.result.names in
+    let end = c.loop-seen.at + c.shape_at-node.result.own in
+    let k = scan-count ws _ _ c.loop-seen.invariant.0 m c.shape_at-node.result c.shape_at-node.ensures in
+    let n = scan-names ws _ _ c.loop-seen.invariant.0 m c.shape_at-node.result c.shape_at-node.ensures in
+    let room : c.loop-seen.seen + count ≤ length c.loop-seen.table = omega (arith, z.3, c.loop-seen.invariant.1, c.requires.1, c.requires.2) in (
+      scan-next ws _ _ c.loop-seen.invariant.0 m c.shape_at-node.result c.shape_at-node.ensures,
+      c.put.auto.table ∙ c.loop-seen.invariant.1,
+      ap (take (c.loop-seen.seen + count)) c.put.ensures
+          ∙ notes-more ws c.loop-seen.table (take (end - (end - count)) (drop (end - count) ws)) c.loop-seen.seen count c.loop-seen.invariant.2 room z.3 k n,
     )
 
 same_length : tie.Need-shape_of-table invariant-loop decreases-loop
 same_length c =
-    c.before.loop-seen.invariant.1
+    c.loop-seen.invariant.1
 
 returns : tie.Need-returns invariant-loop decreases-loop
 returns c =
-    let at-loop = c.before in
-    let at-args = at-loop.before.before.before in
-    let e : at-loop.loop-seen.seen ≡ at-args.args.count = omega (arith, at-loop.loop-seen.invariant.0.known, c.loop-seen-test.false, at-args.requires.1) in
-    ap (λ n. take n at-loop.loop-seen.table) (sym e) ∙ notes-all at-args.args.words.now at-loop.loop-seen.table at-loop.loop-seen.seen at-loop.loop-seen.invariant.2 (omega (arith, e, at-args.requires.1))
+    let e : c.loop-seen.seen ≡ c.args.count = omega (arith, c.loop-seen.invariant.0.known, c.loop-seen-test.false, c.requires.1) in
+    ap (λ n. take n c.loop-seen.table) (sym e) ∙ notes-all c.args.words.now c.loop-seen.table c.loop-seen.seen c.loop-seen.invariant.2 (omega (arith, e, c.requires.1))
 
 pub note_spec : {M : Type 1} → statement M
 note_spec =

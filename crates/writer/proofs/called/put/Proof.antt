@@ -21,25 +21,23 @@ loop-holds c =
 
 add-table : tie.Need-overflow_add-table invariant-loop decreases-loop
 add-table c =
-    omega (arith, c.before.before.before.requires, c.before.before.before.well_formed.1)
+    omega (arith, c.requires, c.well_formed.1)
 
 slice-write-table : tie.Need-bounds-table-at invariant-loop decreases-loop
 slice-write-table c =
-    omega (arith, c.before.before.loop-i.invariant.0, c.before.before.before.requires)
+    omega (arith, c.loop-i.invariant.0, c.requires)
 
 loop-again : tie.Need-loop-i-preserved invariant-loop decreases-loop
 loop-again c =
-    let at-loop = c.before.before in
-    let at-args = at-loop.before in
-    (length-set at-loop.loop-i.table _ _ ∙ at-loop.loop-i.invariant.0, omega arith, copy_more at-args.args.table.now _ at-args.args.names.now at-loop.loop-i.table at-loop.loop-i.i at-args.requires (omega arith) at-loop.loop-i.invariant.2)
+    (length-set c.loop-i.table _ _ ∙ c.loop-i.invariant.0, omega arith, copy_more c.args.table.now _ c.args.names.now c.loop-i.table c.loop-i.i c.requires (omega arith) c.loop-i.invariant.2)
 
 same_length : tie.Need-shape_of-table invariant-loop decreases-loop
 same_length c =
-    c.before.loop-i.invariant.0
+    c.loop-i.invariant.0
 
 returns : tie.Need-returns invariant-loop decreases-loop
 returns c =
-    let e : c.before.loop-i.i ≡ length c.before.before.args.names.now = omega (arith, c.loop-i-test.false, c.before.loop-i.invariant.1) in c.before.loop-i.invariant.2 ∙ ap (paste c.before.before.args.table.now c.before.before.args.at c.before.before.args.names.now) e
+    let e : c.loop-i.i ≡ length c.args.names.now = omega (arith, c.loop-i-test.false, c.loop-i.invariant.1) in c.loop-i.invariant.2 ∙ ap (paste c.args.table.now c.args.at c.args.names.now) e
 
 pub put_spec : {M : Type 1} → statement M
 put_spec =

@@ -11,37 +11,35 @@ use Rattle.writer.specs.OpenedLaws.{slot_of, name-cut}
 
 mul-start : tie.Need-overflow_mul-start
 mul-start c =
-    let s = slot_of _ _ c.before.before.requires.1 in omega (arith, s.few)
+    let s = slot_of _ _ c.requires.1 in omega (arith, s.few)
 
 add-from : tie.Need-overflow_add-from
 add-from c =
-    let s = slot_of _ _ c.before.before.requires.1 in omega (arith, s.few)
+    let s = slot_of _ _ c.requires.1 in omega (arith, s.few)
 
 shared-slice-read-size : tie.Need-bounds-names-start
 shared-slice-read-size c =
-    let s = slot_of _ _ c.before.before.before.requires.1 in omega (arith, s.there)
+    let s = slot_of _ _ c.requires.1 in omega (arith, s.there)
 
 add-to : tie.Need-overflow_add-to
 add-to c =
-    let s = slot_of _ _ c.before.before.before.before.requires.1 in omega (arith, s.few, s.short, c.size.ensures)
+    let s = slot_of _ _ c.requires.1 in omega (arith, s.few, s.short, c.size.ensures)
 
 part-copy-end : tie.Need-slice_bounds-copy-end
 part-copy-end c =
-    let s = slot_of _ _ c.before.before.before.before.requires.1 in omega (arith, s.there, s.short, c.size.ensures)
+    let s = slot_of _ _ c.requires.1 in omega (arith, s.there, s.short, c.size.ensures)
 
 copy-requires : tie.Need-copy-requires
 copy-requires c κs =
-    c.before.before.before.before.before.before.requires.0
+    c.requires.0
 
 same_length : tie.Need-shape_of-out
 same_length c =
-    c.before.before.copy.auto.1.0
+    c.copy.auto.out
 
 returns : tie.Need-returns
 returns c =
-    let at_copy = c.before.before in
-    let at_size = at_copy.before.before.before in
-    left_is (name-cut at_size.before.before.before.before.args.names.now _ _ at_size.size.ensures) at_copy.copy.ensures
+    left_is (name-cut c.args.names.now _ _ c.size.ensures) c.copy.ensures
 
 pub name_spec : {M : Type 1} → statement M
 name_spec =

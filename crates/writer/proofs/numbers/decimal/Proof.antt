@@ -12,44 +12,19 @@ use Rattle.writer.specs.LaidLaws.{place-room, place-full, place-then, left_is}
 
 returns : tie.Need-returns-then-to
 returns c =
-    let at_byte = c.before.before.before in
-    let at-if1 = at_byte.before.before in
-    let at_wide = at-if1.before in
-    let at_size = at_wide.before in
-    let at-of-word = at_size.before in
-    let at-args = at-of-word.before.before in
-    left_is (decimal-below at-args.args.w at-args.ranges.w _ at-of-word.of_word-z.ensures _ (at_wide.wide-n.ensures ∙ at_size.size.ensures) at-args.args.count at-if1.if-z-lt0.true) (place-full at_byte.byte-to.ensures _ c.if-to.true)
+    left_is (decimal-below c.args.w c.ranges.w _ c.of_word-z.ensures _ (c.wide-n.ensures ∙ c.size.ensures) c.args.count c.if-z-lt0.true) (place-full c.byte-to.ensures _ c.if-to.true)
 
 point-requires : tie.Need-point-requires
 point-requires c κs =
-    let at-wide2 = c.before in
-    let at-if2 = at-wide2.before in
-    let at_byte = at-if2.before.before.before in
-    (place-room at_byte.byte-to.ensures at-if2.if-to.false, omega (arith, at_byte.before.before.before.wide-n.ensures), omega (arith, at-wide2.wide.ensures), omega (arith, at-wide2.wide.ensures))
+    (place-room c.byte-to.ensures c.if-to.false, omega (arith, c.wide-n.ensures), omega (arith, c.wide.ensures), omega (arith, c.wide.ensures))
 
 returns-2 : tie.Need-returns-then-z-lt0
 returns-2 c =
-    let at-point = c.before.before in
-    let at-wide2 = at-point.before.before in
-    let at-if2 = at-wide2.before in
-    let at_byte = at-if2.before.before.before in
-    let at-if1 = at_byte.before.before in
-    let at_wide = at-if1.before in
-    let at_size = at_wide.before in
-    let at-of-word = at_size.before in
-    let at-args = at-of-word.before.before in
-    left_is (rw at-wide2.wide.ensures (decimal-below at-args.args.w at-args.ranges.w _ at-of-word.of_word-z.ensures _ (at_wide.wide-n.ensures ∙ at_size.size.ensures) at-args.args.count at-if1.if-z-lt0.true)) (place-then at_byte.byte-to.ensures at-if2.if-to.false at-point.point.ensures)
+    left_is (rw c.wide.ensures (decimal-below c.args.w c.ranges.w _ c.of_word-z.ensures _ (c.wide-n.ensures ∙ c.size.ensures) c.args.count c.if-z-lt0.true)) (place-then c.byte-to.ensures c.if-to.false c.point.ensures)
 
 returns-3 : tie.Need-returns
 returns-3 c =
-    let at-point2 = c.before.before in
-    let at-wide3 = at-point2.before.before in
-    let at-if1 = at-wide3.before in
-    let at_wide = at-if1.before in
-    let at_size = at_wide.before in
-    let at-of-word = at_size.before in
-    let at-args = at-of-word.before.before in
-    left_is (rw at-wide3.wide-2.ensures (decimal-above at-args.args.w at-args.ranges.w _ at-of-word.of_word-z.ensures _ (at_wide.wide-n.ensures ∙ at_size.size.ensures) at-args.args.count at-if1.if-z-lt0.false)) at-point2.point-2.ensures
+    left_is (rw c.wide-2.ensures (decimal-above c.args.w c.ranges.w _ c.of_word-z.ensures _ (c.wide-n.ensures ∙ c.size.ensures) c.args.count c.if-z-lt0.false)) c.point-2.ensures
 
 pub decimal_spec : {M : Type 1} → statement M
 decimal_spec =

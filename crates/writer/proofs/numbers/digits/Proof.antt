@@ -11,58 +11,40 @@ use Rattle.writer.specs.DigitsLaws.{digits-full, digits-dry, digits-laid, most-f
 
 returns : tie.Need-returns-then-n-lt10
 returns c =
-    left_is (sym (numeral-one _ c.before.before.before.before.if-n-lt10.true)) c.before.before.byte.ensures
+    left_is (sym (numeral-one _ c.if-n-lt10.true)) c.byte.ensures
 
 returns-2 : tie.Need-returns-then-out-at
 returns-2 c =
-    let f = c.before.before.before.before.before in
-    let k = c.before.places-k.ensures in
-    digits-full _ _ c.before.before.before.if-n-lt10.false k.1 k.2 f.args.ink f.args.at f.args.out.now (omega arith)
+    let k = c.places-k.ensures in
+    digits-full _ _ c.if-n-lt10.false k.1 k.2 c.args.ink c.args.at c.args.out.now (omega arith)
 
 returns-3 : tie.Need-returns-then-not-ink
 returns-3 c =
-    let f = c.before.before.before.before.before.before in
-    let k = c.before.before.places-k.ensures in
-    digits-dry _ _ c.before.before.before.before.if-n-lt10.false k.1 k.2 f.args.ink f.args.at f.args.out.now (omega arith) (omega arith) (not-true f.args.ink c.if-not-ink.true)
+    let k = c.places-k.ensures in
+    digits-dry _ _ c.if-n-lt10.false k.1 k.2 c.args.ink c.args.at c.args.out.now (omega arith) (omega arith) (not-true c.args.ink c.if-not-ink.true-raw)
 
 sub-lay : tie.Need-overflow_sub-n
 sub-lay c =
-    let at-if4 = c.before.before.before in
-    let at_places = at-if4.before.before.before in
-    omega (arith, c.power.ensures, most-first at_places.before.before.before.before.args.n _ at_places.places-k.ensures.1 at-if4.if-k-eq19.true)
+    omega (arith, c.power.ensures, most-first c.args.n _ c.places-k.ensures.1 c.if-k-eq19.true)
 
 lay-requires : tie.Need-lay-requires
 lay-requires c κs =
-    let f = c.before.before.before.before.before.before.before.before.before.before.before in
-    (refl, omega arith, omega (arith, c.before.power.ensures), omega (arith, length-set f.args.out.now f.args.at 49))
+    (refl, omega arith, omega (arith, c.power.ensures), omega (arith, length-set c.args.out.now c.args.at 49))
 
 same-length-2 : tie.Need-shape_of-out-then-k-eq19
 same-length-2 c =
-    let at-lay = c.before.before in
-    at-lay.lay.auto.1.1.1.0 ∙ length-set at-lay.before.before.before.before.before.before.before.before.before.before.before.before.args.out.now _ _
+    c.lay.auto.out ∙ length-set c.args.out.now _ _
 
 returns-4 : tie.Need-returns-then-k-eq19
 returns-4 c =
-    let at-lay = c.before.before in
-    let at-power = at-lay.before.before in
-    let at-if4 = at-power.before.before.before in
-    let at-if3 = at-if4.before in
-    let at_places = at-if3.before.before in
-    let at-if1 = at_places.before.before in
-    let f = at-if1.before.before in
-    let k = at_places.places-k.ensures in
-    digits-laid _ _ at-if1.if-n-lt10.false k.1 k.2 f.args.ink f.args.at f.args.out.now (omega arith) (omega arith) _ (not-false f.args.ink at-if3.if-not-ink.false)
-    (most-laid f.args.n _ _ f.args.at f.args.out.now _ k.1 (omega arith) at-if4.if-k-eq19.true at-power.power.ensures (omega arith) at-lay.lay.ensures)
+    let k = c.places-k.ensures in
+    digits-laid _ _ c.if-n-lt10.false k.1 k.2 c.args.ink c.args.at c.args.out.now (omega arith) (omega arith) _ (not-false c.args.ink c.if-not-ink.false-raw)
+    (most-laid c.args.n _ _ c.args.at c.args.out.now _ k.1 (omega arith) c.if-k-eq19.true c.power.ensures (omega arith) c.lay.ensures)
 
 returns-5 : tie.Need-returns
 returns-5 c =
-    let at-lay2 = c.before.before in
-    let at-if3 = at-lay2.before.before.before.before in
-    let at_places = at-if3.before.before in
-    let at-if1 = at_places.before.before in
-    let f = at-if1.before.before in
-    let k = at_places.places-k.ensures in
-    digits-laid _ _ at-if1.if-n-lt10.false k.1 k.2 f.args.ink f.args.at f.args.out.now (omega arith) (omega arith) _ (not-false f.args.ink at-if3.if-not-ink.false) at-lay2.lay-2.ensures
+    let k = c.places-k.ensures in
+    digits-laid _ _ c.if-n-lt10.false k.1 k.2 c.args.ink c.args.at c.args.out.now (omega arith) (omega arith) _ (not-false c.args.ink c.if-not-ink.false-raw) c.lay-2.ensures
 
 pub digits_spec : {M : Type 1} → statement M
 digits_spec =

@@ -8,33 +8,27 @@ use Rattle.writer.specs.LaidLaws.{place-room, place-full, place-then}
 
 slice-aggregate-copy : tie.Need-slice_bounds-copy-end
 slice-aggregate-copy c =
-    let h : c.before.before.before.args.dot ≤ length c.before.before.before.args.digits.now = omega arith in sym (length-take-le _ _ h)
+    let h : c.args.dot ≤ length c.args.digits.now = omega arith in sym (length-take-le _ _ h)
 
 returns : tie.Need-returns-then-a
 returns c =
-    place-full c.before.before.before.copy-a.ensures _ c.if-a.true
+    place-full c.copy-a.ensures _ c.if-a.true
 
 byte-requires : tie.Need-byte-b-requires
 byte-requires c κs =
-    place-room c.before.before.before.before.copy-a.ensures c.before.if-a.false
+    place-room c.copy-a.ensures c.if-a.false
 
 returns-2 : tie.Need-returns-then-b
 returns-2 c =
-    let at_byte = c.before.before.before in
-    let at-if1 = at_byte.before.before in
-    place-then at-if1.before.before.before.copy-a.ensures at-if1.if-a.false (place-full at_byte.byte-b.ensures _ c.if-b.true)
+    place-then c.copy-a.ensures c.if-a.false (place-full c.byte-b.ensures _ c.if-b.true)
 
 copy-requires-2 : tie.Need-copy-requires
 copy-requires-2 c κs =
-    place-room c.before.before.before.before.before.byte-b.ensures c.before.before.if-b.false
+    place-room c.byte-b.ensures c.if-b.false
 
 returns-3 : tie.Need-returns
 returns-3 c =
-    let at-copy2 = c.before.before in
-    let at-if2 = at-copy2.before.before.before in
-    let at_byte = at-if2.before.before.before in
-    let at-if1 = at_byte.before.before in
-    place-then at-if1.before.before.before.copy-a.ensures at-if1.if-a.false (place-then at_byte.byte-b.ensures at-if2.if-b.false at-copy2.copy.ensures)
+    place-then c.copy-a.ensures c.if-a.false (place-then c.byte-b.ensures c.if-b.false c.copy.ensures)
 
 pub dotted_spec : {M : Type 1} → statement M
 dotted_spec =

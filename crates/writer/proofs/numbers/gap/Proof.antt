@@ -12,7 +12,7 @@ use Rattle.writer.specs.PiecesLaws.{gap-yes, gap-no}
 
 returns : tie.Need-returns-then-not-wanted
 returns c =
-    left_is (sym (gap-no c.before.before.args.wanted (not-true c.before.before.args.wanted c.if-not-wanted.true))) (place-holds (Left _ _ _ _ _) (omega arith) (left-none c.before.before.args.ink _ c.before.before.args.out.now c.before.before.requires))
+    left_is (sym (gap-no c.args.wanted (not-true c.args.wanted c.if-not-wanted.true-raw))) (place-holds (Left _ _ _ _ _) (omega arith) (left-none c.args.ink _ c.args.out.now c.requires))
 
 byte-requires : tie.Need-byte-requires
 byte-requires c κs =
@@ -20,14 +20,12 @@ byte-requires c κs =
 
 same_length : tie.Need-shape_of-out
 same_length c =
-    c.before.before.byte.auto.1.0
+    c.byte.auto.out
 
 returns-2 : tie.Need-returns
 returns-2 c =
-    let at_byte = c.before.before in
-    let at-if1 = at_byte.before.before in
-    let args' = at-if1.before.before.args in
-    left_is (sym (gap-yes args'.wanted (not-false args'.wanted at-if1.if-not-wanted.false))) at_byte.byte.ensures
+    let args' = c.args in
+    left_is (sym (gap-yes args'.wanted (not-false args'.wanted c.if-not-wanted.false-raw))) c.byte.ensures
 
 pub gap_spec : {M : Type 1} → statement M
 gap_spec = tie.close (tie.spec returns byte-requires same_length returns-2)

@@ -7,31 +7,11 @@ use Rattle.writer.specs.LaidLaws.{left_is}
 
 returns : tie.Need-returns-then-z-lt0
 returns c =
-    let at-numbered = c.before.before in
-    let at-if1 = at-numbered.before.before in
-    let at_wide = at-if1.before in
-    let at_size = at_wide.before in
-    let at-of-word = at_size.before in
-    let if1 = at-if1.if-z-lt0 in
-    let wide = at_wide.wide-n in
-    let size = at_size.size in
-    let of_word = at-of-word.of_word-z in
-    let start = at-of-word.before.before in
-    left_is (integer-below start.args.w start.ranges.w _ of_word.ensures _ (wide.ensures ∙ size.ensures) if1.true) at-numbered.numbered.ensures
+    left_is (integer-below c.args.w c.ranges.w _ c.of_word-z.ensures _ (c.wide-n.ensures ∙ c.size.ensures) c.if-z-lt0.true) c.numbered.ensures
 
 returns-2 : tie.Need-returns
 returns-2 c =
-    let at-digits = c.before.before in
-    let at-if1 = at-digits.before.before in
-    let at_wide = at-if1.before in
-    let at_size = at_wide.before in
-    let at-of-word = at_size.before in
-    let if1 = at-if1.if-z-lt0 in
-    let wide = at_wide.wide-n in
-    let size = at_size.size in
-    let of_word = at-of-word.of_word-z in
-    let start = at-of-word.before.before in
-    left_is (integer-above start.args.w start.ranges.w _ of_word.ensures _ (wide.ensures ∙ size.ensures) if1.false) at-digits.digits.ensures
+    left_is (integer-above c.args.w c.ranges.w _ c.of_word-z.ensures _ (c.wide-n.ensures ∙ c.size.ensures) c.if-z-lt0.false) c.digits.ensures
 
 pub integer_spec : {M : Type 1} → statement M
 integer_spec =

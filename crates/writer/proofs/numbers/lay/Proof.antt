@@ -18,56 +18,51 @@ decreases-loop powers n k out₀ at left₀ i₀ out left i =
 
 loop-holds : tie.Need-loop-i-init invariant-loop decreases-loop
 loop-holds c =
-    let at-args = c.before.before in
-    let k = at-args.args.k in
-    let e : at-args.args.at + (k - k) ≡ at-args.args.at = omega arith in
-    (refl, omega arith, subst (λ (x : ℕ). at-args.args.n < 10 ^ x) (add-one k) at-args.requires.2, ap (λ (x : ℕ). laid true (padded k at-args.args.n) x at-args.args.out.now) e)
+    let k = c.args.k in
+    let e : c.args.at + (k - k) ≡ c.args.at = omega arith in
+    (refl, omega arith, subst (λ (x : ℕ). c.args.n < 10 ^ x) (add-one k) c.requires.2, ap (λ (x : ℕ). laid true (padded k c.args.n) x c.args.out.now) e)
 
 power-requires : tie.Need-power-requires invariant-loop decreases-loop
 power-requires c κs =
-    (c.before.before.before.before.requires.0, omega arith)
+    (c.requires.0, omega arith)
 
 split-requires : tie.Need-split-part-requires invariant-loop decreases-loop
 split-requires c κs =
-    (omega (arith, power-more c.before.before.loop-i.i, c.before.before.loop-i.invariant.2), omega (arith, power-low c.before.before.loop-i.i (omega arith)))
+    (omega (arith, power-more c.loop-i.i, c.loop-i.invariant.2), omega (arith, power-low c.loop-i.i (omega arith)))
 
 slice-write-out : tie.Need-bounds-out-at invariant-loop decreases-loop
 slice-write-out c =
-    omega (arith, c.before.before.before.loop-i.invariant.0)
+    omega (arith, c.loop-i.invariant.0)
 
 loop-again : tie.Need-loop-i-preserved invariant-loop decreases-loop
 loop-again c =
-    let at-power = c.before in
-    let at-loop = at-power.before.before in
-    let args' = at-loop.before.before.before.args in
-    let w = at-loop.loop-i in
-    let at = args'.at + (args'.k - w.i) in (
-      length-set w.out _ _ ∙ w.invariant.0,
+    let args' = c.args in
+    let at = args'.at + (args'.k - c.loop-i.i) in (
+      length-set c.loop-i.out _ _ ∙ c.loop-i.invariant.0,
       omega arith,
-      lay-left w.i w.left _ _ _ at w.out (omega arith) at-power.power.ensures c.split-part.ensures.0 c.split-part.ensures.1,
-      lay-next w.i w.left _ _ _ at w.out (omega arith) at-power.power.ensures c.split-part.ensures.0 c.split-part.ensures.1 _ (omega arith) (omega (arith, w.invariant.0)) ∙ w.invariant.3,
+      lay-left c.loop-i.i c.loop-i.left _ _ _ at c.loop-i.out (omega arith) c.power.ensures c.split-part.ensures.0 c.split-part.ensures.1,
+      lay-next c.loop-i.i c.loop-i.left _ _ _ at c.loop-i.out (omega arith) c.power.ensures c.split-part.ensures.0 c.split-part.ensures.1 _ (omega arith) (omega (arith, c.loop-i.invariant.0)) ∙ c.loop-i.invariant.3,
     )
 
 cast-out : tie.Need-overflow_cast-out invariant-loop decreases-loop
 cast-out c =
-    record { fits = omega (arith, lay-one c.before.loop-i.i c.before.loop-i.left (omega arith) c.before.loop-i.invariant.2) }
+    record { fits = omega (arith, lay-one c.loop-i.i c.loop-i.left (omega arith) c.loop-i.invariant.2) }
 
 add-out-2 : tie.Need-overflow_add-out-2 invariant-loop decreases-loop
 add-out-2 c =
-    record { fits = omega (arith, lay-one c.before.loop-i.i c.before.loop-i.left (omega arith) c.before.loop-i.invariant.2) }
+    record { fits = omega (arith, lay-one c.loop-i.i c.loop-i.left (omega arith) c.loop-i.invariant.2) }
 
 slice-write-out-2 : tie.Need-bounds-out-at-2 invariant-loop decreases-loop
 slice-write-out-2 c =
-    omega (arith, c.before.loop-i.invariant.0)
+    omega (arith, c.loop-i.invariant.0)
 
 same_length : tie.Need-shape_of-out invariant-loop decreases-loop
 same_length c =
-    length-set c.before.loop-i.out _ _ ∙ c.before.loop-i.invariant.0
+    length-set c.loop-i.out _ _ ∙ c.loop-i.invariant.0
 
 returns : tie.Need-returns invariant-loop decreases-loop
 returns c =
-    let w = c.before.loop-i in
-    lay-last w.i w.left (c.before.before.before.before.args.at + c.before.before.before.before.args.k) _ w.out (omega arith) (omega arith) (omega (arith, w.invariant.0)) ∙ w.invariant.3
+    lay-last c.loop-i.i c.loop-i.left (c.args.at + c.args.k) _ c.loop-i.out (omega arith) (omega arith) (omega (arith, c.loop-i.invariant.0)) ∙ c.loop-i.invariant.3
 
 pub lay_spec : {M : Type 1} → statement M
 lay_spec =

@@ -8,11 +8,11 @@ use Rattle.writer.specs.DigitsLaws.{less-taken, less-left, taken_is, left_below}
 
 returns : tie.Need-returns-then-rest-lt9223372036854775808
 returns c =
-    less-taken _ _ _ _ _ (taken_is _ _ _ c.before.wrapping_sub_usize-rest.ensures c.if-rest-lt9223372036854775808.true c.before.before.requires.2) c.before.before.requires.1
+    less-taken _ _ _ _ _ (taken_is _ _ _ c.wrapping_sub_usize-rest.ensures c.if-rest-lt9223372036854775808.true c.requires.2) c.requires.1
 
 returns-2 : tie.Need-returns
 returns-2 c =
-    less-left _ _ _ _ (left_below _ _ _ c.before.wrapping_sub_usize-rest.ensures c.if-rest-lt9223372036854775808.false (omega arith) c.before.before.requires.1 c.before.before.requires.2)
+    less-left _ _ _ _ (left_below _ _ _ c.wrapping_sub_usize-rest.ensures c.if-rest-lt9223372036854775808.false (omega arith) c.requires.1 c.requires.2)
 
 pub less_spec : {M : Type 1} → statement M
 less_spec =

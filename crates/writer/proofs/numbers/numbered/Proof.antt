@@ -14,25 +14,23 @@ byte-requires c κs =
 
 same_length : tie.Need-shape_of-out-then-to
 same_length c =
-    c.before.before.before.byte-to.auto.1.0
+    c.byte-to.auto.out
 
 returns : tie.Need-returns-then-to
 returns c =
-    place-full c.before.before.before.byte-to.ensures _ c.if-to.true
+    place-full c.byte-to.ensures _ c.if-to.true
 
 digits-requires : tie.Need-digits-requires
 digits-requires c κs =
-    place-room c.before.before.before.before.byte-to.ensures c.before.if-to.false
+    place-room c.byte-to.ensures c.if-to.false
 
 same-length-2 : tie.Need-shape_of-out
 same-length-2 c =
-    c.before.before.digits.auto.1.0 ∙ c.before.before.before.before.before.before.before.byte-to.auto.1.0
+    c.digits.auto.out ∙ c.byte-to.auto.out
 
 returns-2 : tie.Need-returns
 returns-2 c =
-    let at-digits = c.before.before in
-    let at-if1 = at-digits.before.before in
-    place-then at-if1.before.before.before.byte-to.ensures at-if1.if-to.false at-digits.digits.ensures
+    place-then c.byte-to.ensures c.if-to.false c.digits.ensures
 
 pub numbered_spec : {M : Type 1} → statement M
 numbered_spec =

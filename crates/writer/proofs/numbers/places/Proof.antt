@@ -15,15 +15,15 @@ decreases-loop powers n k₀ k =
 
 loop-holds : tie.Need-loop-k-init invariant-loop decreases-loop
 loop-holds c =
-    (omega arith, c.before.requires.1)
+    (omega arith, c.requires.1)
 
 power-requires : tie.Need-power-requires invariant-loop decreases-loop
 power-requires c κs =
-    (c.before.before.before.requires.0, omega arith)
+    (c.requires.0, omega arith)
 
 returns : tie.Need-returns-then-n-power invariant-loop decreases-loop
 returns c =
-    (omega arith, c.before.before.before.loop-k.invariant.1, omega arith)
+    (omega arith, c.loop-k.invariant.1, omega arith)
 
 loop-again : tie.Need-loop-k-preserved invariant-loop decreases-loop
 loop-again c =
@@ -31,8 +31,8 @@ loop-again c =
 
 returns-2 : tie.Need-returns invariant-loop decreases-loop
 returns-2 c =
-    let e : c.before.loop-k.k ≡ 19 = omega arith in
-    (omega arith, subst (λ (x : ℕ). 10 ^ x ≤ c.before.before.before.args.n) e c.before.loop-k.invariant.1, omega arith)
+    let e : c.loop-k.k ≡ 19 = omega arith in
+    (omega arith, subst (λ (x : ℕ). 10 ^ x ≤ c.args.n) e c.loop-k.invariant.1, omega arith)
 
 pub places_spec : {M : Type 1} → statement M
 places_spec =

@@ -10,11 +10,7 @@ use Rattle.writer.specs.PointLaws.{pointed-cut}
 
 returns : tie.Need-returns
 returns c =
-    let at-dotted = c.before.before in
-    let at-lay = at-dotted.before.before.before.before in
-    let at-places-least = at-lay.before.before.before in
-    let at-args = at-places-least.before.before.before in
-    left_is (pointed-cut at-args.args.n _ at-args.args.count at-args.requires.2 at-places-least.places_least-k.ensures.0 at-places-least.places_least-k.ensures.2 at-places-least.places_least-k.ensures.3 _ _ at-lay.lay.ensures) at-dotted.dotted.ensures
+    left_is (pointed-cut c.args.n _ c.args.count c.requires.2 c.places_least-k.ensures.0 c.places_least-k.ensures.2 c.places_least-k.ensures.3 _ _ c.lay.ensures) c.dotted.ensures
 
 pub point_spec : {M : Type 1} → statement M
 point_spec =

@@ -8,28 +8,28 @@ use Rattle.writer.specs.DigitsLaws.{tens-at, tens-product, power_below}
 
 shared-slice-read-result : tie.Need-bounds-powers-k
 shared-slice-read-result c =
-    omega (arith, ap length c.before.before.requires.0)
+    omega (arith, ap length c.requires.0)
 
 returns : tie.Need-returns-then-k-le10
 returns c =
-    tens-at c.before.before.args.k _ c.before.before.requires.0 (omega arith)
+    tens-at c.args.k _ c.requires.0 (omega arith)
 
 shared-slice-read-result-2 : tie.Need-bounds-powers-9
 shared-slice-read-result-2 c =
-    omega (arith, ap length c.before.before.requires.0)
+    omega (arith, ap length c.requires.0)
 
 shared-slice-read-result-3 : tie.Need-bounds-powers-k-2
 shared-slice-read-result-3 c =
-    omega (arith, ap length c.before.before.before.requires.0)
+    omega (arith, ap length c.requires.0)
 
 mul-result-3 : tie.Need-overflow_mul-result
 mul-result-3 c =
-    let k = c.before.before.before.args.k in
-    record { fits = omega (arith, tens-product k _ c.before.before.before.requires.0 (omega arith) (omega arith), power_below k (omega arith)) }
+    let k = c.args.k in
+    record { fits = omega (arith, tens-product k _ c.requires.0 (omega arith) (omega arith), power_below k (omega arith)) }
 
 returns-2 : tie.Need-returns
 returns-2 c =
-    tens-product c.before.before.before.args.k _ c.before.before.before.requires.0 (omega arith) (omega arith)
+    tens-product c.args.k _ c.requires.0 (omega arith) (omega arith)
 
 pub power_spec : {M : Type 1} → statement M
 power_spec =

@@ -8,11 +8,10 @@ use Rattle.writer.specs.DigitsLaws.{split-is}
 
 returns : tie.Need-returns
 returns c =
-    let f = c.before.before.before.before in
-    let a = c.before.before.before.less-a.ensures in
-    let b = c.before.before.less-b.ensures in
-    let d = c.before.less-c.ensures in
-    split-is f.args.n f.args.p (omega arith) a.0 a.1 b.0 b.1 d.0 d.1 c.less.ensures.0 c.less.ensures.1
+    let a = c.less-a.ensures in
+    let b = c.less-b.ensures in
+    let d = c.less-c.ensures in
+    split-is c.args.n c.args.p (omega arith) a.0 a.1 b.0 b.1 d.0 d.1 c.less.ensures.0 c.less.ensures.1
 
 pub split_spec : {M : Type 1} → statement M
 split_spec =

@@ -26,89 +26,66 @@ use Rattle.writer.specs.OpenedLaws.{Naming, decimal-places, name-spelled, variab
 
 variable-requires : tie.Need-variable-requires
 variable-requires c κs =
-    let at_wide = c.before in
-    let at-node = at_wide.before.before in
-    let at-args = at-node.before.before.before.before.before in
-    (at-args.requires.0, subst (λ (n : ℕ). Naming (said_by at-args.args.names.now at-args.args.pen.direct at-args.args.called.now) (suc n)) (sym at_wide.wide.ensures) (variable-named _ _ at-args.requires.1.stands _ at-args.requires.1.fits _ at-node.node-1.given.1), at-args.requires.2)
+    (c.requires.0, subst (λ (n : ℕ). Naming (said_by c.args.names.now c.args.pen.direct c.args.called.now) (suc n)) (sym c.wide.ensures) (variable-named _ _ c.requires.1.stands _ c.requires.1.fits _ c.in-Variable.is), c.requires.2)
 
 decimal-requires : tie.Need-decimal-requires
 decimal-requires c κs =
-    let at-node5 = c.before.before in
-    let pre' = at-node5.before.before.before.before.before.requires in
-    let k = decimal-places _ _ pre'.1.stands _ _ at-node5.node-in-Decimal-1.given.1 in (pre'.0, k.0, k.1)
+    let pre' = c.requires in
+    let k = decimal-places _ _ pre'.1.stands _ _ c.in-Decimal.is in (pre'.0, k.0, k.1)
 
 name-opening-requires : tie.Need-name_opening-requires
 name-opening-requires c κs =
-    let at-wide3 = c.before in
-    let at-node6 = at-wide3.before.before in
-    let at-args = at-node6.before.before.before.before.before in
-    (at-args.requires.0, ap (has_name at-args.args.names.now) at-wide3.wide-in-Name.ensures ∙ name-spelled _ _ at-args.requires.1.stands (said_by at-args.args.names.now at-args.args.pen.direct at-args.args.called.now) at-args.requires.1.fits _ at-node6.node-in-Name-1.given.1)
+    (c.requires.0, ap (has_name c.args.names.now) c.wide-in-Name.ensures ∙ name-spelled _ _ c.requires.1.stands (said_by c.args.names.now c.args.pen.direct c.args.called.now) c.requires.1.fits _ c.in-Name.is)
 
 lambda-opening-requires : tie.Need-enum_told-in-Application
 lambda-opening-requires c κs =
-    let at-wide5 = c.before in
-    let at-wide4 = at-wide5.before in
-    let at-known-told7 = at-wide4.before in
-    let at-node7 = at-known-told7.before in
-    let at-args = at-node7.before.before.before.before.before in
-    let k = lambda-named _ _ at-args.requires.1.stands (said_by at-args.args.names.now at-args.args.pen.direct at-args.args.called.now) at-args.requires.1.fits _ _ at-node7.node-in-Lambda-1.given.1 in (at-args.requires.0, omega (arith, at-wide4.wide-in-Lambda.ensures, at-wide5.wide-in-Lambda-2.ensures, at-known-told7.known_told-in-Lambda-1.given), record { many = omega (arith, k.many, at-wide4.wide-in-Lambda.ensures, at-wide5.wide-in-Lambda-2.ensures); slots = k.slots }, at-args.requires.2)
+    let k = lambda-named _ _ c.requires.1.stands (said_by c.args.names.now c.args.pen.direct c.args.called.now) c.requires.1.fits _ _ c.in-Lambda.is in (c.requires.0, omega (arith, c.wide-in-Lambda.ensures, c.wide-in-Lambda-2.ensures, c.in-Lambda.known_told-in-Lambda-1-own.given), record { many = omega (arith, k.many, c.wide-in-Lambda.ensures, c.wide-in-Lambda-2.ensures); slots = k.slots }, c.requires.2)
 
 returns : tie.Need-shape_of-out-in-Operation
 returns c =
-    let at-variable = c.before.before in
-    let at_wide = at-variable.before.before in
-    let at-node = at_wide.before.before in
-    let args' = at-node.before.before.before.before.before.args in
-    λ x s. left_is (ap (variable_text (name_at args'.names.now) (called_by args'.pen.direct args'.called.now)) at_wide.wide.ensures ∙ opens-variable _ x s (said_by args'.names.now args'.pen.direct args'.called.now) _ _ at-node.node-1.given.1) at-variable.variable.ensures
+    let args' = c.args in
+    λ x s. left_is (ap (variable_text (name_at args'.names.now) (called_by args'.pen.direct args'.called.now)) c.wide.ensures ∙ opens-variable _ x s (said_by args'.names.now args'.pen.direct args'.called.now) _ _ c.in-Variable.is) c.variable.ensures
 
 returns-2 : tie.Need-shape_of-out-in-Integer
 returns-2 c =
-    let at-numbered = c.before.before in
-    let at-wide2 = at-numbered.before.before in
-    λ x s. left_is (ap (λ (n : ℕ). 111 ∷ numeral n) at-wide2.wide-in-Operation.ensures ∙ opens-operation _ x s _ _ _ at-wide2.before.before.node-in-Operation-1.given.1) at-numbered.numbered.ensures
+    λ x s. left_is (ap (λ (n : ℕ). 111 ∷ numeral n) c.wide-in-Operation.ensures ∙ opens-operation _ x s _ _ _ c.in-Operation.is) c.numbered.ensures
 
 returns-3 : tie.Need-shape_of-out-in-Boolean
 returns-3 c =
-    λ x s. left_is (opens-integer _ x s _ _ _ c.before.before.before.before.before.node-in-Integer-1.given.1) c.before.before.integer.ensures
+    λ x s. left_is (opens-integer _ x s _ _ _ c.in-Integer.is) c.integer.ensures
 
 returns-4 : tie.Need-shape_of-out-in-Decimal
 returns-4 c =
-    λ x s. left_is (opens-boolean _ x s _ _ _ c.before.before.before.before.before.node-in-Boolean-1.given.1) c.before.before.boolean.ensures
+    λ x s. left_is (opens-boolean _ x s _ _ _ c.in-Boolean.is) c.boolean.ensures
 
 returns-5 : tie.Need-shape_of-out-in-Name
 returns-5 c =
-    λ x s. left_is (opens-decimal _ x s _ _ _ _ c.before.before.before.before.before.node-in-Decimal-1.given.1) c.before.before.decimal.ensures
+    λ x s. left_is (opens-decimal _ x s _ _ _ _ c.in-Decimal.is) c.decimal.ensures
 
 returns-6 : tie.Need-shape_of-out-in-List
 returns-6 c =
-    let at-name-opening = c.before.before in
-    let at-wide3 = at-name-opening.before.before in
-    let at-node6 = at-wide3.before.before in
-    let args' = at-node6.before.before.before.before.before.args in
-    λ x s. left_is (ap (λ (n : ℕ). opening (said_by args'.names.now args'.pen.direct args'.called.now) args'.inner (name_n n)) at-wide3.wide-in-Name.ensures ∙ opens-name _ x s (said_by args'.names.now args'.pen.direct args'.called.now) _ _ at-node6.node-in-Name-1.given.1) (at-name-opening.name_opening.ensures (called_by args'.pen.direct args'.called.now))
+    let args' = c.args in
+    λ x s. left_is (ap (λ (n : ℕ). opening (said_by args'.names.now args'.pen.direct args'.called.now) args'.inner (name_n n)) c.wide-in-Name.ensures ∙ opens-name _ x s (said_by args'.names.now args'.pen.direct args'.called.now) _ _ c.in-Name.is) (c.name_opening.ensures (called_by args'.pen.direct args'.called.now))
 
 returns-7 : tie.Need-shape_of-out-in-If
 returns-7 c =
-    λ x s. left_is (opens-list _ x s _ _ _ c.before.before.before.before.enum_told-1.given.1) (c.before.before.list_opening.ensures _ _)
+    λ x s. left_is (opens-list _ x s _ _ _ c.in-List.is) (c.list_opening.ensures _ _)
 
 returns-8 : tie.Need-shape_of-out-in-Lambda
 returns-8 c =
-    λ x s. left_is (opens-if _ x s _ _ c.before.before.before.before.before.enum_told-in-If-1.given.1) c.before.before.copy.ensures
+    λ x s. left_is (opens-if _ x s _ _ c.in-If.is) c.copy.ensures
 
 returns-9 : tie.Need-shape_of-out-in-Application
 returns-9 c =
-    let at-lambda-opening = c.before.before in
-    let at-wide5 = at-lambda-opening.before.before in
-    let at-wide4 = at-wide5.before in
-    λ x s. left_is (lambda-same _ _ _ _ _ at-wide4.wide-in-Lambda.ensures at-wide5.wide-in-Lambda-2.ensures ∙ opens-lambda _ x s _ _ _ _ at-wide4.before.before.node-in-Lambda-1.given.1) at-lambda-opening.lambda_opening.ensures
+    λ x s. left_is (lambda-same _ _ _ _ _ c.wide-in-Lambda.ensures c.wide-in-Lambda-2.ensures ∙ opens-lambda _ x s _ _ _ _ c.in-Lambda.is) c.lambda_opening.ensures
 
 returns-10 : tie.Need-returns-in-None
 returns-10 c =
-    λ x s. left_is (opens-application _ x s _ _ _ c.before.before.before.before.enum_told-in-Application-1.given.1) c.before.before.byte.ensures
+    λ x s. left_is (opens-application _ x s _ _ _ c.in-Application.is) c.byte.ensures
 
 returns-11 : tie.Need-returns-11
 returns-11 c =
-    λ x s. no_none _ x s c.enum_told-in-None-1.given.1
+    λ x s. no_none _ x s c.enum-told4.given.1
 
 pub begin_spec : {M : Type 1} → statement M
 begin_spec =

@@ -10,11 +10,11 @@ use Rattle.writer.specs.PiecesLaws.{boolean-false, boolean-true}
 
 returns : tie.Need-copy-requires-2
 returns c =
-    left_is (boolean-false _ c.before.before.before.before.before.if-w-eq0.true) c.before.before.copy.ensures
+    left_is (boolean-false _ c.if-w-eq0.true) c.copy.ensures
 
 returns-2 : tie.Need-returns-2
 returns-2 c =
-    left_is (boolean-true _ c.before.before.before.before.before.if-w-eq0.false) c.before.before.copy-2.ensures
+    left_is (boolean-true _ c.before.before.before.before.before.if1.false) c.before.before.copy2.ensures
 
 pub boolean_spec : {M : Type 1} → statement M
 boolean_spec =

@@ -12,47 +12,47 @@ use Rattle.writer.specs.OpenedLaws.{is-integer, is-boolean, is-decimal, closes-v
 
 returns : tie.Need-returns-in-Variable
 returns c =
-    λ x s. left_is (closes-variable _ x s _ _ c.enum_told-1.given.1) (place-holds (Left _ _ _ _ _) (omega arith) (left-none c.before.before.before.args.ink _ c.before.before.before.args.out.now c.before.before.before.requires))
+    λ x s. left_is (closes-variable _ x s _ _ c.in-Variable.is) (place-holds (Left _ _ _ _ _) (omega arith) (left-none c.args.ink _ c.args.out.now c.requires))
 
 returns-2 : tie.Need-returns-in-Operation
 returns-2 c =
-    λ x s. left_is (closes-operation _ x s _ _ c.enum_told-in-Operation-1.given.1) (place-holds (Left _ _ _ _ _) (omega arith) (left-none c.before.before.before.args.ink _ c.before.before.before.args.out.now c.before.before.before.requires))
+    λ x s. left_is (closes-operation _ x s _ _ c.in-Operation.is) (place-holds (Left _ _ _ _ _) (omega arith) (left-none c.args.ink _ c.args.out.now c.requires))
 
 returns-3 : tie.Need-returns-in-Integer
 returns-3 c =
-    λ x s. left_is (closes-constant _ x s _ _ (is-integer _ x s _ c.enum_told-in-Integer-1.given.1)) (place-holds (Left _ _ _ _ _) (omega arith) (left-none c.before.before.before.args.ink _ c.before.before.before.args.out.now c.before.before.before.requires))
+    λ x s. left_is (closes-constant _ x s _ _ (is-integer _ x s _ c.in-Integer.is)) (place-holds (Left _ _ _ _ _) (omega arith) (left-none c.args.ink _ c.args.out.now c.requires))
 
 returns-4 : tie.Need-returns-in-Boolean
 returns-4 c =
-    λ x s. left_is (closes-constant _ x s _ _ (is-boolean _ x s _ c.enum_told-in-Boolean-1.given.1)) (place-holds (Left _ _ _ _ _) (omega arith) (left-none c.before.before.before.args.ink _ c.before.before.before.args.out.now c.before.before.before.requires))
+    λ x s. left_is (closes-constant _ x s _ _ (is-boolean _ x s _ c.in-Boolean.is)) (place-holds (Left _ _ _ _ _) (omega arith) (left-none c.args.ink _ c.args.out.now c.requires))
 
 returns-5 : tie.Need-returns-in-Decimal
 returns-5 c =
-    λ x s. left_is (closes-constant _ x s _ _ (is-decimal _ x s _ _ c.enum_told-in-Decimal-1.given.1)) (place-holds (Left _ _ _ _ _) (omega arith) (left-none c.before.before.before.args.ink _ c.before.before.before.args.out.now c.before.before.before.requires))
+    λ x s. left_is (closes-constant _ x s _ _ (is-decimal _ x s _ _ c.in-Decimal.is)) (place-holds (Left _ _ _ _ _) (omega arith) (left-none c.args.ink _ c.args.out.now c.requires))
 
 returns-6 : tie.Need-returns-in-Name
 returns-6 c =
-    λ x s. left_is (closes-name _ x s _ _ c.enum_told-in-Name-1.given.1) (place-holds (Left _ _ _ _ _) (omega arith) (left-none c.before.before.before.args.ink _ c.before.before.before.args.out.now c.before.before.before.requires))
+    λ x s. left_is (closes-name _ x s _ _ c.in-Name.is) (place-holds (Left _ _ _ _ _) (omega arith) (left-none c.args.ink _ c.args.out.now c.requires))
 
 returns-7 : tie.Need-returns-in-List
 returns-7 c =
-    λ x s. left_is (closes-list _ x s _ _ c.before.before.before.before.enum_told-in-List-1.given.1) (c.before.before.list_closing.ensures _)
+    λ x s. left_is (closes-list _ x s _ _ c.in-List.is) (c.list_closing.ensures _)
 
 returns-8 : tie.Need-returns-in-If
 returns-8 c =
-    λ x s. left_is (closes_if _ x s _ c.before.before.before.before.enum_told-in-If-1.given.1) c.before.before.byte.ensures
+    λ x s. left_is (closes_if _ x s _ c.in-If.is) c.byte.ensures
 
 returns-9 : tie.Need-returns-in-Lambda
 returns-9 c =
-    λ x s. left_is (closes-lambda _ x s _ _ _ c.before.before.before.before.enum_told-in-Lambda-1.given.1) c.before.before.byte-in-Lambda.ensures
+    λ x s. left_is (closes-lambda _ x s _ _ _ c.in-Lambda.is) c.byte-in-Lambda.ensures
 
 returns-10 : tie.Need-returns-in-Application
 returns-10 c =
-    λ x s. left_is (closes-application _ x s _ _ c.before.before.before.before.enum_told-in-Application-1.given.1) c.before.before.byte-in-Application.ensures
+    λ x s. left_is (closes-application _ x s _ _ c.in-Application.is) c.byte-in-Application.ensures
 
 returns-11 : tie.Need-returns-in-None
 returns-11 c =
-    λ x s. no_none _ x s c.enum_told-in-None-1.given.1
+    λ x s. no_none _ x s c.in-None.is
 
 pub finish_spec : {M : Type 1} → statement M
 finish_spec =

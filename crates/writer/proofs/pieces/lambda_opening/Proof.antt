@@ -11,42 +11,38 @@ use Rattle.writer.specs.PiecesLaws.{lambda-bytes}
 
 copy-requires : tie.Need-shape_of-out-then-a
 copy-requires c κs =
-    c.before.before.before.before.before.requires.0
+    c.requires.0
 
 same_length : tie.Need-returns-then-a
 same_length c =
-    c.before.before.before.copy-a.auto.1.0
+    c.copy-a.auto.out
 
 returns : tie.Need-formals-b-requires
 returns c =
-    left_is (sym (lambda-bytes _ _ _)) (place-full c.before.before.before.copy-a.ensures _ c.if-a.true)
+    left_is (sym (lambda-bytes _ _ _)) (place-full c.copy-a.ensures _ c.if-a.true)
 
 formals-requires : tie.Need-shape_of-out-then-b
 formals-requires c κs =
-    let at-if1 = c.before in
-    let at_copy = at-if1.before.before.before in
-    let pre' = at_copy.before.before.before.before.before.before.requires in
-    (place-room at_copy.copy-a.ensures at-if1.if-a.false, pre'.1, pre'.2, pre'.3)
+    let pre' = c.requires in
+    (place-room c.copy-a.ensures c.if-a.false, pre'.1, pre'.2, pre'.3)
 
 same-length-2 : tie.Need-returns-then-b
 same-length-2 c =
-    c.before.before.before.formals-b.auto.1.1.1.0 ∙ c.before.before.before.before.before.before.before.before.copy-a.auto.1.0
+    c.formals-b.auto.out ∙ c.copy-a.auto.out
 
 returns-2 : tie.Need-copy-requires
 returns-2 c =
-    let at-formals = c.before.before.before in
-    let at-if1 = at-formals.before.before in
-    left_is (sym (lambda-bytes _ _ _)) (place-then at-if1.before.before.before.copy-a.ensures at-if1.if-a.false (place-full at-formals.formals-b.ensures _ c.if-b.true))
+    left_is (sym (lambda-bytes _ _ _)) (place-then c.copy-a.ensures c.if-a.false (place-full c.formals-b.ensures _ c.if-b.true))
 
 copy-requires-2 : tie.Need-returns
 copy-requires-2 c κs =
-    place-room c.before.before.before.before.before.formals-b.ensures c.before.before.if-b.false
+    place-room c.formals-b.ensures c.if-b.false
 
 same-length-3 : tie.Need-same-length-3
 same-length-3 c =
     let at-copy2 = c.before.before in
     let at-formals = at-copy2.before.before.before.before.before.before in
-    at-copy2.copy.auto.1.0 ∙ at-formals.formals-b.auto.1.1.1.0 ∙ at-formals.before.before.before.before.before.copy-a.auto.1.0
+    at-copy2.copy2.auto.1.0 ∙ at-formals.formals.auto.1.1.1.0 ∙ at-formals.before.before.before.before.before.copy.auto.1.0
 
 returns-3 : tie.Need-returns-3
 returns-3 c =
@@ -54,7 +50,7 @@ returns-3 c =
     let at-if2 = at-copy2.before.before.before in
     let at-formals = at-if2.before.before.before in
     let at-if1 = at-formals.before.before in
-    left_is (sym (lambda-bytes _ _ _)) (place-then at-if1.before.before.before.copy-a.ensures at-if1.if-a.false (place-then at-formals.formals-b.ensures at-if2.if-b.false at-copy2.copy.ensures))
+    left_is (sym (lambda-bytes _ _ _)) (place-then at-if1.before.before.before.copy.ensures at-if1.if1.false (place-then at-formals.formals.ensures at-if2.if2.false at-copy2.copy2.ensures))
 
 pub lambda_opening_spec : {M : Type 1} → statement M
 lambda_opening_spec =

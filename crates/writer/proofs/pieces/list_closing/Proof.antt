@@ -11,11 +11,11 @@ use Rattle.writer.specs.PiecesLaws.{inner-closes, quoted-closes}
 
 returns : tie.Need-returns-then-inner
 returns c =
-    λ n. left_is (inner-closes _ n c.before.before.before.before.if-inner.true) c.before.before.byte.ensures
+    λ n. left_is (inner-closes _ n c.if-inner.true) c.byte.ensures
 
 returns-2 : tie.Need-returns-2
 returns-2 c =
-    λ n. left_is (quoted-closes _ n c.before.before.before.before.before.if-inner.false) c.before.before.copy.ensures
+    λ n. left_is (quoted-closes _ n c.before.before.before.before.before.if1.false) c.before.before.copy.ensures
 
 pub list_closing_spec : {M : Type 1} → statement M
 list_closing_spec =

@@ -11,11 +11,11 @@ use Rattle.writer.specs.PiecesLaws.{list-inner, list-quoted}
 
 returns : tie.Need-returns-then-inner
 returns c =
-    λ s n. left_is (sym (list-inner s _ n c.before.before.before.before.if-inner.true)) c.before.before.byte.ensures
+    λ s n. left_is (sym (list-inner s _ n c.if-inner.true)) c.byte.ensures
 
 returns-2 : tie.Need-returns-2
 returns-2 c =
-    λ s n. left_is (sym (list-quoted s _ n c.before.before.before.before.before.if-inner.false)) c.before.before.copy.ensures
+    λ s n. left_is (sym (list-quoted s _ n c.before.before.before.before.before.if1.false)) c.before.before.copy.ensures
 
 pub list_opening_spec : {M : Type 1} → statement M
 list_opening_spec =

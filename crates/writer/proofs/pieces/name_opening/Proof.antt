@@ -13,54 +13,47 @@ use Rattle.writer.specs.Called.{said}
 
 name-requires : tie.Need-name-requires
 name-requires c κs =
-    (c.before.before.before.before.requires.0, c.before.before.before.before.requires.1)
+    (c.requires.0, c.requires.1)
 
 same_length : tie.Need-shape_of-out-then-inner
 same_length c =
-    c.before.before.name.auto.1.1.0
+    c.name.auto.out
 
 returns : tie.Need-returns-then-inner
 returns c =
-    λ v. left_is (sym (name-inner (said _ v) _ _ c.before.before.before.before.if-inner.true)) c.before.before.name.ensures
+    λ v. left_is (sym (name-inner (said _ v) _ _ c.if-inner.true)) c.name.ensures
 
 copy-requires : tie.Need-shape_of-out-then-a
 copy-requires c κs =
-    c.before.before.before.before.before.requires.0
+    c.requires.0
 
 same-length-2 : tie.Need-returns-then-a
 same-length-2 c =
-    c.before.before.before.copy-a.auto.1.0
+    c.copy-a.auto.out
 
 returns-2 : tie.Need-name-b-requires
 returns-2 c =
-    λ v. left_is (sym (name-quoted (said _ v) _ _ c.before.before.before.before.before.before.if-inner.false)) (place-full c.before.before.before.copy-a.ensures _ c.if-a.true)
+    λ v. left_is (sym (name-quoted (said _ v) _ _ c.if-inner.false)) (place-full c.copy-a.ensures _ c.if-a.true)
 
 name-requires-2 : tie.Need-shape_of-out-then-b
 name-requires-2 c κs =
-    let at-if2 = c.before in
-    let at_copy = at-if2.before.before.before in
-    (place-room at_copy.copy-a.ensures at-if2.if-a.false, at_copy.before.before.before.before.before.before.requires.1)
+    (place-room c.copy-a.ensures c.if-a.false, c.requires.1)
 
 same-length-3 : tie.Need-returns-then-b
 same-length-3 c =
-    c.before.before.before.name-b.auto.1.1.0 ∙ c.before.before.before.before.before.before.before.before.copy-a.auto.1.0
+    c.name-b.auto.out ∙ c.copy-a.auto.out
 
 returns-3 : tie.Need-byte-requires
 returns-3 c =
-    let at-name2 = c.before.before.before in
-    let at-if2 = at-name2.before.before in
-    let at_copy = at-if2.before.before.before in
-    λ v. left_is (sym (name-quoted (said _ v) _ _ at_copy.before.before.before.if-inner.false)) (place-then at_copy.copy-a.ensures at-if2.if-a.false (place-full at-name2.name-b.ensures _ c.if-b.true))
+    λ v. left_is (sym (name-quoted (said _ v) _ _ c.if-inner.false)) (place-then c.copy-a.ensures c.if-a.false (place-full c.name-b.ensures _ c.if-b.true))
 
 byte-requires : tie.Need-shape_of-out
 byte-requires c κs =
-    place-room c.before.before.before.before.name-b.ensures c.before.if-b.false
+    place-room c.name-b.ensures c.if-b.false
 
 same-length-4 : tie.Need-returns
 same-length-4 c =
-    let at_byte = c.before.before in
-    let at-name2 = at_byte.before.before.before.before.before in
-    at_byte.byte.auto.1.0 ∙ at-name2.name-b.auto.1.1.0 ∙ at-name2.before.before.before.before.before.copy-a.auto.1.0
+    c.byte.auto.out ∙ c.name-b.auto.out ∙ c.copy-a.auto.out
 
 returns-4 : tie.Need-returns-4
 returns-4 c =
@@ -69,7 +62,7 @@ returns-4 c =
     let at-name2 = at-if3.before.before.before in
     let at-if2 = at-name2.before.before in
     let at_copy = at-if2.before.before.before in
-    λ v. left_is (sym (name-quoted (said _ v) _ _ at_copy.before.before.before.if-inner.false)) (place-then at_copy.copy-a.ensures at-if2.if-a.false (place-then at-name2.name-b.ensures at-if3.if-b.false at_byte.byte.ensures))
+    λ v. left_is (sym (name-quoted (said _ v) _ _ at_copy.before.before.before.if1.false)) (place-then at_copy.copy.ensures at-if2.if2.false (place-then at-name2.name2.ensures at-if3.if3.false at_byte.byte.ensures))
 
 pub name_opening_spec : {M : Type 1} → statement M
 name_opening_spec =

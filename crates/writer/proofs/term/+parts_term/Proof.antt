@@ -58,182 +58,110 @@ parts-μ-loop words names out₀ at called pen quoted from₀ left₀ wanted₀ 
 
 parts-loop-holds : (t : ℕ) → parts-lts.Need-loop-left-init (P t) (parts_at t) parts.Post parts-Inv-loop parts-μ-loop
 parts-loop-holds t c =
-    let at-args = c.before.before.before.before in
-    going_start _ _ _ at-args.args.words.now _ _ at-args.requires.1.1 at-args.args.shape refl at-args.requires.1.2 at-args.requires.1.0
+    going_start _ _ _ c.args.words.now _ _ c.requires.1.1 c.args.shape refl c.requires.1.2 c.requires.1.0
 
 parts-gap-requires : (t : ℕ) → parts-lts.Need-gap-start-requires (P t) (parts_at t) parts.Post parts-Inv-loop parts-μ-loop
 parts-gap-requires t c κs =
-    left-room c.before.before.loop-left.invariant.laid _ refl
+    left-room c.loop-left.invariant.laid _ refl
 
 parts-same-length : (t : ℕ) → parts-lts.Need-shape_of-out-then-start (P t) (parts_at t) parts.Post parts-Inv-loop parts-μ-loop
 parts-same-length t c =
-    c.before.before.before.gap-start.auto.1.0 ∙ left-length c.before.before.before.before.before.before.loop-left.invariant.laid _ refl
+    c.gap-start.auto.out ∙ left-length c.loop-left.invariant.laid _ refl
 
 parts-returns : (t : ℕ) → parts-lts.Need-returns-then-start (P t) (parts_at t) parts.Post parts-Inv-loop parts-μ-loop
 parts-returns t c =
-    let at_gap = c.before.before.before in
-    let at-loop = at_gap.before.before.before in
-    let args' = at-loop.before.before.before.before.before.args in
-    (for-any _ (row_text (said_by args'.names.now args'.pen.direct args'.called.now)) _ _ args'.words.now at-loop.loop-left.invariant.whole _ _ _ _ (row-stops _ _ _ args'.words.now _ _ _ _ _ _ _ at-loop.loop-left.invariant _ (gap-full _ _ _ args'.words.now _ _ _ _ _ _ _ at-loop.loop-left.invariant (omega arith) _ _ at_gap.gap-start.ensures (put_full _ c.if-start.true))))
+    let args' = c.args in
+    (for-any _ (row_text (said_by args'.names.now args'.pen.direct args'.called.now)) _ _ args'.words.now c.loop-left.invariant.whole _ _ _ _ (row-stops _ _ _ args'.words.now _ _ _ _ _ _ _ c.loop-left.invariant _ (gap-full _ _ _ args'.words.now _ _ _ _ _ _ _ c.loop-left.invariant (omega arith) _ _ c.gap-start.ensures (put_full _ c.if-start.true))))
 
 parts-mul-term : (t : ℕ) → parts-lts.Need-offset_bounds-words-from (P t) (parts_at t) parts.Post parts-Inv-loop parts-μ-loop
 parts-mul-term t c =
-    let at-loop = c.before.before.before.before.before.before in
-    let at-args = at-loop.before.before.before.before.before in
-    let l = going-inside _ _ _ at-args.args.words.now _ _ _ _ _ _ _ at-loop.loop-left.invariant in omega (arith, at-args.well_formed.0.1)
+    let l = going-inside _ _ _ c.args.words.now _ _ _ _ _ _ _ c.loop-left.invariant in omega (arith, c.well_formed.0.1)
 
 parts-sub-term : (t : ℕ) → parts-lts.Need-slice_bounds-term-count (P t) (parts_at t) parts.Post parts-Inv-loop parts-μ-loop
 parts-sub-term t c =
-    let at-loop = c.before.before.before.before.before.before in
-    let l = going-inside _ _ _ at-loop.before.before.before.before.before.args.words.now _ _ _ _ _ _ _ at-loop.loop-left.invariant in omega arith
+    let l = going-inside _ _ _ c.args.words.now _ _ _ _ _ _ _ c.loop-left.invariant in omega arith
 
 parts-part-term-start : (t : ℕ) → parts-lts.Need-slice_bounds-term-start (P t) (parts_at t) parts.Post parts-Inv-loop parts-μ-loop
 parts-part-term-start t c =
-    let at-loop = c.before.before.before.before.before.before in
-    let l = going-inside _ _ _ at-loop.before.before.before.before.before.args.words.now _ _ _ _ _ _ _ at-loop.loop-left.invariant in omega arith
+    let l = going-inside _ _ _ c.args.words.now _ _ _ _ _ _ _ c.loop-left.invariant in omega arith
 
 parts-term-requires : (t : ℕ) → parts-lts.Need-term-requires (P t) (parts_at t) parts.Post parts-Inv-loop parts-μ-loop
 parts-term-requires t c κs =
-    let at-if1 = c.before.before in
-    let at_gap = at-if1.before.before.before in
-    let at-loop = at_gap.before.before.before in
-    let at-args = at-loop.before.before.before.before.before in
-    (omega (arith, going-shorter _ _ _ at-args.args.words.now _ _ _ _ _ _ _ at-loop.loop-left.invariant, at-args.requires.0), (place-room at_gap.gap-start.ensures at-if1.if-start.false, going_next _ _ _ at-args.args.words.now _ _ _ _ _ _ _ at-loop.loop-left.invariant (omega arith), at-args.requires.1.3))
+    (omega (arith, going-shorter _ _ _ c.args.words.now _ _ _ _ _ _ _ c.loop-left.invariant, c.requires.0), (place-room c.gap-start.ensures c.if-start.false, going_next _ _ _ c.args.words.now _ _ _ _ _ _ _ c.loop-left.invariant (omega arith), c.requires.1.3))
 
 parts-same-length-2 : (t : ℕ) → parts-lts.Need-shape_of-out-in_default (P t) (parts_at t) parts.Post parts-Inv-loop parts-μ-loop
 parts-same-length-2 t c =
-    let at-term = c.before.before.before.before in
-    let at_gap = at-term.before.before.before.before.before.before in
-    at-term.term.auto.1.1.0 ∙ at_gap.gap-start.auto.1.0 ∙ left-length at_gap.before.before.before.loop-left.invariant.laid _ refl
+    c.term.auto.out ∙ c.gap-start.auto.out ∙ left-length c.loop-left.invariant.laid _ refl
 
 parts-returns-2 : (t : ℕ) → parts-lts.Need-returns-in_default (P t) (parts_at t) parts.Post parts-Inv-loop parts-μ-loop
 parts-returns-2 t c =
-    let at-term = c.before.before.before.before in
-    let at-if1 = at-term.before.before.before in
-    let at_gap = at-if1.before.before.before in
-    let at-loop = at_gap.before.before.before in
-    let args' = at-loop.before.before.before.before.before.args in
-    (for-any _ (row_text (said_by args'.names.now args'.pen.direct args'.called.now)) _ _ args'.words.now at-loop.loop-left.invariant.whole _ _ _ _ (row-stops _ _ _ args'.words.now _ _ _ _ _ _ _ at-loop.loop-left.invariant _ (part-full _ _ _ args'.words.now _ _ _ _ _ _ _ at-loop.loop-left.invariant (omega arith) _ _ at_gap.gap-start.ensures _ (put-done _ at-if1.if-start.false) _ _ at-term.term.ensures c.enum_told-1.given.1)))
+    let args' = c.args in
+    (for-any _ (row_text (said_by args'.names.now args'.pen.direct args'.called.now)) _ _ args'.words.now c.loop-left.invariant.whole _ _ _ _ (row-stops _ _ _ args'.words.now _ _ _ _ _ _ _ c.loop-left.invariant _ (part-full _ _ _ args'.words.now _ _ _ _ _ _ _ c.loop-left.invariant (omega arith) _ _ c.gap-start.ensures _ (put-done _ c.if-start.false) _ _ c.term.ensures c.in_default.is)))
 
 parts-add-from : (t : ℕ) → parts-lts.Need-overflow_add-from (P t) (parts_at t) parts.Post parts-Inv-loop parts-μ-loop
 parts-add-from t c =
-    let at-used = c.before in
-    let at-term = at-used.before.before.before.before in
-    let at-if1 = at-term.before.before.before in
-    let at_gap = at-if1.before.before.before in
-    let at-loop = at_gap.before.before.before in
-    let at-args = at-loop.before.before.before.before.before in
-    omega (arith, at-args.well_formed.0.1, part-inside _ _ _ at-args.args.words.now _ _ _ _ _ _ _ at-loop.loop-left.invariant (omega arith) _ _ at_gap.gap-start.ensures _ (put-done _ at-if1.if-start.false) _ _ at-term.term.ensures _ _ at-used.used-1.given.1)
+    omega (arith, c.well_formed.0.1, part-inside _ _ _ c.args.words.now _ _ _ _ _ _ _ c.loop-left.invariant (omega arith) _ _ c.gap-start.ensures _ (put-done _ c.if-start.false) _ _ c.term.ensures _ _ c.in-Done.is)
 
 parts-loop-again : (t : ℕ) → parts-lts.Need-loop-left-preserved (P t) (parts_at t) parts.Post parts-Inv-loop parts-μ-loop
 parts-loop-again t c =
-    let at-used = c.before in
-    let at-term = at-used.before.before.before.before in
-    let at-if1 = at-term.before.before.before in
-    let at_gap = at-if1.before.before.before in
-    let at-loop = at_gap.before.before.before in
-    going_on _ _ _ at-loop.before.before.before.before.before.args.words.now _ _ _ _ _ _ _ at-loop.loop-left.invariant (omega arith) _ _ at_gap.gap-start.ensures _ (put-done _ at-if1.if-start.false) _ _ at-term.term.ensures _ _ at-used.used-1.given.1
+    going_on _ _ _ c.args.words.now _ _ _ _ _ _ _ c.loop-left.invariant (omega arith) _ _ c.gap-start.ensures _ (put-done _ c.if-start.false) _ _ c.term.ensures _ _ c.in-Done.is
 
 parts-same-length-3 : (t : ℕ) → parts-lts.Need-shape_of-out (P t) (parts_at t) parts.Post parts-Inv-loop parts-μ-loop
 parts-same-length-3 t c =
-    left-length c.before.loop-left.invariant.laid _ refl
+    left-length c.loop-left.invariant.laid _ refl
 
 parts-returns-3 : (t : ℕ) → parts-lts.Need-returns (P t) (parts_at t) parts.Post parts-Inv-loop parts-μ-loop
 parts-returns-3 t c =
-    let at-loop = c.before in
-    let args' = at-loop.before.before.before.before.before.args in
-    (for-any _ (row_text (said_by args'.names.now args'.pen.direct args'.called.now)) _ _ args'.words.now at-loop.loop-left.invariant.whole _ _ _ _ (row_walked _ _ _ args'.words.now _ _ _ _ _ _ _ at-loop.loop-left.invariant (omega arith)))
+    let args' = c.args in
+    (for-any _ (row_text (said_by args'.names.now args'.pen.direct args'.called.now)) _ _ args'.words.now c.loop-left.invariant.whole _ _ _ _ (row_walked _ _ _ args'.words.now _ _ _ _ _ _ _ c.loop-left.invariant (omega arith)))
 
 term-begin-requires : (t : ℕ) → term-lts.Need-begin-begun-requires (T t) (term-at t) term.Post
 term-begin-requires t c κs =
-    let at-opened = c.before in
-    let at-args = at-opened.before.before.before.before.before in
-    (at-args.requires.1.0, begins-opened _ _ at-args.args.words.now at-args.requires.1.1 _ at-opened.opened-node.ensures, at-args.requires.1.2)
+    (c.requires.1.0, begins-opened _ _ c.args.words.now c.requires.1.1 _ c.opened-node.ensures, c.requires.1.2)
 
 term-same-length : (t : ℕ) → term-lts.Need-shape_of-out-then-begun (T t) (term-at t) term.Post
 term-same-length t c =
-    c.before.before.before.begin-begun.auto.1.1.0
+    c.begin-begun.auto.out
 
 term-returns : (t : ℕ) → term-lts.Need-returns-then-begun (T t) (term-at t) term.Post
 term-returns t c =
-    let at-begin = c.before.before.before in
-    let at-opened = at-begin.before.before in
-    let at-args = at-opened.before.before.before.before.before in
-    let b = at-args.requires.1.1 in let o = at-opened.opened-node.ensures in let x = begins-stands _ _ at-args.args.words.now b _ o in let l = at-begin.begin-begun.ensures _ x in for-any _ (text_in (said_by at-args.args.names.now at-args.args.pen.direct at-args.args.called.now) at-args.args.inner) _ _ at-args.args.words.now b _ _ _ _ (open-stops _ _ _ at-args.args.words.now b _ _ _ _ l (put_full _ c.if-begun.true))
+    let b = c.requires.1.1 in let o = c.opened-node.ensures in let x = begins-stands _ _ c.args.words.now b _ o in let l = c.begin-begun.ensures _ x in for-any _ (text_in (said_by c.args.names.now c.args.pen.direct c.args.called.now) c.args.inner) _ _ c.args.words.now b _ _ _ _ (open-stops _ _ _ c.args.words.now b _ _ _ _ l (put_full _ c.if-begun.true))
 
 term-close-requires : (t : ℕ) → term-lts.Need-close-requires (T t) (term-at t) term.Post
 term-close-requires t c κs =
-    let at-if1 = c.before.before.before.before in
-    let at-begin = at-if1.before.before.before in
-    let at-opened = at-begin.before.before in
-    let at-args = at-opened.before.before.before.before.before in
-    let b = at-args.requires.1.1 in let o = at-opened.opened-node.ensures in let x = begins-stands _ _ at-args.args.words.now b _ o in let l = at-begin.begin-begun.ensures _ x in place-room l at-if1.if-begun.false
+    let b = c.requires.1.1 in let o = c.opened-node.ensures in let x = begins-stands _ _ c.args.words.now b _ o in let l = c.begin-begun.ensures _ x in place-room l c.if-begun.false
 
 term-same-length-2 : (t : ℕ) → term-lts.Need-shape_of-out-then-shape-eq0 (T t) (term-at t) term.Post
 term-same-length-2 t c =
-    let at-close = c.before.before in
-    at-close.close.auto.1.1.0 ∙ at-close.before.before.before.before.before.before.before.before.begin-begun.auto.1.1.0
+    c.close.auto.out ∙ c.begin-begun.auto.out
 
 term-returns-2 : (t : ℕ) → term-lts.Need-returns-then-shape-eq0 (T t) (term-at t) term.Post
 term-returns-2 t c =
-    let at-close = c.before.before in
-    let at-if2 = at-close.before.before in
-    let at-shape-of = at-if2.before.before in
-    let at-if1 = at-shape-of.before in
-    let at-begin = at-if1.before.before.before in
-    let at-opened = at-begin.before.before in
-    let at-args = at-opened.before.before.before.before.before in
-    let b = at-args.requires.1.1 in let o = at-opened.opened-node.ensures in let x = begins-stands _ _ at-args.args.words.now b _ o in let l = at-begin.begin-begun.ensures _ x in for-any _ (text_in (said_by at-args.args.names.now at-args.args.pen.direct at-args.args.called.now) at-args.args.inner) _ _ at-args.args.words.now b _ _ _ _ (alone-walked _ _ _ at-args.args.words.now b _ _ _ _ l _ (put-done _ at-if1.if-begun.false) at-shape-of.shape_of-shape.result (begins-shaped _ _ at-args.args.words.now b _ o _ at-shape-of.shape_of-shape.ensures) at-if2.if-shape-eq0.true (place-room l at-if1.if-begun.false) _ _ (at-close.close.ensures _ x))
+    let b = c.requires.1.1 in let o = c.opened-node.ensures in let x = begins-stands _ _ c.args.words.now b _ o in let l = c.begin-begun.ensures _ x in for-any _ (text_in (said_by c.args.names.now c.args.pen.direct c.args.called.now) c.args.inner) _ _ c.args.words.now b _ _ _ _ (alone-walked _ _ _ c.args.words.now b _ _ _ _ l _ (put-done _ c.if-begun.false) c.shape_of-shape.result (begins-shaped _ _ c.args.words.now b _ o _ c.shape_of-shape.ensures) c.if-shape-eq0.true (place-room l c.if-begun.false) _ _ (c.close.ensures _ x))
 
 term-parts-requires : (t : ℕ) → term-lts.Need-parts-requires (T t) (term-at t) term.Post
 term-parts-requires t c κs =
-    let at-shape-of = c.before.before.before in
-    let at-if1 = at-shape-of.before in
-    let at-begin = at-if1.before.before.before in
-    let at-opened = at-begin.before.before in
-    let at-args = at-opened.before.before.before.before.before in
-    let b = at-args.requires.1.1 in let o = at-opened.opened-node.ensures in let x = begins-stands _ _ at-args.args.words.now b _ o in let l = at-begin.begin-begun.ensures _ x in (omega (arith, at-args.requires.0), (place-room l at-if1.if-begun.false, begins-loose _ _ at-args.args.words.now b, begins-shaped _ _ at-args.args.words.now b _ o _ at-shape-of.shape_of-shape.ensures, at-args.requires.1.2))
+    let b = c.requires.1.1 in let o = c.opened-node.ensures in let x = begins-stands _ _ c.args.words.now b _ o in let l = c.begin-begun.ensures _ x in (omega (arith, c.requires.0), (place-room l c.if-begun.false, begins-loose _ _ c.args.words.now b, begins-shaped _ _ c.args.words.now b _ o _ c.shape_of-shape.ensures, c.requires.1.2))
 
 term-same-length-3 : (t : ℕ) → term-lts.Need-shape_of-out-in_default (T t) (term-at t) term.Post
 term-same-length-3 t c =
-    let at-parts = c.before.before.before.before in
-    at-parts.parts.auto.1.1.1.0 ∙ at-parts.before.before.before.before.before.before.before.before.begin-begun.auto.1.1.0
+    c.parts.auto.out ∙ c.begin-begun.auto.out
 
 term-returns-3 : (t : ℕ) → term-lts.Need-returns-in_default (T t) (term-at t) term.Post
 term-returns-3 t c =
-    let at-parts = c.before.before.before.before in
-    let at-if1 = at-parts.before.before.before.before.before in
-    let at-begin = at-if1.before.before.before in
-    let at-opened = at-begin.before.before in
-    let at-args = at-opened.before.before.before.before.before in
-    let b = at-args.requires.1.1 in let o = at-opened.opened-node.ensures in let x = begins-stands _ _ at-args.args.words.now b _ o in let l = at-begin.begin-begun.ensures _ x in for-any _ (text_in (said_by at-args.args.names.now at-args.args.pen.direct at-args.args.called.now) at-args.args.inner) _ _ at-args.args.words.now b _ _ _ _ (parts-stop _ _ _ at-args.args.words.now b _ _ _ _ l _ (put-done _ at-if1.if-begun.false) _ _ at-parts.parts.ensures c.enum_told-1.given.1)
+    let b = c.requires.1.1 in let o = c.opened-node.ensures in let x = begins-stands _ _ c.args.words.now b _ o in let l = c.begin-begun.ensures _ x in for-any _ (text_in (said_by c.args.names.now c.args.pen.direct c.args.called.now) c.args.inner) _ _ c.args.words.now b _ _ _ _ (parts-stop _ _ _ c.args.words.now b _ _ _ _ l _ (put-done _ c.if-begun.false) _ _ c.parts.ensures c.in_default.is)
 
 term-close-requires-2 : (t : ℕ) → term-lts.Need-close-requires-2 (T t) (term-at t) term.Post
 term-close-requires-2 t c κs =
-    let at-used = c.before.before in
-    let at-parts = at-used.before.before.before.before in
-    let at-if1 = at-parts.before.before.before.before.before in
-    let at-begin = at-if1.before.before.before in
-    let at-opened = at-begin.before.before in
-    let at-args = at-opened.before.before.before.before.before in
-    let b = at-args.requires.1.1 in let o = at-opened.opened-node.ensures in let x = begins-stands _ _ at-args.args.words.now b _ o in let l = at-begin.begin-begun.ensures _ x in parts-room _ _ _ at-args.args.words.now b _ _ _ _ l _ (put-done _ at-if1.if-begun.false) _ _ at-parts.parts.ensures _ _ at-used.used-1.given.1
+    let b = c.requires.1.1 in let o = c.opened-node.ensures in let x = begins-stands _ _ c.args.words.now b _ o in let l = c.begin-begun.ensures _ x in parts-room _ _ _ c.args.words.now b _ _ _ _ l _ (put-done _ c.if-begun.false) _ _ c.parts.ensures _ _ c.in-Done.is
 
 term-same-length-4 : (t : ℕ) → term-lts.Need-shape_of-out (T t) (term-at t) term.Post
 term-same-length-4 t c =
-    let at-close2 = c.before.before in
-    let at-parts = at-close2.before.before.before.before.before.before.before in
-    at-close2.close-2.auto.1.1.0 ∙ at-parts.parts.auto.1.1.1.0 ∙ at-parts.before.before.before.before.before.before.before.before.begin-begun.auto.1.1.0
+    c.close-2.auto.out ∙ c.parts.auto.out ∙ c.begin-begun.auto.out
 
 term-returns-4 : (t : ℕ) → term-lts.Need-returns (T t) (term-at t) term.Post
 term-returns-4 t c =
-    let at-close2 = c.before.before in
-    let at-used = at-close2.before.before.before in
-    let at-parts = at-used.before.before.before.before in
-    let at-if1 = at-parts.before.before.before.before.before in
-    let at-begin = at-if1.before.before.before in
-    let at-opened = at-begin.before.before in
-    let at-args = at-opened.before.before.before.before.before in
-    let b = at-args.requires.1.1 in let o = at-opened.opened-node.ensures in let x = begins-stands _ _ at-args.args.words.now b _ o in let l = at-begin.begin-begun.ensures _ x in for-any _ (text_in (said_by at-args.args.names.now at-args.args.pen.direct at-args.args.called.now) at-args.args.inner) _ _ at-args.args.words.now b _ _ _ _ (all-walked _ _ _ at-args.args.words.now b _ _ _ _ l _ (put-done _ at-if1.if-begun.false) _ _ at-parts.parts.ensures _ _ at-used.used-1.given.1 _ _ (at-close2.close-2.ensures _ x))
+    let b = c.requires.1.1 in let o = c.opened-node.ensures in let x = begins-stands _ _ c.args.words.now b _ o in let l = c.begin-begun.ensures _ x in for-any _ (text_in (said_by c.args.names.now c.args.pen.direct c.args.called.now) c.args.inner) _ _ c.args.words.now b _ _ _ _ (all-walked _ _ _ c.args.words.now b _ _ _ _ l _ (put-done _ c.if-begun.false) _ _ c.parts.ensures _ _ c.in-Done.is _ _ (c.close-2.ensures _ x))
 
 pub +parts_term_spec : {M : Type 1} → statement M
 +parts_term_spec = close μ-parts μ-term (λ t. parts-lts.spec (P t)

@@ -17,7 +17,7 @@ same_length c =
 
 returns : tie.Need-returns-then-end
 returns c =
-    λ x s. close-stops (c.before.before.before.finish-end.ensures x s) c.if-end.true
+    λ x s. close-stops (c.finish-end.ensures x s) c.if-end.true
 
 same-length-2 : tie.Need-shape_of-out
 same-length-2 c =
@@ -25,7 +25,7 @@ same-length-2 c =
 
 returns-2 : tie.Need-returns
 returns-2 c =
-    λ x s. close-walked (c.before.before.before.finish-end.ensures x s) c.if-end.false
+    λ x s. close-walked (c.finish-end.ensures x s) c.if-end.false
 
 pub close_spec : {M : Type 1} → statement M
 close_spec = tie.close (tie.spec finish-requires same_length returns same-length-2 returns-2)

@@ -14,5 +14,5 @@ returns c =
     let one : steps + 1 ≡ suc steps = omega arith in
     rw one
 
-pub stepped_spec : {M : Type 1} → statement M
-stepped_spec = tie.close (tie.spec (λ c. search rules) (λ c. search rules) returns)
+pub stepped-spec : {M : Type 1} → statement M
+stepped-spec = tie.close (tie.spec (λ c. search rules) (λ c. search rules) returns)
