@@ -59,16 +59,20 @@ rules-added {rules = rules} {t = t} f rs read = record {
   macros = length-append t.macros rules ∙ omega (arith, ap (λ (z : State). length z.macros) read.unchanged, read.count, length-map rs f);
 }
 
-pub read_rules-holds : {S : Type 0} {R : ℕ → State → Events → Type 0} (P : List Rule → Type 0) {rs : List Tree} → Each (λ r. Given P (rules_of r)) rs
+rules-read : {S : Type 0} (P : List Rule → Type 0) {R : ℕ → State → Events → Type 0} {rs : List Tree} → Each (λ r. Given P (rules_of r)) rs
     → (s : State) → ((l : Events) → Each Unbinding l → R 15 s l) → Holds S R (RulesRead P rs s) (read_rules rs s)
 unfolding read_rules
-read_rules-holds P none_of s r = give_holds [] s (record { unchanged = refl; count = refl; each = none_of; shown = none_of })
-read_rules-holds {S} {R} P (also {x} g gs) s r =
+rules-read P none_of s r = give_holds [] s (record { unchanged = refl; count = refl; each = none_of; shown = none_of })
+rules-read {S} P {R} (also {x} g gs) s r =
     let h = head-looks (element 0 x) in
     show-holds _ _ s
     (or_refuse-holds _ _ _ s (r _ (each_append h none_of)) λ a e.
-    then-holds _ _ _ s (read_rules-holds {R = λ g u l. R g u (on_name {A = Events} (λ y. looked y ∷ []) [] (element 0 x) ++ l)} P gs s (λ l k. r _ (each_append h k))) λ b t l q.
+    then-holds _ _ _ s (rules-read P {R = λ g u l. R g u (on_name {A = Events} (λ y. looked y ∷ []) [] (element 0 x) ++ l)} gs s (λ l k. r _ (each_append h k))) λ b t l q.
     give_holds _ t (record { unchanged = q.unchanged; count = ap suc q.count; each = also (given-at g e) q.each; shown = each_append h (each_append q.shown none_of) }))
+
+pub read_rules-holds : {S : Type 0} {R : ℕ → State → Events → Type 0} (P : List Rule → Type 0) {rs : List Tree} → Each (λ r. Given P (rules_of r)) rs
+    → (s : State) → ((l : Events) → Each Unbinding l → R 15 s l) → Holds S R (RulesRead P rs s) (read_rules rs s)
+read_rules-holds P g s r = rules-read P g s r
 
 pub first_names-length : (cs : List Tree) → all_of is_macro cs ≡ true → length (first_names cs) ≡ length cs
 unfolding first_names is_macro

@@ -9,85 +9,65 @@ use Rattle.recipe.specs.TreeFrom.{tail_at}
 use Rattle.recipe.specs.Layout.{is_list_kind, PairItem}
 use Rattle.layout.specs.Begins.{list-kind, pair_at, none, one, three, two}
 
-returns : tie.Need-returns
+returns : tie.Need-returns-then-kind-ne-PAIR
 returns c =
-    let at-kind = c.before in
-    let at-args = at-kind.before.before in
-    let a = at-args.args in let k : kind_at a.table.now 0 ≡ 4 → ⊥ = λ q. c.if1.true (at-kind.kind.ensures ∙ q) in
-    sym (none a.table.now a.n at-args.requires.0 at-args.requires.2 at-args.requires.1 k)
+    let a = c.args in let k : kind_at a.table.now 0 ≡ 4 → ⊥ = λ q. c.if-kind-ne-PAIR.true (c.kind.ensures ∙ q) in
+    sym (none a.table.now a.n c.requires.0 c.requires.2 c.requires.1 k)
 
 -- item 0, once it is known to be a pair
-kind0 : (c : tie.After-tail) → kind_at c.before.before.before.before.args.table.now 0 ≡ 4
-kind0 c = sym c.before.before.kind.ensures ∙ c.before.if1.false
+kind0 : (c : tie.After-tail-second) → kind_at c.args.table.now 0 ≡ 4
+kind0 c = sym c.kind.ensures ∙ c.if-kind-ne-PAIR.false
 
-pair0 : (c : tie.After-tail) → PairItem c.before.before.before.before.args.table.now c.before.before.before.before.args.n 0
-pair0 c = let s = c.before.before.before.before in pair_at s.args.table.now s.args.n s.requires.0 s.requires.2 0 s.requires.1 (kind0 c)
+pair0 : (c : tie.After-tail-second) → PairItem c.args.table.now c.args.n 0
+pair0 c = pair_at c.args.table.now c.args.n c.requires.0 c.requires.2 0 c.requires.1 (kind0 c)
 
 kind-requires-2 : tie.Need-kind-requires-2
 kind-requires-2 c κs =
     omega (arith, (pair0 c).tail_below)
 
-returns-2 : tie.Need-returns-2
+returns-2 : tie.Need-returns-then-kind-ne-PAIR-2
 returns-2 c =
-    let at_before = c.before in
-    let at_tail = at_before.before in
-    let at-args = at_tail.before.before.before.before in
-    let a = at-args.args in let ws = a.table.now in let t = at_before.before in
-    let k : kind_at ws (tail_at ws 0) ≡ 4 → ⊥ = λ q. c.if2.true (at_before.kind2.ensures ∙ (ap (kind_at ws) at_tail.tail.ensures ∙ q)) in
-    sym (one ws a.n at-args.requires.0 at-args.requires.2 at-args.requires.1 (kind0 t) (pair0 t).tail_below k)
+    let a = c.args in let ws = a.table.now in let k : kind_at ws (tail_at ws 0) ≡ 4 → ⊥ = λ q. c.if-kind-ne-PAIR-2.true (c.kind-2.ensures ∙ (ap (kind_at ws) c.tail-second.ensures ∙ q)) in
+    sym (one ws a.n c.requires.0 c.requires.2 c.requires.1 (kind0 c.before.before) (pair0 c.before.before).tail_below k)
 
-tail-requires-2 : tie.Need-tail-requires-2
+tail-requires-2 : tie.Need-tail-end-requires
 tail-requires-2 c κs =
     omega (arith, (pair0 c.before.before).tail_below)
 
 -- its tail, once that is known to be a pair too
-kind1 : (c : tie.After-tail2) → kind_at c.before.before.before.before.before.before.before.args.table.now (tail_at c.before.before.before.before.before.before.before.args.table.now 0) ≡ 4
+kind1 : (c : tie.After-tail-end) → kind_at c.args.table.now (tail_at c.args.table.now 0) ≡ 4
 kind1 c =
-    let at-if2 = c.before in
-    let at-kind2 = at-if2.before in
-    let at_tail = at-kind2.before in
-    sym (at-kind2.kind2.ensures ∙ ap (kind_at at_tail.before.before.before.before.args.table.now) at_tail.tail.ensures) ∙ at-if2.if2.false
+    sym (c.kind-2.ensures ∙ ap (kind_at c.args.table.now) c.tail-second.ensures) ∙ c.if-kind-ne-PAIR-2.false
 
-pair1 : (c : tie.After-tail2) → PairItem c.before.before.before.before.before.before.before.args.table.now c.before.before.before.before.before.before.before.args.n (tail_at c.before.before.before.before.before.before.before.args.table.now 0)
+pair1 : (c : tie.After-tail-end) → PairItem c.args.table.now c.args.n (tail_at c.args.table.now 0)
 pair1 c =
-    let s = c.before.before.before.before.before.before.before in let ws = s.args.table.now in
-    pair_at ws s.args.n s.requires.0 s.requires.2 (tail_at ws 0) (pair0 c.before.before.before).tail_below (kind1 c)
+    let ws = c.args.table.now in
+    pair_at ws c.args.n c.requires.0 c.requires.2 (tail_at ws 0) (pair0 c.before.before.before).tail_below (kind1 c)
 
-end : (c : tie.After-tail2) → c.tail2.result ≡ tail_at c.before.before.before.before.before.before.before.args.table.now (tail_at c.before.before.before.before.before.before.before.args.table.now 0)
-end c = c.tail2.ensures ∙ ap (tail_at c.before.before.before.before.before.before.before.args.table.now) c.before.before.before.tail.ensures
+end : (c : tie.After-tail-end) → c.tail-end.result ≡ tail_at c.args.table.now (tail_at c.args.table.now 0)
+end c = c.tail-end.ensures ∙ ap (tail_at c.args.table.now) c.tail-second.ensures
 
 kind-requires-3 : tie.Need-kind-requires-3
 kind-requires-3 c κs =
     omega (arith, (pair1 c).tail_below, end c)
 
-returns-3 : tie.Need-returns-3
+returns-3 : tie.Need-returns-then-kind-ne-EMPTY
 returns-3 c =
-    let at_before = c.before in
-    let at-before' = at_before.before.before.before in
-    let at-args = at-before'.before.before.before.before.before in
-    let a = at-args.args in let ws = a.table.now in let t = at-before'.before in let u = at_before.before in
-    let k = list-kind (kind_at ws (tail_at ws (tail_at ws 0))) (pair1 u).tail_kind (λ q. c.if3.true (at_before.kind3.ensures ∙ (ap (kind_at ws) (end u) ∙ q))) in
-    sym (three ws a.n at-args.requires.0 at-args.requires.2 at-args.requires.1 (kind0 t) (pair0 t).tail_below (kind1 u) (pair1 u).tail_below k)
+    let a = c.args in let ws = a.table.now in let k = list-kind (kind_at ws (tail_at ws (tail_at ws 0))) (pair1 c.before.before).tail_kind (λ q. c.if-kind-ne-EMPTY.true (c.kind-3.ensures ∙ (ap (kind_at ws) (end c.before.before) ∙ q))) in
+    sym (three ws a.n c.requires.0 c.requires.2 c.requires.1 (kind0 c.before.before.before.before.before) (pair0 c.before.before.before.before.before).tail_below (kind1 c.before.before) (pair1 c.before.before).tail_below k)
 
 kind-requires-4 : tie.Need-kind-requires-4
 kind-requires-4 c κs =
     omega (arith, (pair0 c.before.before.before.before.before.before).head_below)
 
-returns-4 : tie.Need-returns-4
+returns-4 : tie.Need-returns
 returns-4 c =
-    let at-kind4 = c.before in
-    let at_head = at-kind4.before in
-    let at-if3 = at_head.before in
-    let at_before = at-if3.before in
-    let at-before' = at_before.before.before.before in
-    let at-args = at-before'.before.before.before.before.before in
-    let a = at-args.args in let ws = a.table.now in let t = at-before'.before in let u = at_before.before in
-    let k : kind_at ws (tail_at ws (tail_at ws 0)) ≡ 0 = sym (at_before.kind3.ensures ∙ ap (kind_at ws) (end u)) ∙ at-if3.if3.false in
-    c.is-list-kind.ensures ∙ ap is_list_kind (at-kind4.kind4.ensures ∙ ap (kind_at ws) at_head.head.ensures)
-    ∙ sym (two ws a.n at-args.requires.0 at-args.requires.2 at-args.requires.1 (kind0 t) (pair0 t).tail_below (kind1 u) (pair1 u).tail_below k (pair0 t).head_below)
+    let a = c.args in let ws = a.table.now in let k : kind_at ws (tail_at ws (tail_at ws 0)) ≡ 0 = sym (c.kind-3.ensures ∙ ap (kind_at ws) (end c.before.before.before.before.before)) ∙ c.if-kind-ne-EMPTY.false in
+    c.is_list_kind.ensures ∙ ap is_list_kind (c.kind-4.ensures ∙ ap (kind_at ws) c.head-first.ensures)
+    ∙ sym (two ws a.n c.requires.0 c.requires.2 c.requires.1 (kind0 c.before.before.before.before.before.before.before.before) (pair0 c.before.before.before.before.before.before.before.before).tail_below (kind1 c.before.before.before.before.before) (pair1 c.before.before.before.before.before).tail_below k (pair0 c.before.before.before.before.before.before.before.before).head_below)
 
-pub begins-two-spec : {M : Type 1} → statement M
-begins-two-spec =
+pub begins_two_spec : {M : Type 1} → statement M
+begins_two_spec =
     tie.close
     (tie.spec
     (λ c κs. search rules)  -- kind-requires

@@ -23,11 +23,11 @@ leb-left k n f l p h =
     (λ t. let g : f ≤ l / k - n = leb-true f (l / k - n) t in leb-within k (n + f) l p (omega arith) ∙ sym t)
     (λ t. let g : l / k - n < f = leb-false f (l / k - n) t in leb-beyond k (n + f) l p (omega arith) ∙ sym t)
 
-returns : tie.Need-returns
-returns c = let a = c.before.args in sym (leb-beyond a.rate (a.n + a.fuel) a.length c.before.requires (omega arith))
+returns : tie.Need-returns-then-most-n
+returns c = let a = c.args in sym (leb-beyond a.rate (a.n + a.fuel) a.length c.requires (omega arith))
 
-returns-2 : tie.Need-returns-2
-returns-2 c = let a = c.before.args in sym (leb-left a.rate a.n a.fuel a.length c.before.requires (omega arith))
+returns-2 : tie.Need-returns
+returns-2 c = let a = c.args in sym (leb-left a.rate a.n a.fuel a.length c.requires (omega arith))
 
-pub has-room-spec : {M : Type 1} → statement M
-has-room-spec = tie.close (tie.spec (λ c. search rules) returns returns-2)
+pub has_room_spec : {M : Type 1} → statement M
+has_room_spec = tie.close (tie.spec (λ c. search rules) returns returns-2)

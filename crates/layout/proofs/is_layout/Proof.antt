@@ -9,44 +9,38 @@ use Rattle.words.specs.TestLaws.{and_left}
 use Rattle.recipe.specs.Table.{item_count}
 use Rattle.layout.specs.Ground7.{uneven, too_few, too_many, unfit, by-item-0}
 
-returns : tie.Need-returns
+returns : tie.Need-returns-then-table-n
 unfolding item_count
 returns c =
-    sym (uneven c.before.before.args.table.now c.if1.true)
+    sym (uneven c.args.table.now c.if-table-n.true)
 
-returns-2 : tie.Need-returns-2
+returns-2 : tie.Need-returns-then-n-lt-LEAST_ITEMS
 unfolding item_count
 returns-2 c =
-    sym (too_few c.before.before.before.args.table.now (omega arith))
+    sym (too_few c.args.table.now (omega arith))
 
-returns-3 : tie.Need-returns-3
+returns-3 : tie.Need-returns-then-n-gt-MOST_ITEMS
 unfolding item_count
 returns-3 c =
-    sym (too_many c.before.before.before.before.args.table.now (omega arith))
+    sym (too_many c.args.table.now (omega arith))
 
-returns-4 : tie.Need-returns-4
+returns-4 : tie.Need-returns-then-not-every_item
 unfolding item_count
 returns-4 c =
-    let ws = c.before.before.before.before.before.before.args.table.now in let every = c.before.every-item in
-    sym (unfit ws c.before.before.before.before.if1.false (omega arith) (omega arith) (sym every.ensures ∙ not-true every.result c.if4.true))
+    let ws = c.args.table.now in sym (unfit ws c.if-table-n.false (omega arith) (omega arith) (sym c.every_item.ensures ∙ not-true c.every_item.result c.if-not-every_item.true-raw))
 
-begins-two-requires : tie.Need-begins-two-requires
+begins-two-requires : tie.Need-begins_two-requires
 unfolding item_count
 begins-two-requires c κs =
-    let every = c.before.every-item in
-    (c.before.before.before.before.if1.false, omega arith, and_left _ _ (sym every.ensures ∙ not-false every.result c.if4.false))
+    (c.if-table-n.false, omega arith, and_left _ _ (sym c.every_item.ensures ∙ not-false c.every_item.result c.if-not-every_item.false-raw))
 
-returns-5 : tie.Need-returns-5
+returns-5 : tie.Need-returns
 unfolding item_count
 returns-5 c =
-    let at-if4 = c.before in
-    let at-every-item = at-if4.before in
-    let at-if1 = at-every-item.before.before.before in
-    let ws = at-if1.before.before.args.table.now in let every = at-every-item.every-item in
-    c.begins-two.ensures ∙ sym (by-item-0 ws at-if1.if1.false (omega arith) (omega arith) (sym every.ensures ∙ not-false every.result at-if4.if4.false))
+    let ws = c.args.table.now in c.begins_two.ensures ∙ sym (by-item-0 ws c.if-table-n.false (omega arith) (omega arith) (sym c.every_item.ensures ∙ not-false c.every_item.result c.if-not-every_item.false-raw))
 
-pub is-layout-spec : {M : Type 1} → statement M
-is-layout-spec =
+pub is_layout_spec : {M : Type 1} → statement M
+is_layout_spec =
     tie.close
     (tie.spec
     (λ c. search rules)  -- mul-if1

@@ -4,14 +4,14 @@ use Rattle.layout.proofs.tables_fit.Statement.{statement}
 use Rattle.layout.proofs.tables_fit.Tie as tie
 use mathlib.Core.Path.{sym, ◌∙◌}
 
-returns : tie.Need-returns
-returns c = rw (sym c.before.before.has_room.ensures ∙ c.before.if1.true) c.has-room2.ensures
+returns : tie.Need-returns-then-has_room
+returns c = rw (sym c.has_room.ensures ∙ c.if-has_room.true) c.has_room-then-has_room.ensures
 
-returns-2 : tie.Need-returns-2
-returns-2 c = rw (sym c.before.has_room.ensures ∙ c.if1.false) (search rules)
+returns-2 : tie.Need-returns-else-has_room
+returns-2 c = rw (sym c.has_room.ensures ∙ c.if-has_room.false) (search rules)
 
-pub tables-fit-spec : {M : Type 1} → statement M
-tables-fit-spec =
+pub tables_fit_spec : {M : Type 1} → statement M
+tables_fit_spec =
     tie.close
     (tie.spec
     (λ c κs. search rules)  -- has-room-requires

@@ -6,7 +6,7 @@ use Rattle.reading.specs.Read.{read}
 
 returns : tie.Need-returns
 unfolding read
-returns c = c.before.before.before.before.read-elements.ensures
+returns c = c.read_elements.ensures
 
 pub read_spec : {M : Type 1} → statement M
 read_spec = tie.close (tie.spec (λ c κs. search rules) (λ c. search rules) (λ c. search rules) returns)

@@ -8,74 +8,44 @@ use lib.ListN.{replicate}
 use Rattle.reader.specs.Code.Reached.{Ended}
 use Rattle.reader.specs.Code.ServedLaws.{served-few-items, served-few-names, served-long, served-read, served-refused}
 
-returns : tie.Need-returns
+returns : tie.Need-returns-then-items-lt-ITEM_WORDS
 returns c =
-    let args = c.before.before.before.before.args in
-    served-few-items args.wanted args.text.now args.items.now args.names.now c.if1.true
+    let args = c.args in
+    served-few-items args.wanted args.text.now args.items.now args.names.now c.if-items-lt-ITEM_WORDS.true
 
-returns-2 : tie.Need-returns-2
+returns-2 : tie.Need-returns-then-names-lt-NAME_BYTES
 returns-2 c =
-    let args = c.before.before.before.before.before.args in
-    served-few-names args.wanted args.text.now args.items.now args.names.now c.before.if1.false c.if2.true
+    let args = c.args in
+    served-few-names args.wanted args.text.now args.items.now args.names.now c.if-items-lt-ITEM_WORDS.false c.if-names-lt-NAME_BYTES.true
 
-returns-3 : tie.Need-returns-3
+returns-3 : tie.Need-returns-then-text-gt-TEXT_BYTES
 returns-3 c =
-    let args = c.before.before.before.before.before.before.args in
-    let if1 = c.before.before.if1 in
-    served-long args.wanted args.text.now args.items.now args.names.now if1.false c.before.if2.false c.if3.true
+    let args = c.args in
+    served-long args.wanted args.text.now args.items.now args.names.now c.if-items-lt-ITEM_WORDS.false c.if-names-lt-NAME_BYTES.false c.if-text-gt-TEXT_BYTES.true
 
-read-text-requires : tie.Need-read-text-requires
+read-text-requires : tie.Need-read_text-requires
 read-text-requires c κs =
-    let at-begin = c.before.before.before.before.before.before.before.before in
-    let begin = at-begin.begin in
-    let if1 = at-begin.before.before.before.before.before.before.if1 in
-    ((omega (arith, begin.auto.0, if1.false), begin.ensures.0), begin.ensures.1)
+    ((omega (arith, c.begin.auto.items, c.if-items-lt-ITEM_WORDS.false), c.begin.ensures.0), c.begin.ensures.1)
 
-returns-4 : tie.Need-returns-4
+returns-4 : tie.Need-returns-in-Read
 returns-4 c =
-    let at_i = c.before in
-    let at-read-text = at_i.before.before.before.before.before.before.before in
-    let at-begin = at-read-text.before.before.before.before.before.before.before.before.before in
-    let at-if3 = at-begin.before.before.before.before in
-    let at-if2 = at-if3.before in
-    let at-if1 = at-if2.before in
-    let args = at-if1.before.before.before.before.args in
-    let if1 = at-if1.if1 in
-    let if2 = at-if2.if2 in
-    let if3 = at-if3.if3 in
-    let read-text = at-read-text.read-text in
-    let i = at_i.i in
-    let begin = at-begin.begin in
-    served-read args.wanted args.text.now args.items.now args.names.now if1.false if2.false if3.false
-    read-text.new.1.0 read-text.new.1.1.0 i.given.0.0 i.given.0.1.0
-    (subst (Ended args.wanted args.text.now read-text.new.1.0 read-text.new.1.1.0) i.given.1 read-text.ensures)
-    (read-text.auto.1.0 ∙ begin.auto.0) (read-text.auto.1.1.0 ∙ begin.auto.1.0)
+    let args = c.args in
+    served-read args.wanted args.text.now args.items.now args.names.now c.if-items-lt-ITEM_WORDS.false c.if-names-lt-NAME_BYTES.false c.if-text-gt-TEXT_BYTES.false
+    c.read_text.new.items c.read_text.new.names c.in-Read.i c.in-Read.n
+    (subst (Ended args.wanted args.text.now c.read_text.new.items c.read_text.new.names) c.in-Read.is c.read_text.ensures)
+    (c.read_text.auto.items ∙ c.begin.auto.items) (c.read_text.auto.names ∙ c.begin.auto.names)
 
-returns-5 : tie.Need-returns-5
+returns-5 : tie.Need-returns-in-Refused
 returns-5 c =
-    let at_clear = c.before.before.before.before in
-    let at-ground = at_clear.before.before.before.before in
-    let at-read-text = at-ground.before.before.before.before.before.before.before in
-    let at-begin = at-read-text.before.before.before.before.before.before.before.before.before in
-    let at-if3 = at-begin.before.before.before.before in
-    let at-if2 = at-if3.before in
-    let at-if1 = at-if2.before in
-    let args = at-if1.before.before.before.before.args in
-    let if1 = at-if1.if1 in
-    let if2 = at-if2.if2 in
-    let if3 = at-if3.if3 in
-    let clear = at_clear.clear in
-    let ground = at-ground.ground in
-    let read-text = at-read-text.read-text in
-    let begin = at-begin.begin in
-    served-refused args.wanted args.text.now args.items.now args.names.now if1.false if2.false if3.false clear.new.0
-    clear.new.1.0 ground.given.0.0
-    (subst (Ended args.wanted args.text.now read-text.new.1.0 read-text.new.1.1.0) ground.given.1 read-text.ensures)
-    (clear.ensures.0 ∙ ap (λ n. replicate n 0) (read-text.auto.1.0 ∙ begin.auto.0))
-    (clear.ensures.1 ∙ ap (λ n. replicate n 0) (read-text.auto.1.1.0 ∙ begin.auto.1.0))
+    let args = c.args in
+    served-refused args.wanted args.text.now args.items.now args.names.now c.if-items-lt-ITEM_WORDS.false c.if-names-lt-NAME_BYTES.false c.if-text-gt-TEXT_BYTES.false c.clear.new.items
+    c.clear.new.names c.in-Refused.ground
+    (subst (Ended args.wanted args.text.now c.read_text.new.items c.read_text.new.names) c.in-Refused.is c.read_text.ensures)
+    (c.clear.ensures.0 ∙ ap (λ n. replicate n 0) (c.read_text.auto.items ∙ c.begin.auto.items))
+    (c.clear.ensures.1 ∙ ap (λ n. replicate n 0) (c.read_text.auto.names ∙ c.begin.auto.names))
 
-pub read-elements-spec : {M : Type 1} → statement M
-read-elements-spec =
+pub read_elements_spec : {M : Type 1} → statement M
+read_elements_spec =
     tie.close
     (tie.spec
     returns

@@ -11,90 +11,66 @@ use Rattle.reader.specs.Code.NameStepLaws.{holds-names}
 use Rattle.reader.specs.Code.ServedLaws.{reached-first, reached-on, reached-later, reached-done, reached-refused}
 use borrow.Author.Rules.{rules}
 
-abbrev invariant-loop : tie.invariant-loop
+abbrev invariant-loop : tie.invariant-loop-p
 invariant-loop text items₀ names₀ index₀ wanted cursor₀ place₀ items names index cursor place =
     (length items ≡ length items₀) × (length names ≡ length names₀) × (length index ≡ length index₀) × Reached wanted text items names index place cursor
 
-abbrev decreases-loop : tie.decreases-loop
+abbrev decreases-loop : tie.decreases-loop-p
 decreases-loop text items₀ names₀ index₀ wanted cursor₀ place₀ items names index cursor place =
     length text - cursor.at
 
-loop-holds : tie.Need-loop-init invariant-loop decreases-loop
+loop-holds : tie.Need-loop-p-init invariant-loop decreases-loop
 loop-holds c =
-    let args = c.before.before.before.before.args in
-    let pre = c.before.before.before.before.requires in
+    let args = c.args in
+    let pre = c.requires in
     (refl, refl, refl, reached-first args.wanted args.text.now args.items.now args.names.now args.index.now pre.0.0 pre.0.1 pre.1)
 
 advance-requires : tie.Need-advance-requires invariant-loop decreases-loop
 advance-requires c κs =
-    let loop = c.before.before.before.loop in
-    let r = loop.invariant.3 in (
+    let r = c.loop-p.invariant.3 in (
       r.high,
       (
-        holds-sound r.reading loop.place loop.items loop.names r.holds,
+        holds-sound r.reading c.loop-p.place c.loop-p.items c.loop-p.names r.holds,
         holds-names r.reading
-            loop.place loop.items loop.names r.holds loop.index r.indexed,
+            c.loop-p.place c.loop-p.items c.loop-p.names r.holds c.loop-p.index r.indexed,
       ),
     )
 
-loop-less : tie.Need-loop-smaller invariant-loop decreases-loop
+loop-less : tie.Need-loop-p-smaller invariant-loop decreases-loop
 loop-less c =
-    let at_p = c.before in
-    let at-advance = at_p.before.before.before.before.before.before.before.before in
-    let at-loop = at-advance.before.before.before.before in
-    let args = at-loop.before.before.before.before.before.args in
-    let loop = at-loop.loop in
-    let advance = at-advance.advance in
-    let p = at_p.p in
-    let l = reached-later args.wanted args.text.now loop.items loop.names loop.index loop.place loop.cursor loop.invariant.3
-    advance.new.1.1.1.0 advance.new.1.1.1.1.0 advance.new.1.1.1.1.1.0 advance.result advance.ensures p.given.0.0
-    p.given.0.1.0 p.given.1 in omega (arith, l.0, l.1)
+    let args = c.args in
+    let l = reached-later args.wanted args.text.now c.loop-p.items c.loop-p.names c.loop-p.index c.loop-p.place c.loop-p.cursor c.loop-p.invariant.3
+    c.advance.new.items c.advance.new.names c.advance.new.index c.advance.result c.advance.ensures c.in-On.p
+    c.in-On.c c.in-On.is in omega (arith, l.0, l.1)
 
-loop-again : tie.Need-loop-preserved invariant-loop decreases-loop
+loop-again : tie.Need-loop-p-preserved invariant-loop decreases-loop
 loop-again c =
-    let at_p = c.before in
-    let at-advance = at_p.before.before.before.before.before.before.before.before in
-    let at-loop = at-advance.before.before.before.before in
-    let advance = at-advance.advance in
-    let loop = at-loop.loop in
-    let args = at-loop.before.before.before.before.before.args in
-    let p = at_p.p in (
-      advance.auto.1.1.1.0 ∙ loop.invariant.0,
-      advance.auto.1.1.1.1.0 ∙ loop.invariant.1,
-      advance.auto.1.1.1.1.1.0 ∙ loop.invariant.2,
+    let args = c.args in
+    (
+      c.advance.auto.items ∙ c.loop-p.invariant.0,
+      c.advance.auto.names ∙ c.loop-p.invariant.1,
+      c.advance.auto.index ∙ c.loop-p.invariant.2,
       reached-on args.wanted args.text.now
-          loop.items loop.names loop.index loop.place loop.cursor loop.invariant.3 advance.new.1.1.1.0
-          advance.new.1.1.1.1.0 advance.new.1.1.1.1.1.0 advance.result advance.ensures p.given.0.0 p.given.0.1.0 p.given.1,
+          c.loop-p.items c.loop-p.names c.loop-p.index c.loop-p.place c.loop-p.cursor c.loop-p.invariant.3 c.advance.new.items
+          c.advance.new.names c.advance.new.index c.advance.result c.advance.ensures c.in-On.p c.in-On.c c.in-On.is,
     )
 
-returns : tie.Need-returns invariant-loop decreases-loop
+returns : tie.Need-returns-in-Done invariant-loop decreases-loop
 returns c =
-    let at_i = c.before in
-    let at-advance = at_i.before.before.before.before.before.before.before.before in
-    let at-loop = at-advance.before.before.before.before in
-    let args = at-loop.before.before.before.before.before.args in
-    let loop = at-loop.loop in
-    let advance = at-advance.advance in
-    let i = at_i.i in
-    reached-done args.wanted args.text.now loop.items loop.names loop.index loop.place loop.cursor loop.invariant.3
-    advance.new.1.1.1.0 advance.new.1.1.1.1.0 advance.new.1.1.1.1.1.0 advance.result advance.ensures i.given.0.0
-    i.given.0.1.0 i.given.1
+    let args = c.args in
+    reached-done args.wanted args.text.now c.loop-p.items c.loop-p.names c.loop-p.index c.loop-p.place c.loop-p.cursor c.loop-p.invariant.3
+    c.advance.new.items c.advance.new.names c.advance.new.index c.advance.result c.advance.ensures c.in-Done.i
+    c.in-Done.n c.in-Done.is
 
-returns-2 : tie.Need-returns-2 invariant-loop decreases-loop
+returns-2 : tie.Need-returns-in-Refused invariant-loop decreases-loop
 returns-2 c =
-    let at-ground = c.before in
-    let at-advance = at-ground.before.before.before.before.before.before.before.before in
-    let at-loop = at-advance.before.before.before.before in
-    let args = at-loop.before.before.before.before.before.args in
-    let loop = at-loop.loop in
-    let advance = at-advance.advance in
-    let ground = at-ground.ground in
-    reached-refused args.wanted args.text.now loop.items loop.names loop.index loop.place loop.cursor loop.invariant.3
-    advance.new.1.1.1.0 advance.new.1.1.1.1.0 advance.new.1.1.1.1.1.0 advance.result advance.ensures ground.given.0.0
-    ground.given.1
+    let args = c.args in
+    reached-refused args.wanted args.text.now c.loop-p.items c.loop-p.names c.loop-p.index c.loop-p.place c.loop-p.cursor c.loop-p.invariant.3
+    c.advance.new.items c.advance.new.names c.advance.new.index c.advance.result c.advance.ensures c.in-Refused.ground
+    c.in-Refused.is
 
-pub read-text-spec : {M : Type 1} → statement M
-read-text-spec =
+pub read_text_spec : {M : Type 1} → statement M
+read_text_spec =
     tie.close
     (tie.spec
     invariant-loop
@@ -105,12 +81,12 @@ read-text-spec =
     loop-less
     loop-again
     (λ c. search rules)  -- enum-known-i
-    (λ c. c.before.before.before.before.before.before.before.before.before.advance.auto.1.1.1.0 ∙ c.before.before.before.before.before.before.before.before.before.before.before.before.before.loop.invariant.0)  -- same-length
-    (λ c. c.before.before.before.before.before.before.before.before.before.advance.auto.1.1.1.1.0 ∙ c.before.before.before.before.before.before.before.before.before.before.before.before.before.loop.invariant.1)  -- same-length-2
-    (λ c. c.before.before.before.before.before.before.before.before.before.advance.auto.1.1.1.1.1.0 ∙ c.before.before.before.before.before.before.before.before.before.before.before.before.before.loop.invariant.2)  -- same-length-3
+    (λ c. c.advance.auto.items ∙ c.loop-p.invariant.0)  -- same-length
+    (λ c. c.advance.auto.names ∙ c.loop-p.invariant.1)  -- same-length-2
+    (λ c. c.advance.auto.index ∙ c.loop-p.invariant.2)  -- same-length-3
     returns
     (λ c. search rules)  -- enum-known-ground
-    (λ c. c.before.before.before.before.before.before.before.before.before.advance.auto.1.1.1.0 ∙ c.before.before.before.before.before.before.before.before.before.before.before.before.before.loop.invariant.0)  -- same-length-4
-    (λ c. c.before.before.before.before.before.before.before.before.before.advance.auto.1.1.1.1.0 ∙ c.before.before.before.before.before.before.before.before.before.before.before.before.before.loop.invariant.1)  -- same-length-5
-    (λ c. c.before.before.before.before.before.before.before.before.before.advance.auto.1.1.1.1.1.0 ∙ c.before.before.before.before.before.before.before.before.before.before.before.before.before.loop.invariant.2)  -- same-length-6
+    (λ c. c.advance.auto.items ∙ c.loop-p.invariant.0)  -- same-length-4
+    (λ c. c.advance.auto.names ∙ c.loop-p.invariant.1)  -- same-length-5
+    (λ c. c.advance.auto.index ∙ c.loop-p.invariant.2)  -- same-length-6
     returns-2)

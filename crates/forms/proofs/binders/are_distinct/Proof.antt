@@ -10,65 +10,49 @@ use Rattle.forms.specs.Binders.{AllNames, names_in, Opened}
 use Rattle.arena.specs.ListLaws.{pair-falls}
 use Rattle.forms.specs.BinderLaws.{opened, names-none, distinct_none, distinct-not, distinct-later}
 
-abbrev invariant-loop : tie.invariant-loop
+abbrev invariant-loop : tie.invariant-loop-first
 invariant-loop work list w entries at₀ at =
     (AllNames entries (tree_at work at w))
     × (distinct (names_in entries (tree_at work list w)) ≡ distinct (names_in entries (tree_at work at w)))
 
-abbrev decreases-loop : tie.decreases-loop
+abbrev decreases-loop : tie.decreases-loop-first
 decreases-loop work list w entries at₀ at =
     at
 
-loop-holds : tie.Need-loop-init invariant-loop decreases-loop
+loop-holds : tie.Need-loop-first-init invariant-loop decreases-loop
 loop-holds c =
-    let pre = c.before.requires in
+    let pre = c.requires in
     (pre, refl)
 
 -- the list at hand is opened
-here : (c : tie.After-reference2 invariant-loop decreases-loop) → let a = c.before.before.before.before.before.before.before.args in Opened a.work.now c.before.before.before.before.before.loop.at a.wrap a.entries c.before.own_name.result c.reference2.result
+here : (c : tie.After-reference-at invariant-loop decreases-loop) → let a = c.args in Opened a.work.now c.loop-first.at a.wrap a.entries c.own_name-own.result c.reference-at.result
 here c =
-    let at-own-name = c.before in
-    let at-reference = at-own-name.before in
-    let at-if1 = at-reference.before in
-    let at-word = at-if1.before in
-    let at-loop = at-word.before in
-    let a = at-loop.before.before.args in
-    let loop = at-loop.loop in
-    opened a.work.now loop.at _ at-word.word.ensures a.wrap a.entries at-if1.if1.true loop.invariant.0 _ _ _ at-reference.reference.ensures at-own-name.own_name.ensures c.reference2.ensures
+    let a = c.args in
+    opened a.work.now c.loop-first.at _ c.word.ensures a.wrap a.entries c.loop-first-test.true c.loop-first.invariant.0 _ _ _ c.reference-first.ensures c.own_name-own.ensures c.reference-at.ensures
 
-is-among-requires : tie.Need-is-among-requires invariant-loop decreases-loop
+is-among-requires : tie.Need-is_among-requires invariant-loop decreases-loop
 is-among-requires c κs = (here c).ordinary
 
-returns : tie.Need-returns invariant-loop decreases-loop
-returns c = distinct-not _ _ _ _ (here c.before.before).names-are c.before.is_among.ensures c.if2.true ∙ sym c.before.before.before.before.before.before.before.loop.invariant.1
+returns : tie.Need-returns-then-is_among invariant-loop decreases-loop
+returns c = distinct-not _ _ _ _ (here c.before.before).names-are c.is_among.ensures c.if-is_among.true ∙ sym c.loop-first.invariant.1
 
-loop-less : tie.Need-loop-smaller invariant-loop decreases-loop
+loop-less : tie.Need-loop-first-smaller invariant-loop decreases-loop
 loop-less c =
-    let at-reference2 = c.before.before in
-    let at-if1 = at-reference2.before.before.before in
-    let at-word = at-if1.before in
-    let at-loop = at-word.before in
-    let a = at-loop.before.before.args in
-    let loop = at-loop.loop in
-    let word = at-word.word in
-    let if1 = at-if1.if1 in
-    let reference2 = at-reference2.reference2 in
-    omega (arith, reference2.ensures, pair-falls a.work.now loop.at 1 (sym word.ensures ∙ if1.true))
+    let a = c.args in
+    omega (arith, c.reference-at.ensures, pair-falls a.work.now c.loop-first.at 1 (sym c.word.ensures ∙ c.loop-first-test.true))
 
-loop-again : tie.Need-loop-preserved invariant-loop decreases-loop
+loop-again : tie.Need-loop-first-preserved invariant-loop decreases-loop
 loop-again c =
     let o = here c.before.before in
-    (o.ordinary, c.before.before.before.before.before.before.before.loop.invariant.1 ∙ distinct-later _ _ _ _ o.names-are c.before.is_among.ensures c.if2.false)
+    (o.ordinary, c.loop-first.invariant.1 ∙ distinct-later _ _ _ _ o.names-are c.is_among.ensures c.if-is_among.false)
 
-returns-2 : tie.Need-returns-2 invariant-loop decreases-loop
+returns-2 : tie.Need-returns invariant-loop decreases-loop
 returns-2 c =
-    let a = c.before.before.before.before.args in
-    let loop = c.before.before.loop in
-    let word = c.before.word in
-    distinct_none _ (names-none a.work.now loop.at _ word.ensures a.wrap a.entries c.if1.false) ∙ sym loop.invariant.1
+    let a = c.args in
+    distinct_none _ (names-none a.work.now c.loop-first.at _ c.word.ensures a.wrap a.entries c.loop-first-test.false) ∙ sym c.loop-first.invariant.1
 
-pub are-distinct-spec : {M : Type 1} → statement M
-are-distinct-spec =
+pub are_distinct_spec : {M : Type 1} → statement M
+are_distinct_spec =
     tie.close
     (tie.spec
     invariant-loop

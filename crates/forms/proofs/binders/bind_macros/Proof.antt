@@ -10,31 +10,27 @@ use Rattle.arena.specs.Arena.{tree_at}
 use Rattle.forms.specs.Binders.{AllNames, names_in}
 use Rattle.forms.specs.ScopeLaws.{keywords-are, space-list, scoped-names, to-macros}
 
-element-requires : tie.Need-element-requires
+element-requires : tie.Need-element-list-requires
 element-requires c κs = search rules
 
-bind-names-requires : tie.Need-bind-names-requires
+bind-names-requires : tie.Need-bind_names-requires
 bind-names-requires c κs =
-    let at-element = c.before in
-    let at-args = at-element.before.before.before in
-    let a = at-args.args in
+    let a = c.args in
     let t : Tree = tree_at a.work.now a.node a.wrap in
-    let same = at-element.element.ensures.is a.wrap in (
-      subst (AllNames true) (sym same) at-args.requires.0,
-      space-list _ (keywords t) a.work.now a.node a.wrap a.first a.wrap a.top _ (ap (names_in true) same ∙ keywords-are t) at-element.element.ensures.low at-args.requires.1,
+    let same = c.element-list.ensures.is a.wrap in (
+      subst (AllNames true) (sym same) c.requires.0,
+      space-list _ (keywords t) a.work.now a.node a.wrap a.first a.wrap a.top _ (ap (names_in true) same ∙ keywords-are t) c.element-list.ensures.low c.requires.1,
     )
 
-same_length : tie.Need-same-length
+same_length : tie.Need-shape_of-work
 same_length c = search rules
 
 returns : tie.Need-returns
 returns c =
-    let at-bind-names = c.before.before in
-    let at-element = at-bind-names.before.before in
-    let a = at-element.before.before.before.args in
+    let a = c.args in
     let t : Tree = tree_at a.work.now a.node a.wrap in
-    let same = at-element.element.ensures.is a.wrap in
-    scoped-names _ _ a.first _ (keywords t) a.wrap a.work.now _ a.top _ _ to-macros (ap (names_in true) same ∙ keywords-are t) at-bind-names.bind-names.ensures
+    let same = c.element-list.ensures.is a.wrap in
+    scoped-names _ _ a.first _ (keywords t) a.wrap a.work.now _ a.top _ _ to-macros (ap (names_in true) same ∙ keywords-are t) c.bind_names.ensures
 
-pub bind-macros-spec : {M : Type 1} → statement M
-bind-macros-spec = tie.close (tie.spec element-requires bind-names-requires same_length returns)
+pub bind_macros_spec : {M : Type 1} → statement M
+bind_macros_spec = tie.close (tie.spec element-requires bind-names-requires same_length returns)

@@ -10,20 +10,20 @@ use Rattle.arena.specs.Arena.{tree_at}
 use Rattle.forms.specs.Binders.{AllNames, names_in}
 use Rattle.forms.specs.ScopeLaws.{lambda-names, formals-are}
 
-element-requires : tie.Need-element-requires
+element-requires : tie.Need-element-list-requires
 element-requires c κs = search rules
 
-are-distinct-requires : tie.Need-are-distinct-requires
+are-distinct-requires : tie.Need-are_distinct-requires
 are-distinct-requires c κs =
-    let a = c.before.before.args in
+    let a = c.args in
     let t : Tree = tree_at a.work.now a.node a.wrap in
-    subst (AllNames false) (sym (c.element.ensures.is a.wrap)) (lambda-names t c.before.before.requires.0)
+    subst (AllNames false) (sym (c.element-list.ensures.is a.wrap)) (lambda-names t c.requires.0)
 
 returns : tie.Need-returns
 returns c =
-    let a = c.before.before.before.args in
+    let a = c.args in
     let t : Tree = tree_at a.work.now a.node a.wrap in
-    c.are-distinct.ensures ∙ ap (λ (u : Tree). distinct (names_in false u)) (c.before.element.ensures.is a.wrap) ∙ ap distinct (formals-are t c.before.before.before.requires.0 c.before.before.before.requires.1)
+    c.are_distinct.ensures ∙ ap (λ (u : Tree). distinct (names_in false u)) (c.element-list.ensures.is a.wrap) ∙ ap distinct (formals-are t c.requires.0 c.requires.1)
 
-pub formals-distinct-spec : {M : Type 1} → statement M
-formals-distinct-spec = tie.close (tie.spec element-requires are-distinct-requires returns)
+pub formals_distinct_spec : {M : Type 1} → statement M
+formals_distinct_spec = tie.close (tie.spec element-requires are-distinct-requires returns)

@@ -8,23 +8,23 @@ use Rattle.resolution.proofs.names.macro_key.Reads as macro-key-reads
 use Rattle.resolution.proofs.names.variable_key.Reads as variable-key-reads
 use Rattle.forms.specs.Binders.{binds_to}
 
-macro-key-requires : tie.Need-macro-key-requires
+macro-key-requires : tie.Need-macro_key-requires
 macro-key-requires c κs =
     search rules
 
-returns : tie.Need-returns
+returns : tie.Need-returns-then-macros
 unfolding binds_to
 returns c =
-    rw c.before.if1.true c.macro-key.ensures
+    rw c.if-macros.true c.macro_key.ensures
 
-variable-key-requires : tie.Need-variable-key-requires
+variable-key-requires : tie.Need-variable_key-requires
 variable-key-requires c κs =
     search rules
 
-returns-2 : tie.Need-returns-2
+returns-2 : tie.Need-returns
 unfolding binds_to
 returns-2 c =
-    rw c.before.if1.false c.variable-key.ensures
+    rw c.if-macros.false c.variable_key.ensures
 
-pub key-of-spec : {M : Type 1} → statement M
-key-of-spec = tie.close (tie.spec macro-key-requires returns variable-key-requires returns-2)
+pub key_of_spec : {M : Type 1} → statement M
+key_of_spec = tie.close (tie.spec macro-key-requires returns variable-key-requires returns-2)

@@ -10,19 +10,19 @@ use Rattle.arena.specs.Arena.{tree_at}
 use Rattle.forms.specs.Binders.{AllNames, names_in}
 use Rattle.forms.specs.ScopeLaws.{keywords-are}
 
-element-requires : tie.Need-element-requires
+element-requires : tie.Need-element-list-requires
 element-requires c κs = search rules
 
-are-distinct-requires : tie.Need-are-distinct-requires
+are-distinct-requires : tie.Need-are_distinct-requires
 are-distinct-requires c κs =
-    let a = c.before.before.args in
-    subst (AllNames true) (sym (c.element.ensures.is a.wrap)) c.before.before.requires
+    let a = c.args in
+    subst (AllNames true) (sym (c.element-list.ensures.is a.wrap)) c.requires
 
 returns : tie.Need-returns
 returns c =
-    let a = c.before.before.before.args in
+    let a = c.args in
     let t : Tree = tree_at a.work.now a.node a.wrap in
-    c.are-distinct.ensures ∙ ap (λ (u : Tree). distinct (names_in true u)) (c.before.element.ensures.is a.wrap) ∙ ap distinct (keywords-are t)
+    c.are_distinct.ensures ∙ ap (λ (u : Tree). distinct (names_in true u)) (c.element-list.ensures.is a.wrap) ∙ ap distinct (keywords-are t)
 
-pub keywords-distinct-spec : {M : Type 1} → statement M
-keywords-distinct-spec = tie.close (tie.spec element-requires are-distinct-requires returns)
+pub keywords_distinct_spec : {M : Type 1} → statement M
+keywords_distinct_spec = tie.close (tie.spec element-requires are-distinct-requires returns)

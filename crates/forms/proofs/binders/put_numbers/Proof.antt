@@ -15,87 +15,53 @@ use lib.ListN.{length}
 use Rattle.arena.specs.Arena.{reference_at}
 use Rattle.forms.specs.NumberLaws.{Putting, putting-begins, putting-ends, putting-room, putting-falls, putting-more}
 
-abbrev invariant-loop : tie.invariant-loop
+abbrev invariant-loop : tie.invariant-loop-first
 invariant-loop work list core₀ at node₀ n₀ core node n =
     (v : ℕ) × Putting work list v at core₀ node n core
 
-abbrev decreases-loop : tie.decreases-loop
+abbrev decreases-loop : tie.decreases-loop-first
 decreases-loop work list core₀ at node₀ n₀ core node n =
     node
 
-loop-holds : tie.Need-loop-init invariant-loop decreases-loop
+loop-holds : tie.Need-loop-first-init invariant-loop decreases-loop
 loop-holds c =
-    let at-args = c.before.before in
-    (at-args.requires.0, putting-begins at-args.args.work.now at-args.args.list at-args.requires.0 at-args.args.at at-args.args.core.now at-args.requires.1 at-args.requires.2)
+    (c.requires.0, putting-begins c.args.work.now c.args.list c.requires.0 c.args.at c.args.core.now c.requires.1 c.requires.2)
 
-mul-core : tie.Need-overflow-mul-core invariant-loop decreases-loop
+mul-core : tie.Need-offset_bounds-core-n invariant-loop decreases-loop
 mul-core c =
-    let at-own-name = c.before in
-    let at-reference = at-own-name.before in
-    let at-if1 = at-reference.before in
-    let at-word = at-if1.before in
-    let at-loop = at-word.before in
-    let at-args = at-loop.before.before.before in
-    let a = at-args.args in
-    let loop = at-loop.loop in
-    omega (arith, putting-room a.work.now a.list loop.invariant.0 a.at a.core.now loop.node loop.n loop.core loop.invariant.1 _ at-word.word.ensures at-if1.if1.true _ _ (reference_at a.work.now loop.node 1) _ at-reference.reference.ensures at-own-name.own_name.ensures refl c.number_of_lem.ensures, at-loop.loop.invariant.1.same, at-args.well-formed.1.1.0.1)
+    let a = c.args in
+    omega (arith, putting-room a.work.now a.list c.loop-first.invariant.0 a.at a.core.now c.loop-first.node c.loop-first.n c.loop-first.core c.loop-first.invariant.1 _ c.word.ensures c.loop-first-test.true _ _ (reference_at a.work.now c.loop-first.node 1) _ c.reference-first.ensures c.own_name-own.ensures refl c.number_of.ensures, c.loop-first.invariant.1.same, c.well_formed.1.1.0.1)
 
-slice-write-core : tie.Need-slice-write-core invariant-loop decreases-loop
+slice-write-core : tie.Need-bounds-core-n invariant-loop decreases-loop
 slice-write-core c =
-    let at-own-name = c.before in
-    let at-reference = at-own-name.before in
-    let at-if1 = at-reference.before in
-    let at-word = at-if1.before in
-    let at-loop = at-word.before in
-    let args' = at-loop.before.before.before.args in
-    putting-room args'.work.now args'.list at-loop.loop.invariant.0 args'.at args'.core.now at-loop.loop.node at-loop.loop.n at-loop.loop.core at-loop.loop.invariant.1 _ at-word.word.ensures at-if1.if1.true _ _ (reference_at args'.work.now at-loop.loop.node 1) _ at-reference.reference.ensures at-own-name.own_name.ensures refl c.number_of_lem.ensures
+    let args' = c.args in
+    putting-room args'.work.now args'.list c.loop-first.invariant.0 args'.at args'.core.now c.loop-first.node c.loop-first.n c.loop-first.core c.loop-first.invariant.1 _ c.word.ensures c.loop-first-test.true _ _ (reference_at args'.work.now c.loop-first.node 1) _ c.reference-first.ensures c.own_name-own.ensures refl c.number_of.ensures
 
-add-n : tie.Need-overflow-add-n invariant-loop decreases-loop
+add-n : tie.Need-overflow_add-n invariant-loop decreases-loop
 add-n c =
-    let at-number-of = c.before in
-    let at-own-name = at-number-of.before in
-    let at-reference = at-own-name.before in
-    let at-if1 = at-reference.before in
-    let at-word = at-if1.before in
-    let at-loop = at-word.before in
-    let at-args = at-loop.before.before.before in
-    omega (arith, putting-room at-args.args.work.now at-args.args.list at-loop.loop.invariant.0 at-args.args.at at-args.args.core.now at-loop.loop.node at-loop.loop.n at-loop.loop.core at-loop.loop.invariant.1 _ at-word.word.ensures at-if1.if1.true _ _ _ _ at-reference.reference.ensures at-own-name.own_name.ensures c.reference2.ensures at-number-of.number_of_lem.ensures, at-loop.loop.invariant.1.same, at-args.well-formed.1.1.0.1)
+    omega (arith, putting-room c.args.work.now c.args.list c.loop-first.invariant.0 c.args.at c.args.core.now c.loop-first.node c.loop-first.n c.loop-first.core c.loop-first.invariant.1 _ c.word.ensures c.loop-first-test.true _ _ _ _ c.reference-first.ensures c.own_name-own.ensures c.reference-node.ensures c.number_of.ensures, c.loop-first.invariant.1.same, c.well_formed.1.1.0.1)
 
-loop-less : tie.Need-loop-smaller invariant-loop decreases-loop
+loop-less : tie.Need-loop-first-smaller invariant-loop decreases-loop
 loop-less c =
-    let at-number-of = c.before in
-    let at-own-name = at-number-of.before in
-    let at-reference = at-own-name.before in
-    let at-if1 = at-reference.before in
-    let at-word = at-if1.before in
-    let at-loop = at-word.before in
-    let args' = at-loop.before.before.before.args in
-    putting-falls args'.work.now args'.list at-loop.loop.invariant.0 args'.at args'.core.now at-loop.loop.node at-loop.loop.n at-loop.loop.core at-loop.loop.invariant.1 _ at-word.word.ensures at-if1.if1.true _ _ _ _ at-reference.reference.ensures at-own-name.own_name.ensures c.reference2.ensures at-number-of.number_of_lem.ensures
+    let args' = c.args in
+    putting-falls args'.work.now args'.list c.loop-first.invariant.0 args'.at args'.core.now c.loop-first.node c.loop-first.n c.loop-first.core c.loop-first.invariant.1 _ c.word.ensures c.loop-first-test.true _ _ _ _ c.reference-first.ensures c.own_name-own.ensures c.reference-node.ensures c.number_of.ensures
 
-loop-again : tie.Need-loop-preserved invariant-loop decreases-loop
+loop-again : tie.Need-loop-first-preserved invariant-loop decreases-loop
 loop-again c =
-    let at-number-of = c.before in
-    let at-own-name = at-number-of.before in
-    let at-reference = at-own-name.before in
-    let at-if1 = at-reference.before in
-    let at-word = at-if1.before in
-    let at-loop = at-word.before in
-    let args' = at-loop.before.before.before.args in
-    (at-loop.loop.invariant.0, putting-more args'.work.now args'.list at-loop.loop.invariant.0 args'.at args'.core.now at-loop.loop.node at-loop.loop.n at-loop.loop.core at-loop.loop.invariant.1 _ at-word.word.ensures at-if1.if1.true _ _ _ _ at-reference.reference.ensures at-own-name.own_name.ensures c.reference2.ensures at-number-of.number_of_lem.ensures)
+    let args' = c.args in
+    (c.loop-first.invariant.0, putting-more args'.work.now args'.list c.loop-first.invariant.0 args'.at args'.core.now c.loop-first.node c.loop-first.n c.loop-first.core c.loop-first.invariant.1 _ c.word.ensures c.loop-first-test.true _ _ _ _ c.reference-first.ensures c.own_name-own.ensures c.reference-node.ensures c.number_of.ensures)
 
-same_length : tie.Need-same-length invariant-loop decreases-loop
+same_length : tie.Need-shape_of-core invariant-loop decreases-loop
 same_length c =
-    c.before.before.loop.invariant.1.same
+    c.loop-first.invariant.1.same
 
 returns : tie.Need-returns invariant-loop decreases-loop
 returns c =
-    let at-word = c.before in
-    let at-loop = at-word.before in
-    let args' = at-loop.before.before.before.args in
-    λ w h. putting-ends args'.work.now args'.list at-loop.loop.invariant.0 args'.at args'.core.now at-loop.loop.node at-loop.loop.n at-loop.loop.core at-loop.loop.invariant.1 _ at-word.word.ensures c.if1.false w h
+    let args' = c.args in
+    λ w h. putting-ends args'.work.now args'.list c.loop-first.invariant.0 args'.at args'.core.now c.loop-first.node c.loop-first.n c.loop-first.core c.loop-first.invariant.1 _ c.word.ensures c.loop-first-test.false w h
 
-pub put-numbers-spec : {M : Type 1} → statement M
-put-numbers-spec =
+pub put_numbers_spec : {M : Type 1} → statement M
+put_numbers_spec =
     tie.close
     (tie.spec
     invariant-loop

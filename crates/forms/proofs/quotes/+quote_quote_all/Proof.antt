@@ -52,173 +52,115 @@ abbrev quote-all-claims : ℕ → quote-all-lts.Claims
 quote-all-claims t =
     (word-reads.Asked, word-reads.Learnt, reference-reads.Asked, reference-reads.Learnt, quote-below t, quote.Post)
 
-quote-put-two-requires : (t : ℕ) → quote-lts.Need-put-two-requires (quote-claims t) (quote-at t) quote.Post
+quote-put-two-requires : (t : ℕ) → quote-lts.Need-put_two-n-requires (quote-claims t) (quote-at t) quote.Post
 quote-put-two-requires t c κs =
-    let at_count = c.before in
-    let at-if1 = at_count.before in
-    let at-word = at-if1.before in
-    let at-args = at-word.before.before.before in
-    let a = at-args.args in
-    omega (arith, at-args.requires.1.0, ap length (quoted-pair a.work.now a.node _ at-word.word.ensures at-if1.if1.true _ at_count.count.ensures))
+    let a = c.args in
+    omega (arith, c.requires.1.0, ap length (quoted-pair a.work.now a.node _ c.word-kind.ensures c.if-kind-eq-PAIR.true _ c.count-count.ensures))
 
-quote-quote-all-requires : (t : ℕ) → quote-lts.Need-quote-all-requires (quote-claims t) (quote-at t) quote.Post
+quote-quote-all-requires : (t : ℕ) → quote-lts.Need-quote_all-requires (quote-claims t) (quote-at t) quote.Post
 quote-quote-all-requires t c κs =
-    let at-put-two = c.before.before.before in
-    let at_count = at-put-two.before.before in
-    let at-if1 = at_count.before in
-    let at-word = at-if1.before in
-    let at-args = at-word.before.before.before in
-    let a = at-args.args in
-    (omega (arith, at-args.requires.0), (omega (arith, at-args.requires.1.0, ap length (quoted-pair a.work.now a.node _ at-word.word.ensures at-if1.if1.true _ at_count.count.ensures), at-put-two.put_two.ensures.end, at-put-two.put_two.auto.0), at-args.requires.1.1))
+    let a = c.args in
+    (omega (arith, c.requires.0), (omega (arith, c.requires.1.0, ap length (quoted-pair a.work.now a.node _ c.word-kind.ensures c.if-kind-eq-PAIR.true _ c.count-count.ensures), c.put_two-n.ensures.end, c.put_two-n.auto.core), c.requires.1.1))
 
-quote-same-length : (t : ℕ) → quote-lts.Need-same-length (quote-claims t) (quote-at t) quote.Post
+quote-same-length : (t : ℕ) → quote-lts.Need-shape_of-core-then-kind-eq-PAIR (quote-claims t) (quote-at t) quote.Post
 quote-same-length t c =
-    c.before.before.quote-all.auto.1.1.0 ∙ c.before.before.before.before.before.before.put_two.auto.0
+    c.quote_all.auto.core ∙ c.put_two-n.auto.core
 
-quote-returns : (t : ℕ) → quote-lts.Need-returns (quote-claims t) (quote-at t) quote.Post
+quote-returns : (t : ℕ) → quote-lts.Need-returns-then-kind-eq-PAIR (quote-claims t) (quote-at t) quote.Post
 quote-returns t c =
-    let at-quote-all = c.before.before in
-    let at-put-two = at-quote-all.before.before.before.before in
-    let at_count = at-put-two.before.before in
-    let at-if1 = at_count.before in
-    let at-word = at-if1.before in
-    let at-args = at-word.before.before.before in
-    let a = at-args.args in
-    quoted-list a.work.now a.node _ at-word.word.ensures at-if1.if1.true _ at_count.count.ensures a.core.now _ _ a.at _ _ at-args.requires.1.0 at-put-two.put_two.ensures at-quote-all.quote-all.ensures
+    let a = c.args in
+    quoted-list a.work.now a.node _ c.word-kind.ensures c.if-kind-eq-PAIR.true _ c.count-count.ensures a.core.now _ _ a.at _ _ c.requires.1.0 c.put_two-n.ensures c.quote_all.ensures
 
-quote-put-two-requires-2 : (t : ℕ) → quote-lts.Need-put-two-requires-2 (quote-claims t) (quote-at t) quote.Post
+quote-put-two-requires-2 : (t : ℕ) → quote-lts.Need-put_two-requires (quote-claims t) (quote-at t) quote.Post
 quote-put-two-requires-2 t c κs =
-    let at-number-of = c.before in
-    let at-if2 = at-number-of.before in
-    let at-word = at-if2.before.before in
-    let at-args = at-word.before.before.before in
-    let a = at-args.args in
-    omega (arith, at-args.requires.1.0, ap length (quoted-name a.work.now a.node _ at-word.word.ensures at-if2.if2.true _ at-number-of.number_of_lem.ensures))
+    let a = c.args in
+    omega (arith, c.requires.1.0, ap length (quoted-name a.work.now a.node _ c.word-kind.ensures c.if-kind-eq-NAME.true _ c.number_of-number.ensures))
 
-quote-same-length-2 : (t : ℕ) → quote-lts.Need-same-length-2 (quote-claims t) (quote-at t) quote.Post
+quote-same-length-2 : (t : ℕ) → quote-lts.Need-shape_of-core-then-kind-eq-NAME (quote-claims t) (quote-at t) quote.Post
 quote-same-length-2 t c =
-    c.before.before.put-two2.auto.0
+    c.put_two.auto.core
 
-quote-returns-2 : (t : ℕ) → quote-lts.Need-returns-2 (quote-claims t) (quote-at t) quote.Post
+quote-returns-2 : (t : ℕ) → quote-lts.Need-returns-then-kind-eq-NAME (quote-claims t) (quote-at t) quote.Post
 quote-returns-2 t c =
-    let at-put-two2 = c.before.before in
-    let at-number-of = at-put-two2.before.before in
-    let at-if2 = at-number-of.before in
-    let at-word = at-if2.before.before in
-    let a = at-word.before.before.before.args in
-    written_as _ _ a.core.now _ a.at _ (quoted-name a.work.now a.node _ at-word.word.ensures at-if2.if2.true _ at-number-of.number_of_lem.ensures) at-put-two2.put-two2.ensures
+    let a = c.args in
+    written_as _ _ a.core.now _ a.at _ (quoted-name a.work.now a.node _ c.word-kind.ensures c.if-kind-eq-NAME.true _ c.number_of-number.ensures) c.put_two.ensures
 
-quote-put-two-requires-3 : (t : ℕ) → quote-lts.Need-put-two-requires-3 (quote-claims t) (quote-at t) quote.Post
+quote-put-two-requires-3 : (t : ℕ) → quote-lts.Need-put_two-requires-then-kind-eq-EMPTY (quote-claims t) (quote-at t) quote.Post
 quote-put-two-requires-3 t c κs =
-    let at-if3 = c.before in
-    let at-word = at-if3.before.before.before in
-    let at-args = at-word.before.before.before in
-    let a = at-args.args in
-    omega (arith, at-args.requires.1.0, ap length (quoted-empty a.work.now a.node _ at-word.word.ensures at-if3.if3.true))
+    let a = c.args in
+    omega (arith, c.requires.1.0, ap length (quoted-empty a.work.now a.node _ c.word-kind.ensures c.if-kind-eq-EMPTY.true))
 
-quote-same-length-3 : (t : ℕ) → quote-lts.Need-same-length-3 (quote-claims t) (quote-at t) quote.Post
+quote-same-length-3 : (t : ℕ) → quote-lts.Need-shape_of-core-then-kind-eq-EMPTY (quote-claims t) (quote-at t) quote.Post
 quote-same-length-3 t c =
-    c.before.before.put-two3.auto.0
+    c.put_two-then-kind-eq-EMPTY.auto.core
 
-quote-returns-3 : (t : ℕ) → quote-lts.Need-returns-3 (quote-claims t) (quote-at t) quote.Post
+quote-returns-3 : (t : ℕ) → quote-lts.Need-returns-then-kind-eq-EMPTY (quote-claims t) (quote-at t) quote.Post
 quote-returns-3 t c =
-    let at-put-two3 = c.before.before in
-    let at-if3 = at-put-two3.before.before in
-    let at-word = at-if3.before.before.before in
-    let a = at-word.before.before.before.args in
-    written_as _ _ a.core.now _ a.at _ (quoted-empty a.work.now a.node _ at-word.word.ensures at-if3.if3.true) at-put-two3.put-two3.ensures
+    let a = c.args in
+    written_as _ _ a.core.now _ a.at _ (quoted-empty a.work.now a.node _ c.word-kind.ensures c.if-kind-eq-EMPTY.true) c.put_two-then-kind-eq-EMPTY.ensures
 
-quote-put-constant-requires : (t : ℕ) → quote-lts.Need-put-constant-requires (quote-claims t) (quote-at t) quote.Post
+quote-put-constant-requires : (t : ℕ) → quote-lts.Need-put_constant-requires (quote-claims t) (quote-at t) quote.Post
 quote-put-constant-requires t c κs =
-    let at-word3 = c.before in
-    let at-word2 = at-word3.before in
-    let at-if3 = at-word2.before in
-    let at-if2 = at-if3.before in
-    let at-if1 = at-if2.before in
-    let at-word = at-if1.before in
-    let s = at-word.before.before.before in
-    let a = s.args in
-    let w = at-word.word.ensures in
-    let x = at-if3.if3.false in
-    let y = at-if2.if2.false in
-    let z = at-if1.if1.false in
-    (omega (arith, s.requires.1.0, ap length (quoted-constant a.work.now a.node _ w x y z _ _ at-word2.word2.ensures at-word3.word3.ensures)), constant-small a.work.now a.node _ w x y z s.requires.1.1)
+    let a = c.args in
+    let w = c.word-kind.ensures in
+    let x = c.if-kind-eq-EMPTY.false in
+    let y = c.if-kind-eq-NAME.false in
+    let z = c.if-kind-eq-PAIR.false in
+    (omega (arith, c.requires.1.0, ap length (quoted-constant a.work.now a.node _ w x y z _ _ c.word-first.ensures c.word-second.ensures)), constant-small a.work.now a.node _ w x y z c.requires.1.1)
 
-quote-same-length-4 : (t : ℕ) → quote-lts.Need-same-length-4 (quote-claims t) (quote-at t) quote.Post
+quote-same-length-4 : (t : ℕ) → quote-lts.Need-shape_of-core (quote-claims t) (quote-at t) quote.Post
 quote-same-length-4 t c =
-    c.before.before.put-constant.auto.0
+    c.put_constant.auto.core
 
-quote-returns-4 : (t : ℕ) → quote-lts.Need-returns-4 (quote-claims t) (quote-at t) quote.Post
+quote-returns-4 : (t : ℕ) → quote-lts.Need-returns (quote-claims t) (quote-at t) quote.Post
 quote-returns-4 t c =
-    let at-put-constant = c.before.before in
-    let at-word3 = at-put-constant.before.before in
-    let at-word2 = at-word3.before in
-    let at-if3 = at-word2.before in
-    let at-if2 = at-if3.before in
-    let at-if1 = at-if2.before in
-    let at-word = at-if1.before in
-    let a = at-word.before.before.before.args in
-    written_as _ _ a.core.now _ a.at _ (quoted-constant a.work.now a.node _ at-word.word.ensures at-if3.if3.false at-if2.if2.false at-if1.if1.false _ _ at-word2.word2.ensures at-word3.word3.ensures) at-put-constant.put-constant.ensures
+    let a = c.args in
+    written_as _ _ a.core.now _ a.at _ (quoted-constant a.work.now a.node _ c.word-kind.ensures c.if-kind-eq-EMPTY.false c.if-kind-eq-NAME.false c.if-kind-eq-PAIR.false _ _ c.word-first.ensures c.word-second.ensures) c.put_constant.ensures
 
-abbrev quote-all-Inv-loop : quote-all-lts.invariant-loop
+abbrev quote-all-Inv-loop : quote-all-lts.invariant-loop-first
 quote-all-Inv-loop work list core₀ at rest₀ n₀ core rest n =
     Walked work list at core₀ rest n core
 
-abbrev quote-all-μ-loop : quote-all-lts.decreases-loop
+abbrev quote-all-μ-loop : quote-all-lts.decreases-loop-first
 quote-all-μ-loop work list core₀ at rest₀ n₀ core rest n =
     rest
 
-quote-all-loop-holds : (t : ℕ) → quote-all-lts.Need-loop-init (quote-all-claims t) (quote-all-at t) quote-all.Post quote-all-Inv-loop quote-all-μ-loop
+quote-all-loop-holds : (t : ℕ) → quote-all-lts.Need-loop-first-init (quote-all-claims t) (quote-all-at t) quote-all.Post quote-all-Inv-loop quote-all-μ-loop
 quote-all-loop-holds t c =
-    let a = c.before.before.args in
-    walked_none a.work.now a.list a.at a.core.now c.before.before.requires.1.1
+    let a = c.args in
+    walked_none a.work.now a.list a.at a.core.now c.requires.1.1
 
-quote-all-quote-requires : (t : ℕ) → quote-all-lts.Need-quote-requires (quote-all-claims t) (quote-all-at t) quote-all.Post quote-all-Inv-loop quote-all-μ-loop
+quote-all-quote-requires : (t : ℕ) → quote-all-lts.Need-quote-n-requires (quote-all-claims t) (quote-all-at t) quote-all.Post quote-all-Inv-loop quote-all-μ-loop
 quote-all-quote-requires t c κs =
-    let at-reference = c.before in
-    let at-if1 = at-reference.before in
-    let at-word = at-if1.before in
-    let at-loop = at-word.before in
-    let at-args = at-loop.before.before.before in
-    let a = at-args.args in (
-      omega (arith, at-args.requires.0, first-low a.work.now a.list a.at a.core.now _ _ _ at-loop.loop.invariant _ at-word.word.ensures at-if1.if1.true _ at-reference.reference.ensures),
+    let a = c.args in (
+      omega (arith, c.requires.0, first-low a.work.now a.list a.at a.core.now _ _ _ c.loop-first.invariant _ c.word.ensures c.loop-first-test.true _ c.reference-first.ensures),
       (
-        walked-room a.work.now a.list a.at a.core.now _ _ _ at-loop.loop.invariant _ at-word.word.ensures at-if1.if1.true _ at-reference.reference.ensures at-args.requires.1.0,
-        first-quotable a.work.now a.list a.at a.core.now _ _ _ at-loop.loop.invariant _ at-word.word.ensures at-if1.if1.true _ at-reference.reference.ensures,
+        walked-room a.work.now a.list a.at a.core.now _ _ _ c.loop-first.invariant _ c.word.ensures c.loop-first-test.true _ c.reference-first.ensures c.requires.1.0,
+        first-quotable a.work.now a.list a.at a.core.now _ _ _ c.loop-first.invariant _ c.word.ensures c.loop-first-test.true _ c.reference-first.ensures,
       ),
     )
 
-quote-all-loop-less : (t : ℕ) → quote-all-lts.Need-loop-smaller (quote-all-claims t) (quote-all-at t) quote-all.Post quote-all-Inv-loop quote-all-μ-loop
+quote-all-loop-less : (t : ℕ) → quote-all-lts.Need-loop-first-smaller (quote-all-claims t) (quote-all-at t) quote-all.Post quote-all-Inv-loop quote-all-μ-loop
 quote-all-loop-less t c =
-    let at-reference = c.before.before.before.before.before in
-    let at-if1 = at-reference.before in
-    let at-word = at-if1.before in
-    let at-loop = at-word.before in
-    let a = at-loop.before.before.before.args in
-    after-falls a.work.now a.list a.at a.core.now _ _ _ at-loop.loop.invariant _ at-word.word.ensures at-if1.if1.true _ at-reference.reference.ensures _ c.reference2.ensures
+    let a = c.args in
+    after-falls a.work.now a.list a.at a.core.now _ _ _ c.loop-first.invariant _ c.word.ensures c.loop-first-test.true _ c.reference-first.ensures _ c.reference-rest.ensures
 
-quote-all-loop-again : (t : ℕ) → quote-all-lts.Need-loop-preserved (quote-all-claims t) (quote-all-at t) quote-all.Post quote-all-Inv-loop quote-all-μ-loop
+quote-all-loop-again : (t : ℕ) → quote-all-lts.Need-loop-first-preserved (quote-all-claims t) (quote-all-at t) quote-all.Post quote-all-Inv-loop quote-all-μ-loop
 quote-all-loop-again t c =
-    let at-quote = c.before.before.before in
-    let at-reference = at-quote.before.before in
-    let at-if1 = at-reference.before in
-    let at-word = at-if1.before in
-    let at-loop = at-word.before in
-    let at-args = at-loop.before.before.before in
-    let a = at-args.args in
-    walked_more a.work.now a.list a.at a.core.now _ _ _ at-loop.loop.invariant _ at-word.word.ensures at-if1.if1.true _ at-reference.reference.ensures at-args.requires.1.0 _ c.reference2.ensures _ _ at-quote.quote.auto.1.1.0 at-quote.quote.ensures
+    let a = c.args in
+    walked_more a.work.now a.list a.at a.core.now _ _ _ c.loop-first.invariant _ c.word.ensures c.loop-first-test.true _ c.reference-first.ensures c.requires.1.0 _ c.reference-rest.ensures _ _ c.quote-n.auto.core c.quote-n.ensures
 
-quote-all-same-length : (t : ℕ) → quote-all-lts.Need-same-length (quote-all-claims t) (quote-all-at t) quote-all.Post quote-all-Inv-loop quote-all-μ-loop
+quote-all-same-length : (t : ℕ) → quote-all-lts.Need-shape_of-core (quote-all-claims t) (quote-all-at t) quote-all.Post quote-all-Inv-loop quote-all-μ-loop
 quote-all-same-length t c =
-    c.before.before.loop.invariant.same
+    c.loop-first.invariant.same
 
 quote-all-returns : (t : ℕ) → quote-all-lts.Need-returns (quote-all-claims t) (quote-all-at t) quote-all.Post quote-all-Inv-loop quote-all-μ-loop
 quote-all-returns t c =
-    let a = c.before.before.before.before.before.args in
-    walked_end a.work.now a.list a.at a.core.now _ _ _ c.before.before.loop.invariant _ c.before.word.ensures c.if1.false
+    let a = c.args in
+    walked_end a.work.now a.list a.at a.core.now _ _ _ c.loop-first.invariant _ c.word.ensures c.loop-first-test.false
 
-pub +quote-quote-all-spec : {M : Type 1} → statement M
-+quote-quote-all-spec = close μ-quote μ-quote-all (λ t. quote-lts.spec (quote-claims t) (quote-at t)
+pub +quote_quote_all_spec : {M : Type 1} → statement M
++quote_quote_all_spec = close μ-quote μ-quote-all (λ t. quote-lts.spec (quote-claims t) (quote-at t)
     quote.Post
     (λ c κs. search rules)  -- quote-word-requires
     (λ c κs. search rules)  -- quote-count-requires

@@ -7,35 +7,32 @@ use native.Mathlib.Omega.{arith}
 use lib.ListN.{length-set}
 use Rattle.forms.specs.QuoteLaws.{decimal-room, other-room, written-decimal, written-other}
 
-put-two-requires : tie.Need-put-two-requires
+put-two-requires : tie.Need-put_two-requires
 put-two-requires c κs =
-    let a = c.before.before.before.args in other-room a.core.now a.at a.kind a.first a.second c.before.before.before.requires.0 c.before.if1.true
+    let a = c.args in other-room a.core.now a.at a.kind a.first a.second c.requires.0 c.if-kind-ne-DECIMAL.true
 
-returns : tie.Need-returns
+returns : tie.Need-returns-then-kind-ne-DECIMAL
 returns c =
-    let at-put-two = c.before.before in
-    let at-if1 = at-put-two.before.before in
-    let at-args = at-if1.before.before in
-    let a = at-args.args in written-other a.core.now a.at a.kind a.first a.second at-args.requires.0 at-if1.if1.true _ _ at-put-two.put_two.ensures
+    let a = c.args in written-other a.core.now a.at a.kind a.first a.second c.requires.0 c.if-kind-ne-DECIMAL.true _ _ c.put_two.ensures
 
-slice-write-core : tie.Need-slice-write-core
+slice-write-core : tie.Need-bounds-core-at
 slice-write-core c =
-    let a = c.before.before.args in omega (arith, decimal-room a.core.now a.at a.kind a.first a.second c.before.before.requires.0 c.if1.false)
+    let a = c.args in omega (arith, decimal-room a.core.now a.at a.kind a.first a.second c.requires.0 c.if-kind-ne-DECIMAL.false)
 
-slice-write-core-2 : tie.Need-slice-write-core-2
+slice-write-core-2 : tie.Need-bounds-core-at-2
 slice-write-core-2 c =
-    let a = c.before.before.args in simp length-set (omega (arith, decimal-room a.core.now a.at a.kind a.first a.second c.before.before.requires.0 c.if1.false))
+    let a = c.args in simp length-set (omega (arith, decimal-room a.core.now a.at a.kind a.first a.second c.requires.0 c.if-kind-ne-DECIMAL.false))
 
-slice-write-core-3 : tie.Need-slice-write-core-3
+slice-write-core-3 : tie.Need-bounds-core-at-3
 slice-write-core-3 c =
-    let a = c.before.before.args in simp length-set (omega (arith, decimal-room a.core.now a.at a.kind a.first a.second c.before.before.requires.0 c.if1.false))
+    let a = c.args in simp length-set (omega (arith, decimal-room a.core.now a.at a.kind a.first a.second c.requires.0 c.if-kind-ne-DECIMAL.false))
 
-returns-2 : tie.Need-returns-2
+returns-2 : tie.Need-returns
 returns-2 c =
-    let a = c.before.before.args in written-decimal a.core.now a.at a.kind a.first a.second c.before.before.requires.0 c.if1.false
+    let a = c.args in written-decimal a.core.now a.at a.kind a.first a.second c.requires.0 c.if-kind-ne-DECIMAL.false
 
-pub put-constant-spec : {M : Type 1} → statement M
-put-constant-spec =
+pub put_constant_spec : {M : Type 1} → statement M
+put_constant_spec =
     tie.close
     (tie.spec
     (λ c. search rules)  -- add-put-two

@@ -6,7 +6,7 @@ use native.Mathlib.Omega.{arith}
 use lib.ListN.{length-set}
 use Rattle.forms.specs.QuoteLaws.{written-two}
 
-slice-write-core-2 : tie.Need-slice-write-core-2
+slice-write-core-2 : tie.Need-bounds-core-at-2
 slice-write-core-2 c =
     simp length-set (omega arith)
 
@@ -15,8 +15,8 @@ returns c =
     let a = c.args in
     written-two a.core.now a.at a.a a.b c.requires
 
-pub put-two-spec : {M : Type 1} → statement M
-put-two-spec =
+pub put_two_spec : {M : Type 1} → statement M
+put_two_spec =
     tie.close
     (tie.spec
     (λ c. search rules)  -- mul-core

@@ -4,23 +4,23 @@ use Rattle.forms.proofs.shapes.binds_one.Statement.{statement}
 use Rattle.forms.proofs.shapes.binds_one.Tie as tie
 use Rattle.forms.specs.ShapeLaws.{one-macro, one-formal}
 
-is-macro-requires : tie.Need-is-macro-requires
+is-macro-requires : tie.Need-is_macro-requires
 is-macro-requires c κs =
     search rules
 
-returns : tie.Need-returns
+returns : tie.Need-returns-then-entries
 returns c =
-    let a = c.before.before.before.args in
-    one-macro a.work.now a.node a.entries _ c.before.if1.true c.is-macro.ensures
+    let a = c.args in
+    one-macro a.work.now a.node a.entries _ c.if-entries.true c.is_macro.ensures
 
-is-ordinary-requires : tie.Need-is-ordinary-requires
+is-ordinary-requires : tie.Need-is_ordinary-requires
 is-ordinary-requires c κs =
     search rules
 
-returns-2 : tie.Need-returns-2
+returns-2 : tie.Need-returns
 returns-2 c =
-    let a = c.before.before.before.args in
-    one-formal a.work.now a.node a.entries _ c.before.if1.false c.is-ordinary.ensures
+    let a = c.args in
+    one-formal a.work.now a.node a.entries _ c.if-entries.false c.is_ordinary.ensures
 
-pub binds-one-spec : {M : Type 1} → statement M
-binds-one-spec = tie.close (tie.spec is-macro-requires returns is-ordinary-requires returns-2)
+pub binds_one_spec : {M : Type 1} → statement M
+binds_one_spec = tie.close (tie.spec is-macro-requires returns is-ordinary-requires returns-2)

@@ -5,29 +5,29 @@ use Rattle.forms.proofs.shapes.is_macro.Tie as tie
 use borrow.Author.Tests.{not-true, not-false}
 use Rattle.forms.specs.ShapeLaws.{macro-shape, macro-name}
 
-is-list-of-requires : tie.Need-is-list-of-requires
+is-list-of-requires : tie.Need-is_list_of-requires
 is-list-of-requires c κs =
     search rules
 
-returns : tie.Need-returns
+returns : tie.Need-returns-then-not-is_list_of
 returns c =
-    let a = c.before.before.before.args in
-    macro-shape a.work.now a.node _ c.before.is-list-of.ensures (not-true _ c.if1.true)
+    let a = c.args in
+    macro-shape a.work.now a.node _ c.is_list_of.ensures (not-true _ c.if-not-is_list_of.true-raw)
 
-element-requires : tie.Need-element-requires
+element-requires : tie.Need-element-own-requires
 element-requires c κs =
     search rules
 
-is-ordinary-requires : tie.Need-is-ordinary-requires
+is-ordinary-requires : tie.Need-is_ordinary-requires
 is-ordinary-requires c κs =
     search rules
 
-returns-2 : tie.Need-returns-2
+returns-2 : tie.Need-returns
 returns-2 c =
-    let a = c.before.before.before.before.before.args in
-    macro-name a.work.now a.node _ c.before.before.before.is-list-of.ensures (not-false _ c.before.before.if1.false) _ _ c.before.element.ensures c.is-ordinary.ensures
+    let a = c.args in
+    macro-name a.work.now a.node _ c.is_list_of.ensures (not-false _ c.if-not-is_list_of.false-raw) _ _ c.element-own.ensures c.is_ordinary.ensures
 
-pub is-macro-spec : {M : Type 1} → statement M
-is-macro-spec =
+pub is_macro_spec : {M : Type 1} → statement M
+is_macro_spec =
     tie.close
     (tie.spec is-list-of-requires returns element-requires is-ordinary-requires returns-2)

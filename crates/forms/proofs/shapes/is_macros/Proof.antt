@@ -5,31 +5,23 @@ use Rattle.forms.proofs.shapes.is_macros.Tie as tie
 use borrow.Author.Tests.{not-true, not-false}
 use Rattle.forms.specs.ShapeLaws.{macros-shape, macros-none, macros-all}
 
-returns : tie.Need-returns
+returns : tie.Need-returns-then-not-is_list_of
 returns c =
-    let a = c.before.before.before.args in
-    macros-shape a.work.now a.node _ c.before.is-list-of.ensures a.limit (not-true _ c.if1.true)
+    let a = c.args in
+    macros-shape a.work.now a.node _ c.is_list_of.ensures a.limit (not-true _ c.if-not-is_list_of.true-raw)
 
-returns-2 : tie.Need-returns-2
+returns-2 : tie.Need-returns-then-word-ne-PAIR
 returns-2 c =
-    let at-word = c.before in
-    let at-element = at-word.before in
-    let at-is-list-of = at-element.before.before in
-    let a = at-is-list-of.before.before.args in
-    macros-none a.work.now a.node _ at-is-list-of.is-list-of.ensures _ at-element.element.ensures _ at-word.word.ensures a.limit c.if2.true
+    let a = c.args in
+    macros-none a.work.now a.node _ c.is_list_of.ensures _ c.element-list.ensures _ c.word.ensures a.limit c.if-word-ne-PAIR.true
 
-returns-3 : tie.Need-returns-3
+returns-3 : tie.Need-returns
 returns-3 c =
-    let at-if2 = c.before in
-    let at-word = at-if2.before in
-    let at-element = at-word.before in
-    let at-if1 = at-element.before in
-    let at-is-list-of = at-if1.before in
-    let a = at-is-list-of.before.before.args in
-    macros-all a.work.now a.node _ at-is-list-of.is-list-of.ensures _ at-element.element.ensures _ at-word.word.ensures a.limit (not-false _ at-if1.if1.false) _ at-if2.if2.false c.binds-all.ensures
+    let a = c.args in
+    macros-all a.work.now a.node _ c.is_list_of.ensures _ c.element-list.ensures _ c.word.ensures a.limit (not-false _ c.if-not-is_list_of.false-raw) _ c.if-word-ne-PAIR.false c.binds_all.ensures
 
-pub is-macros-spec : {M : Type 1} → statement M
-is-macros-spec =
+pub is_macros_spec : {M : Type 1} → statement M
+is_macros_spec =
     tie.close
     (tie.spec
     (λ c κs. search rules)  -- is-list-of-requires

@@ -8,15 +8,15 @@ element-requires : tie.Need-element-requires
 element-requires c κs =
     search rules
 
-returns : tie.Need-returns
+returns : tie.Need-returns-then-entries
 returns c =
-    let a = c.before.before.before.args in
-    own-macro a.work.now a.node _ a.entries c.before.if1.true c.element.ensures
+    let a = c.args in
+    own-macro a.work.now a.node _ a.entries c.if-entries.true c.element.ensures
 
-returns-2 : tie.Need-returns-2
+returns-2 : tie.Need-returns
 returns-2 c =
-    let a = c.before.before.args in
-    own-formal a.work.now a.node a.entries c.if1.false
+    let a = c.args in
+    own-formal a.work.now a.node a.entries c.if-entries.false
 
-pub own-name-spec : {M : Type 1} → statement M
-own-name-spec = tie.close (tie.spec element-requires returns returns-2)
+pub own_name_spec : {M : Type 1} → statement M
+own_name_spec = tie.close (tie.spec element-requires returns returns-2)

@@ -11,34 +11,30 @@ use Rattle.layout.specs.Walk.{item-words}
 
 kind-requires : tie.Need-kind-requires
 kind-requires c κs =
-    let a = c.before.args in item-words a.i c.before.requires.0 c.before.requires.1
+    let a = c.args in item-words a.i c.requires.0 c.requires.1
 
-returns : tie.Need-returns
+returns : tie.Need-returns-then-kind-ne-NAME
 returns c =
-    let start = c.before.before.before in
-    let a = start.args in
-    sym (fit-other a.table.now start.requires.0 a.i start.requires.1 (passes a.low) (λ q. c.if1.true (c.before.kind.ensures ∙ q)))
+    let a = c.args in
+    sym (fit-other a.table.now c.requires.0 a.i c.requires.1 (passes a.low) (λ q. c.if-kind-ne-NAME.true (c.kind.ensures ∙ q)))
 
-head-requires : tie.Need-head-requires
+head-requires : tie.Need-head-number-requires
 head-requires c κs =
-    let start = c.before.before.before in
-    let a = start.args in
-    item-words a.i start.requires.0 start.requires.1
+    let a = c.args in
+    item-words a.i c.requires.0 c.requires.1
 
-returns-2 : tie.Need-returns-2
+returns-2 : tie.Need-returns-then-number-low
 returns-2 c =
-    let start = c.before.before.before.before.before in
-    let a = start.args in
-    let h : head_at a.table.now a.i < a.low = omega (arith, c.before.head.ensures, c.if2.true) in
-    sym (fit_low a.table.now start.requires.0 a.i start.requires.1 a.low (sym c.before.before.before.kind.ensures ∙ c.before.before.if1.false) h)
+    let a = c.args in
+    let h : head_at a.table.now a.i < a.low = omega (arith, c.head-number.ensures, c.if-number-low.true) in
+    sym (fit_low a.table.now c.requires.0 a.i c.requires.1 a.low (sym c.kind.ensures ∙ c.if-kind-ne-NAME.false) h)
 
-returns-3 : tie.Need-returns-3
+returns-3 : tie.Need-returns
 returns-3 c =
-    let start = c.before.before.before.before.before in
-    let a = start.args in
-    let h : a.low ≤ head_at a.table.now a.i = omega (arith, c.before.head.ensures, c.if2.false) in
-    rw c.before.head.ensures (sym (fit-else a.table.now start.requires.0 a.i start.requires.1 a.low (sym c.before.before.before.kind.ensures ∙ c.before.before.if1.false) h))
+    let a = c.args in
+    let h : a.low ≤ head_at a.table.now a.i = omega (arith, c.head-number.ensures, c.if-number-low.false) in
+    rw c.head-number.ensures (sym (fit-else a.table.now c.requires.0 a.i c.requires.1 a.low (sym c.kind.ensures ∙ c.if-kind-ne-NAME.false) h))
 
-pub is-fit-spec : {M : Type 1} → statement M
-is-fit-spec =
+pub is_fit_spec : {M : Type 1} → statement M
+is_fit_spec =
     tie.close (tie.spec kind-requires returns head-requires returns-2 returns-3)

@@ -16,51 +16,45 @@ use Rattle.recipe.specs.Table.{kind_at}
 use Rattle.recipe.specs.TreeFrom.{tail_at}
 use Rattle.layout.specs.ItemTests.{item-decimal, item-unused, item-empty, item-integer, item-boolean, item-name, item-other}
 
-returns : tie.Need-returns
+returns : tie.Need-returns-then-k-eq-DECIMAL
 returns c =
-    let a = c.before.before.before.before.before.args in let ws = a.table.now in
-    λ n. c.are-places.ensures ∙ ap (within 1 places_most) c.before.before.tail.ensures ∙ sym (item-decimal ws n a.i (sym c.before.before.before.kind.ensures ∙ c.before.if1.true))
+    let a = c.args in let ws = a.table.now in
+    λ n. c.are_places.ensures ∙ ap (within 1 places_most) c.tail-last.ensures ∙ sym (item-decimal ws n a.i (sym c.kind-k.ensures ∙ c.if-k-eq-DECIMAL.true))
 
-returns-2 : tie.Need-returns-2
+returns-2 : tie.Need-returns-then-last-ne0
 returns-2 c =
-    let at-if1 = c.before in
-    let at_tail = at-if1.before in
-    let at-kind = at_tail.before in
-    let at-args = at-kind.before.before in
-    let a = at-args.args in let ws = a.table.now in
-    let t : tail_at ws a.i ≡ 0 → ⊥ = λ e. c.if2.true (at_tail.tail.ensures ∙ e) in
-    λ n. sym (item-unused ws n a.i at-args.requires.1 (λ e. at-if1.if1.false (at-kind.kind.ensures ∙ e)) t)
+    let a = c.args in let ws = a.table.now in
+    let t : tail_at ws a.i ≡ 0 → ⊥ = λ e. c.if-last-ne0.true (c.tail-last.ensures ∙ e) in
+    λ n. sym (item-unused ws n a.i c.requires.1 (λ e. c.if-k-eq-DECIMAL.false (c.kind-k.ensures ∙ e)) t)
 
-returns-3 : tie.Need-returns-3
+returns-3 : tie.Need-returns-then-k-eq-EMPTY
 returns-3 c =
-    let a = c.before.before.before.before.before.before.before.args in let ws = a.table.now in
-    λ n. ap (λ w. eqb w 0) c.before.head.ensures ∙ sym (item-empty ws n a.i (omega arith) (omega arith))
+    let a = c.args in let ws = a.table.now in
+    λ n. ap (λ w. eqb w 0) c.head-word.ensures ∙ sym (item-empty ws n a.i (omega arith) (omega arith))
 
-returns-4 : tie.Need-returns-4
+returns-4 : tie.Need-returns-then-k-eq-INTEGER
 returns-4 c =
-    let a = c.before.before.before.before.before.before.before.before.args in let ws = a.table.now in
+    let a = c.args in let ws = a.table.now in
     λ n. sym (item-integer ws n a.i (omega arith) (omega arith))
 
-returns-5 : tie.Need-returns-5
+returns-5 : tie.Need-returns-then-k-eq-BOOLEAN
 returns-5 c =
-    let at_head = c.before.before.before in
-    let a = at_head.before.before.before.before.before.before.args in let ws = a.table.now in
-    λ n. ap (λ w. ltb w 2) at_head.head.ensures ∙ sym (item-boolean ws n a.i (omega arith) (omega arith))
+    let a = c.args in let ws = a.table.now in
+    λ n. ap (λ w. ltb w 2) c.head-word.ensures ∙ sym (item-boolean ws n a.i (omega arith) (omega arith))
 
-returns-6 : tie.Need-returns-6
+returns-6 : tie.Need-returns-then-k-eq-NAME
 returns-6 c =
-    let at_head = c.before.before.before.before in
-    let a = at_head.before.before.before.before.before.before.args in let ws = a.table.now in
-    λ n. ap (λ w. ltb w names_most) at_head.head.ensures ∙ sym (item-name ws n a.i (omega arith) (omega arith))
+    let a = c.args in let ws = a.table.now in
+    λ n. ap (λ w. ltb w names_most) c.head-word.ensures ∙ sym (item-name ws n a.i (omega arith) (omega arith))
 
-returns-7 : tie.Need-returns-7
+returns-7 : tie.Need-returns
 returns-7 c =
-    let a = c.before.before.before.before.before.before.before.before.before.before.args in let ws = a.table.now in
+    let a = c.args in let ws = a.table.now in
     let h : 4 < kind_at ws a.i = omega arith in
-    λ n. sym (item-other ws n a.i h (λ e. c.before.before.before.before.before.before.if1.false (c.before.before.before.before.before.before.before.before.kind.ensures ∙ e)))
+    λ n. sym (item-other ws n a.i h (λ e. c.if-k-eq-DECIMAL.false (c.kind-k.ensures ∙ e)))
 
-pub is-leaf-spec : {M : Type 1} → statement M
-is-leaf-spec =
+pub is_leaf_spec : {M : Type 1} → statement M
+is_leaf_spec =
     tie.close
     (tie.spec
     (λ c κs. search rules)  -- kind-requires

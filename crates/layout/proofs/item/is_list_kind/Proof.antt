@@ -4,15 +4,15 @@ use Rattle.layout.proofs.item.is_list_kind.Tie as tie
 use borrow.Author.Tests.{ne_eqb}
 use Rattle.recipe.specs.Layout.{is_list_kind}
 
-returns : tie.Need-returns
+returns : tie.Need-returns-then-k-eq-EMPTY
 unfolding is_list_kind
 returns c =
-    rw c.if1.true
+    rw c.if-k-eq-EMPTY.true
 
-returns-2 : tie.Need-returns-2
+returns-2 : tie.Need-returns
 unfolding is_list_kind
 returns-2 c =
-    rw (ne_eqb _ _ c.if1.false)
+    rw (ne_eqb _ _ c.if-k-eq-EMPTY.false)
 
-pub is-list-kind-spec : {M : Type 1} → statement M
-is-list-kind-spec = tie.close (tie.spec returns returns-2)
+pub is_list_kind_spec : {M : Type 1} → statement M
+is_list_kind_spec = tie.close (tie.spec returns returns-2)

@@ -5,15 +5,15 @@ use Rattle.layout.proofs.item.kind.Tie as tie
 use mathlib.Core.Path.{refl}
 use Rattle.recipe.specs.Table.{kind_at}
 
-mul-result : tie.Need-overflow-mul-result
+mul-result : tie.Need-overflow_mul-result
 mul-result c =
     search rules
 
-mul-result-2 : tie.Need-overflow-mul-result-2
+mul-result-2 : tie.Need-offset_bounds-table-i
 mul-result-2 c =
     search rules
 
-shared-slice-read-result : tie.Need-shared-slice-read-result
+shared-slice-read-result : tie.Need-bounds-table-i
 shared-slice-read-result c =
     search rules
 
@@ -22,5 +22,5 @@ unfolding kind_at
 returns c =
     refl
 
-pub kind-spec : {M : Type 1} → statement M
-kind-spec = tie.close (tie.spec mul-result mul-result-2 shared-slice-read-result returns)
+pub kind_spec : {M : Type 1} → statement M
+kind_spec = tie.close (tie.spec mul-result mul-result-2 shared-slice-read-result returns)

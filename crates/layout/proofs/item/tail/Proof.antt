@@ -8,8 +8,8 @@ returns : tie.Need-returns
 unfolding tail_at
 returns c = c.word.ensures
 
-pub tail-spec : {M : Type 1} → statement M
-tail-spec =
+pub tail_spec : {M : Type 1} → statement M
+tail_spec =
     tie.close
     (tie.spec
     (λ c. search rules)  -- mul-word

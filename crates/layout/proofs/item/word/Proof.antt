@@ -3,11 +3,11 @@ use Rattle.layout.proofs.item.word.Statement.{statement}
 use Rattle.layout.proofs.item.word.Tie as tie
 use native.Mathlib.Omega.{arith}
 
-cast-result : tie.Need-overflow-cast-result
-cast-result c = omega (arith, c.shared-slice-known.given c.before.args.at)
+cast-result : tie.Need-overflow_cast-result
+cast-result c = omega (arith, c.shared_slice_known-1.given c.args.at)
 
-pub word-spec : {M : Type 1} → statement M
-word-spec =
+pub word_spec : {M : Type 1} → statement M
+word_spec =
     tie.close
     (tie.spec
     (λ c. search rules)  -- mul-result

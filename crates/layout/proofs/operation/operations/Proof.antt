@@ -19,26 +19,22 @@ laid c = layout c.args.table.now c.requires.0
 head-requires : tie.Need-head-requires
 head-requires c κs = let l = laid c.before.before in item-words 0 l (omega (arith, l.least))
 
-distinct-names-requires : tie.Need-distinct-names-requires
+distinct-names-requires : tie.Need-distinct_names-requires
 distinct-names-requires c κs =
-    let start = c.before.before.before.before in
-    (subst (ListItem start.args.table.now) (sym c.before.head.ensures) (first-item (laid start)), omega arith, start.requires.1, start.requires.2)
+    (subst (ListItem c.args.table.now) (sym c.head.ensures) (first-item (laid c.before.before.before.before)), omega arith, c.requires.1, c.requires.2)
 
 returns : tie.Need-returns
 returns c =
-    let at-distinct-names = c.before.before in
-    let at_head = at-distinct-names.before.before in
-    let start = at_head.before.before.before in
-    let first = at_head.head.ensures in
-    let ws = start.args.table.now in
-    let places = at-distinct-names.distinct-names.new.1.1.1.1.0 in
-    let tested = at-distinct-names.distinct-names.ensures in (
-      tested.0 ∙ ap (λ (i : ℕ). are_names (passes 0) operations_most (tree_from ws i)) first ∙ sym (by_first (laid start)),
-      λ q. places-first (laid start) places (subst (λ (i : ℕ). Places places (numbers (names (tree_from ws i)))) first (tested.1 q)),
+    let first = c.head.ensures in
+    let ws = c.args.table.now in
+    let places = c.distinct_names.new.places in
+    let tested = c.distinct_names.ensures in (
+      tested.0 ∙ ap (λ (i : ℕ). are_names (passes 0) operations_most (tree_from ws i)) first ∙ sym (by_first (laid c.before.before.before.before.before.before.before)),
+      λ q. places-first (laid c.before.before.before.before.before.before.before) places (subst (λ (i : ℕ). Places places (numbers (names (tree_from ws i)))) first (tested.1 q)),
     )
 
-pub operations-spec : {M : Type 1} → statement M
-operations-spec =
+pub operations_spec : {M : Type 1} → statement M
+operations_spec =
     tie.close
     (tie.spec
     head-requires

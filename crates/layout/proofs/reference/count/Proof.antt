@@ -5,13 +5,13 @@ use Rattle.layout.proofs.reference.count.Tie as tie
 use native.Mathlib.Omega.{arith}
 use Rattle.layout.specs.Counts.{counted-one}
 
-add-counts : tie.Need-overflow-add-counts
+add-counts : tie.Need-overflow_add-counts
 add-counts c =
-    omega (arith, c.before.requires.1 c.before.args.k c.before.requires.0)
+    omega (arith, c.requires.1 c.args.k c.requires.0)
 
 returns : tie.Need-returns
 returns c =
-    counted-one c.before.args.counts.now c.before.args.k c.before.requires.0
+    counted-one c.args.counts.now c.args.k c.requires.0
 
 pub count_spec : {M : Type 1} → statement M
 count_spec =

@@ -5,18 +5,18 @@ use Rattle.layout.proofs.reference.every_item.Tie as tie
 use Rattle.words.specs.Limits.{items_most}
 use Rattle.layout.specs.Counts.{most-zero}
 
-items-good-requires : tie.Need-items-good-requires
+items-good-requires : tie.Need-items_good-requires
 items-good-requires c κs =
-    let pre = c.before.before.before.requires in
-    (pre.0, pre.1, pre.2, c.before.if1.true, most-zero 512)
+    let pre = c.requires in
+    (pre.0, pre.1, pre.2, c.if-n-le-FEW_ITEMS.true, most-zero 512)
 
-items-good-requires-2 : tie.Need-items-good-requires-2
+items-good-requires-2 : tie.Need-items_good-requires-2
 items-good-requires-2 c κs =
-    let pre = c.before.before.before.requires in
+    let pre = c.requires in
     (pre.0, pre.1, pre.2, pre.2, most-zero items_most)
 
-pub every-item-spec : {M : Type 1} → statement M
-every-item-spec =
+pub every_item_spec : {M : Type 1} → statement M
+every_item_spec =
     tie.close
     (tie.spec
     (λ c. search rules)  -- slice-aggregate-items-good

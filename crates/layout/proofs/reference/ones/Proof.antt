@@ -8,31 +8,30 @@ use lib.Dec.{eqb}
 use borrow.Author.Rules.{rules}
 use Rattle.layout.specs.Counts.{are_ones, ones-more}
 
-abbrev invariant-loop : tie.invariant-loop
+abbrev invariant-loop : tie.invariant-loop-i
 invariant-loop counts n wrong₀ i₀ wrong i =
     (0 < i) × (i ≤ n) × (eqb wrong 0 ≡ are_ones counts i)
 
-abbrev decreases-loop : tie.decreases-loop
+abbrev decreases-loop : tie.decreases-loop-i
 decreases-loop counts n wrong₀ i₀ wrong i =
     n - i
 
-loop-holds : tie.Need-loop-init invariant-loop decreases-loop
+loop-holds : tie.Need-loop-i-init invariant-loop decreases-loop
 unfolding are_ones
 loop-holds c =
     (omega arith, omega arith, refl)
 
-loop-again : tie.Need-loop-preserved invariant-loop decreases-loop
+loop-again : tie.Need-loop-i-preserved invariant-loop decreases-loop
 loop-again c =
-    let loop = c.before.before.loop in
-    (omega arith, omega arith, ones-more loop.wrong loop.i c.before.before.before.args.counts.now loop.invariant.0 loop.invariant.2)
+    (omega arith, omega arith, ones-more c.loop-i.wrong c.loop-i.i c.args.counts.now c.loop-i.invariant.0 c.loop-i.invariant.2)
 
 returns : tie.Need-returns invariant-loop decreases-loop
 returns c =
-    let a = c.before.before.args in let e : c.before.loop.i ≡ a.n = omega arith in
-    c.before.loop.invariant.2 ∙ ap (are_ones a.counts.now) e
+    let a = c.args in let e : c.loop-i.i ≡ a.n = omega arith in
+    c.loop-i.invariant.2 ∙ ap (are_ones a.counts.now) e
 
-pub ones-spec : {M : Type 1} → statement M
-ones-spec =
+pub ones_spec : {M : Type 1} → statement M
+ones_spec =
     tie.close
     (tie.spec
     invariant-loop

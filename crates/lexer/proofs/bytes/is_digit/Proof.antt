@@ -4,15 +4,15 @@ use Rattle.words.specs.Lists.{within}
 use Rattle.reading.specs.Token.{is_digit}
 use borrow.Author.Tests.{le-leb, lt-leb}
 
-returns : tie.Need-returns
+returns : tie.Need-returns-then-b-ge48
 unfolding is_digit within
 returns c =
-    rw (le-leb 48 c.before.args.b c.if1.true)
+    rw (le-leb 48 c.args.b c.if-b-ge48.true)
 
-returns-2 : tie.Need-returns-2
+returns-2 : tie.Need-returns-else-b-ge48
 unfolding is_digit within
 returns-2 c =
-    rw (lt-leb 48 c.before.args.b c.if1.false)
+    rw (lt-leb 48 c.args.b c.if-b-ge48.false)
 
-pub is-digit-spec : {M : Type 1} → statement M
-is-digit-spec = tie.close (tie.spec returns returns-2)
+pub is_digit_spec : {M : Type 1} → statement M
+is_digit_spec = tie.close (tie.spec returns returns-2)

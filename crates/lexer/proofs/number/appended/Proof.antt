@@ -4,18 +4,18 @@ use Rattle.lexer.proofs.number.appended.Tie as tie
 use native.Mathlib.Omega.{arith}
 use Rattle.lexer.specs.NumberLaws.{digit-range}
 
-sub-next : tie.Need-overflow-sub-next
+sub-next : tie.Need-overflow_sub-next
 sub-next c =
-    let d = digit-range _ c.before.requires.1 in
+    let d = digit-range _ c.requires.1 in
     omega (arith, d.0, c.wide.ensures)
 
-add-next : tie.Need-overflow-add-next
+add-next : tie.Need-overflow_add-next
 add-next c =
-    let d = digit-range _ c.before.requires.1 in
+    let d = digit-range _ c.requires.1 in
     omega (arith, d.0, d.1, c.wide.ensures)
 
-pub appended-spec : {M : Type 1} → statement M
-appended-spec =
+pub appended_spec : {M : Type 1} → statement M
+appended_spec =
     tie.close
     (tie.spec
     (λ c. search rules)  -- mul-next

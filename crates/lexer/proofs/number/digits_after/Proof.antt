@@ -13,61 +13,45 @@ use Rattle.reading.specs.Laws.Offsets.{leading-more, leading-stops, leading-ends
 use Rattle.lexer.specs.NumberLaws.{value_none, value-more}
 use borrow.Author.Rules.{rules}
 
-abbrev invariant-loop : tie.invariant-loop
+abbrev invariant-loop : tie.invariant-loop-i
 invariant-loop before run value₀ i₀ value i =
     (i ≤ length run) × (i + leading is_digit (drop i run) ≡ leading is_digit run) × (value ≡ min (value_from before (take i run)) 2147483649)
 
-abbrev decreases-loop : tie.decreases-loop
+abbrev decreases-loop : tie.decreases-loop-i
 decreases-loop before run value₀ i₀ value i =
     length run - i
 
-loop-holds : tie.Need-loop-init invariant-loop decreases-loop
+loop-holds : tie.Need-loop-i-init invariant-loop decreases-loop
 loop-holds c =
-    (omega arith, omega arith, value_none c.before.args.before c.before.requires)
+    (omega arith, omega arith, value_none c.args.before c.requires)
 
-returns : tie.Need-returns invariant-loop decreases-loop
+returns : tie.Need-returns-then-not-is_digit invariant-loop decreases-loop
 returns c =
-    let at-is-digit = c.before in
-    let at-loop-test = at-is-digit.before.before in
-    let at-loop = at-loop-test.before in
-    let args = at-loop.before.before.args in
-    let loop = at-loop.loop in
-    let loop-test = at-loop-test.loop-test in
-    let d = sym at-is-digit.is_digit.ensures ∙ not-true _ c.if1.true in
-    record { count = sym (leading-stops is_digit args.run.now loop.i loop-test.true d) ∙ loop.invariant.1; value = loop.invariant.2 }
+    let args = c.args in
+    let d = sym c.is_digit.ensures ∙ not-true _ c.if-not-is_digit.true-raw in
+    record { count = sym (leading-stops is_digit args.run.now c.loop-i.i c.loop-i-test.true d) ∙ c.loop-i.invariant.1; value = c.loop-i.invariant.2 }
 
-appended-requires : tie.Need-appended-requires invariant-loop decreases-loop
+appended-requires : tie.Need-appended-value-requires invariant-loop decreases-loop
 appended-requires c κs =
-    let loop = c.before.before.before.before.before.loop in
-    let is_digit = c.before.before.is_digit in
-    (omega (arith, loop.invariant.2), sym is_digit.ensures ∙ not-false _ c.before.if1.false)
+    (omega (arith, c.loop-i.invariant.2), sym c.is_digit.ensures ∙ not-false _ c.if-not-is_digit.false-raw)
 
-loop-again : tie.Need-loop-preserved invariant-loop decreases-loop
+loop-again : tie.Need-loop-i-preserved invariant-loop decreases-loop
 loop-again c =
-    let at-if1 = c.before.before in
-    let at-is-digit = at-if1.before in
-    let at-loop-test = at-is-digit.before.before in
-    let at-loop = at-loop-test.before in
-    let args = at-loop.before.before.args in
-    let loop = at-loop.loop in
-    let loop-test = at-loop-test.loop-test in
-    let is_digit = at-is-digit.is_digit in
-    let if1 = at-if1.if1 in
-    let d = sym is_digit.ensures ∙ not-false _ if1.false in (
+    let args = c.args in
+    let d = sym c.is_digit.ensures ∙ not-false _ c.if-not-is_digit.false-raw in (
       omega arith,
-      sym (leading-more is_digit args.run.now loop.i loop-test.true d) ∙ loop.invariant.1,
-      value-more args.before args.run.now loop.i loop.value _ loop-test.true loop.invariant.2 c.appended.ensures,
+      sym (leading-more c.is_digit args.run.now c.loop-i.i c.loop-i-test.true d) ∙ c.loop-i.invariant.1,
+      value-more args.before args.run.now c.loop-i.i c.loop-i.value _ c.loop-i-test.true c.loop-i.invariant.2 c.appended-value.ensures,
     )
 
-returns-2 : tie.Need-returns-2 invariant-loop decreases-loop
+returns-2 : tie.Need-returns invariant-loop decreases-loop
 returns-2 c =
-    let args = c.before.before.before.args in
-    let loop = c.before.loop in
-    let e : loop.i ≡ length args.run.now = omega (arith, c.loop-test.false, loop.invariant.0) in
-    record { count = sym (leading-ends is_digit args.run.now loop.i e) ∙ loop.invariant.1; value = loop.invariant.2 }
+    let args = c.args in
+    let e : c.loop-i.i ≡ length args.run.now = omega (arith, c.loop-i-test.false, c.loop-i.invariant.0) in
+    record { count = sym (leading-ends is_digit args.run.now c.loop-i.i e) ∙ c.loop-i.invariant.1; value = c.loop-i.invariant.2 }
 
-pub digits-after-spec : {M : Type 1} → statement M
-digits-after-spec =
+pub digits_after_spec : {M : Type 1} → statement M
+digits_after_spec =
     tie.close
     (tie.spec
     invariant-loop

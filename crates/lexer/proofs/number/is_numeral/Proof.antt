@@ -4,30 +4,28 @@ use Rattle.lexer.proofs.number.is_numeral.Tie as tie
 use mathlib.Core.Path.{◌∙◌}
 use Rattle.lexer.specs.NumberLaws.{numeral-none, numeral-plain, numeral-one, numeral-minus}
 
-returns : tie.Need-returns
+returns : tie.Need-returns-then-word-eq0
 returns c =
-    let args = c.before.before.args in
-    numeral-none args.word.now c.if1.true
+    let args = c.args in
+    numeral-none args.word.now c.if-word-eq0.true
 
-returns-2 : tie.Need-returns-2
+returns-2 : tie.Need-returns-then-word-ne45
 returns-2 c =
-    let args = c.before.before.before.before.before.before.args in
-    let if2 = c.before.before.if2 in
-    c.is_digit.ensures ∙ numeral-plain args.word.now if2.true
+    let args = c.args in
+    c.is_digit.ensures ∙ numeral-plain args.word.now c.if-word-ne45.true
 
-returns-3 : tie.Need-returns-3
+returns-3 : tie.Need-returns-then-word-eq1
 returns-3 c =
-    let args = c.before.before.before.before.before.args in
-    numeral-one args.word.now c.if3.true c.before.if2.false
+    let args = c.args in
+    numeral-one args.word.now c.if-word-eq1.true c.if-word-ne45.false
 
-returns-4 : tie.Need-returns-4
+returns-4 : tie.Need-returns
 returns-4 c =
-    let args = c.before.before.before.before.before.before.before.args in
-    let if2 = c.before.before.before.if2 in
-    c.is-digit2.ensures ∙ numeral-minus args.word.now if2.false
+    let args = c.args in
+    c.is_digit-2.ensures ∙ numeral-minus args.word.now c.if-word-ne45.false
 
-pub is-numeral-spec : {M : Type 1} → statement M
-is-numeral-spec =
+pub is_numeral_spec : {M : Type 1} → statement M
+is_numeral_spec =
     tie.close
     (tie.spec
     returns

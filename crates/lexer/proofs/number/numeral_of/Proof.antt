@@ -4,19 +4,18 @@ use Rattle.lexer.proofs.number.numeral_of.Tie as tie
 use mathlib.Core.Path.{◌∙◌}
 use Rattle.lexer.specs.NumberLaws.{plain-numeral, minus-numeral}
 
-returns : tie.Need-returns
+returns : tie.Need-returns-then-word-eq45
 returns c =
-    let args = c.before.before.before.before.before.args in
-    let if1 = c.before.before.if1 in
-    c.Unsigned-of.ensures ∙ minus-numeral args.word.now if1.true
+    let args = c.args in
+    c.unsigned_of.ensures ∙ minus-numeral args.word.now c.if-word-eq45.true
 
-returns-2 : tie.Need-returns-2
+returns-2 : tie.Need-returns
 returns-2 c =
-    let args = c.before.before.before.before.args in
-    c.unsigned-of2.ensures ∙ plain-numeral args.word.now c.before.if1.false
+    let args = c.args in
+    c.unsigned_of-2.ensures ∙ plain-numeral args.word.now c.if-word-eq45.false
 
-pub numeral-of-spec : {M : Type 1} → statement M
-numeral-of-spec =
+pub numeral_of_spec : {M : Type 1} → statement M
+numeral_of_spec =
     tie.close
     (tie.spec
     (λ c. search rules)  -- shared-slice-read-if1

@@ -8,50 +8,43 @@ use lib.ListN.{length}
 use Rattle.lexer.specs.NumberLaws.{dot-within, no-dot, other_byte, dot-taken}
 
 -- past the digits of a word that is not all digits
-within : (c : tie.Else1) → c.before.digits-after.result.count < length c.before.before.before.args.word.now
-within c = dot-within _ _ c.before.digits-after.ensures c.if1.false
+within : (c : tie.Else-dot-word) → c.digits_after-whole.result.count < length c.args.word.now
+within c = dot-within _ _ c.digits_after-whole.ensures c.if-dot-word.false
 
-returns : tie.Need-returns
+returns : tie.Need-returns-then-dot-word
 returns c =
-    let args = c.before.before.before.before.args in
-    let digits-after = c.before.before.digits-after in
-    no-dot args.word.now digits-after.result digits-after.ensures args.negative _ c.before.if1.true c.signed.ensures
+    let args = c.args in
+    no-dot args.word.now c.digits_after-whole.result c.digits_after-whole.ensures args.negative _ c.if-dot-word.true c.signed.ensures
 
-shared-slice-read-if2 : tie.Need-shared-slice-read-if2
+shared-slice-read-if2 : tie.Need-bounds-word-dot
 shared-slice-read-if2 c = within c.before
 
-returns-2 : tie.Need-returns-2
+returns-2 : tie.Need-returns-then-word-dot-ne46
 returns-2 c =
-    let args = c.before.before.before.before.before.args in
-    let digits-after = c.before.before.before.digits-after in
-    other_byte args.word.now digits-after.result digits-after.ensures (within c.before.before) args.negative c.if2.true
+    let args = c.args in
+    other_byte args.word.now c.digits_after-whole.result c.digits_after-whole.ensures (within c.before.before) args.negative c.if-word-dot-ne46.true
 
-add-decimal-of : tie.Need-overflow-add-decimal-of
+add-decimal-of : tie.Need-overflow_add-dot
 add-decimal-of c = omega (arith, within c.before.before)
 
-sub-decimal-of : tie.Need-overflow-sub-decimal-of
+sub-decimal-of : tie.Need-slice_bounds-decimal_of-count
 sub-decimal-of c = omega (arith, within c.before.before)
 
-part-decimal-of-start : tie.Need-slice-bounds-decimal-of-start
+part-decimal-of-start : tie.Need-slice_bounds-decimal_of-start
 part-decimal-of-start c = omega (arith, within c.before.before)
 
-decimal-of-requires : tie.Need-decimal-of-requires
+decimal-of-requires : tie.Need-decimal_of-requires
 decimal-of-requires c κs =
-    let digits-after = c.before.before.before.before.digits-after in
-    omega (arith, digits-after.ensures.value)
+    omega (arith, c.digits_after-whole.ensures.value)
 
-returns-3 : tie.Need-returns-3
+returns-3 : tie.Need-returns
 returns-3 c =
-    let at-if2 = c.before.before in
-    let at_before = at-if2.before in
-    let at-digits-after = at_before.before.before in
-    let args = at-digits-after.before.before.args in
-    let digits-after = at-digits-after.digits-after in
-    c.decimal-of.ensures
-    ∙ dot-taken args.word.now digits-after.result digits-after.ensures (within at_before.before) args.negative at-if2.if2.false
+    let args = c.args in
+    c.decimal_of.ensures
+    ∙ dot-taken args.word.now c.digits_after-whole.result c.digits_after-whole.ensures (within c.before.before.before.before) args.negative c.if-word-dot-ne46.false
 
-pub unsigned-of-spec : {M : Type 1} → statement M
-unsigned-of-spec =
+pub unsigned_of_spec : {M : Type 1} → statement M
+unsigned_of_spec =
     tie.close
     (tie.spec
     (λ c κs. search rules)  -- digits-after-requires

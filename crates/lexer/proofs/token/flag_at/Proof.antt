@@ -7,31 +7,31 @@ use lib.ListN.{length}
 use Rattle.lexer.specs.ToldLaws.{true-taken, false-taken, no_flag, end-flag}
 
 -- past the test of the text's end
-within : (c : tie.Else1) → c.before.args.at < length c.before.args.text.now
-within c = omega (arith, c.before.requires, c.if1.false)
+within : (c : tie.Else-at-text) → c.args.at < length c.args.text.now
+within c = omega (arith, c.requires, c.if-at-text.false)
 
-returns : tie.Need-returns
+returns : tie.Need-returns-then-at-text
 returns c =
-    let args = c.before.args in
-    end-flag args.text.now args.at c.if1.true
+    let args = c.args in
+    end-flag args.text.now args.at c.if-at-text.true
 
-returns-2 : tie.Need-returns-2
+returns-2 : tie.Need-returns-then-text-at-eq116
 returns-2 c =
-    let args = c.before.before.before.args in
-    true-taken args.text.now args.at (within c.before.before) c.if2.true
+    let args = c.args in
+    true-taken args.text.now args.at (within c.before.before) c.if-text-at-eq116.true
 
-returns-3 : tie.Need-returns-3
+returns-3 : tie.Need-returns-then-text-at-eq102
 returns-3 c =
-    let args = c.before.before.before.before.before.args in
-    false-taken args.text.now args.at (within c.before.before.before.before) c.if3.true
+    let args = c.args in
+    false-taken args.text.now args.at (within c.before.before.before.before) c.if-text-at-eq102.true
 
-returns-4 : tie.Need-returns-4
+returns-4 : tie.Need-returns
 returns-4 c =
-    let args = c.before.before.before.before.before.args in
-    no_flag args.text.now args.at (within c.before.before.before.before) c.before.before.if2.false c.if3.false
+    let args = c.args in
+    no_flag args.text.now args.at (within c.before.before.before.before) c.if-text-at-eq116.false c.if-text-at-eq102.false
 
-pub flag-at-spec : {M : Type 1} → statement M
-flag-at-spec =
+pub flag_at_spec : {M : Type 1} → statement M
+flag_at_spec =
     tie.close
     (tie.spec
     returns

@@ -14,63 +14,50 @@ use Rattle.reading.specs.Token.{is_running}
 use Rattle.lexer.specs.ToldLaws.{run_step, run-stops, end-stops}
 use borrow.Author.Rules.{rules}
 
-abbrev invariant-loop : tie.invariant-loop
+abbrev invariant-loop : tie.invariant-loop-at
 invariant-loop text from at₀ at =
     (from ≤ at) × (at ≤ length text) × (all_of is_running (part from at text) ≡ true)
 
-abbrev decreases-loop : tie.decreases-loop
+abbrev decreases-loop : tie.decreases-loop-at
 decreases-loop text from at₀ at =
     length text - at
 
-loop-holds : tie.Need-loop-init invariant-loop decreases-loop
+loop-holds : tie.Need-loop-at-init invariant-loop decreases-loop
 unfolding all_of
 loop-holds c =
-    let args = c.before.args in
-    (omega arith, c.before.requires, rw (part_none args.from args.text.now))
+    let args = c.args in
+    (omega arith, c.requires, rw (part_none args.from args.text.now))
 
-returns : tie.Need-returns invariant-loop decreases-loop
+returns : tie.Need-returns-then-not-is_running invariant-loop decreases-loop
 returns c =
-    let at-is-running = c.before in
-    let at-loop-test = at-is-running.before.before in
-    let at-loop = at-loop-test.before in
-    let is-running = at-is-running.is-running in
-    let loop = at-loop.loop in
-    let args = at-loop.before.before.args in
-    let loop-test = at-loop-test.loop-test in
-    let r = sym is-running.ensures ∙ not-true is-running.result c.if1.true in
+    let args = c.args in
+    let r = sym c.is_running.ensures ∙ not-true c.is_running.result c.if-not-is_running.true-raw in
     record {
-      low = loop.invariant.0;
-      high = loop.invariant.1;
-      runs = loop.invariant.2;
-      stops = run-stops args.text.now loop.at
-          loop-test.true r;
+      low = c.loop-at.invariant.0;
+      high = c.loop-at.invariant.1;
+      runs = c.loop-at.invariant.2;
+      stops = run-stops args.text.now c.loop-at.at
+          c.loop-at-test.true r;
     }
 
-loop-again : tie.Need-loop-preserved invariant-loop decreases-loop
+loop-again : tie.Need-loop-at-preserved invariant-loop decreases-loop
 loop-again c =
-    let at-is-running = c.before in
-    let at-loop-test = at-is-running.before.before in
-    let at-loop = at-loop-test.before in
-    let is-running = at-is-running.is-running in
-    let args = at-loop.before.before.args in
-    let loop = at-loop.loop in
-    let loop-test = at-loop-test.loop-test in
-    let r = sym is-running.ensures ∙ not-false is-running.result c.if1.false in (
+    let args = c.args in
+    let r = sym c.is_running.ensures ∙ not-false c.is_running.result c.if-not-is_running.false-raw in (
       omega arith,
       omega arith,
-      run_step args.text.now loop.at loop-test.true args.from loop.invariant.0 loop.invariant.2
+      run_step args.text.now c.loop-at.at c.loop-at-test.true args.from c.loop-at.invariant.0 c.loop-at.invariant.2
           r,
     )
 
-returns-2 : tie.Need-returns-2 invariant-loop decreases-loop
+returns-2 : tie.Need-returns invariant-loop decreases-loop
 returns-2 c =
-    let loop = c.before.loop in
-    let args = c.before.before.before.args in
-    let e : loop.at ≡ length args.text.now = omega arith in
-    record { low = loop.invariant.0; high = loop.invariant.1; runs = loop.invariant.2; stops = end-stops args.text.now loop.at e }
+    let args = c.args in
+    let e : c.loop-at.at ≡ length args.text.now = omega arith in
+    record { low = c.loop-at.invariant.0; high = c.loop-at.invariant.1; runs = c.loop-at.invariant.2; stops = end-stops args.text.now c.loop-at.at e }
 
-pub run-end-spec : {M : Type 1} → statement M
-run-end-spec =
+pub run_end_spec : {M : Type 1} → statement M
+run_end_spec =
     tie.close
     (tie.spec
     invariant-loop

@@ -22,43 +22,43 @@ abbrev word : tie.Start → List ℕ
 word c = part c.args.from c.args.to c.args.text.now
 
 -- what the word means, by the test of numerals
-other : (c : tie.Then1) → meaning_of (run (word c.before.before.before.before)) ≡ name_of (word c.before.before.before.before)
-other c = other-means _ (sym c.before.is-numeral.ensures ∙ not-true _ c.if1.true)
+other : (c : tie.Then-not-is_numeral) → meaning_of (run (word c)) ≡ name_of (word c)
+other c = other-means _ (sym c.is_numeral.ensures ∙ not-true _ c.if-not-is_numeral.true-raw)
 
-numeral : (c : tie.After-numeral-of) (n : Numeral) → c.numeral-of.result ≡ n → meaning_of (run (word c.before.before.before.before.before)) ≡ numeral_meaning n
-numeral c n e = numeral-means _ (sym c.before.before.is-numeral.ensures ∙ not-false _ c.before.if1.false) ∙ sym c.numeral-of.ensures ∙ ap numeral_meaning e
+numeral : (c : tie.After-numeral_of) (n : Numeral) → c.numeral_of.result ≡ n → meaning_of (run (word c)) ≡ numeral_meaning n
+numeral c n e = numeral-means _ (sym c.is_numeral.ensures ∙ not-false _ c.if-not-is_numeral.false-raw) ∙ sym c.numeral_of.ensures ∙ ap numeral_meaning e
 
-returns : tie.Need-returns
+returns : tie.Need-returns-then-is_name
 returns c =
     let w = word c.before.before.before.before.before.before in
-    let n = sym c.before.is_name.ensures ∙ c.if2.true in
+    let n = sym c.is_name.ensures ∙ c.if-is_name.true in
     (refl, refl, name-short w n, other c.before.before ∙ name-is w n)
 
-returns-2 : tie.Need-returns-2
+returns-2 : tie.Need-returns-then-not-is_numeral
 returns-2 c =
-    (refl, other c.before.before ∙ name-malformed _ (sym c.before.is_name.ensures ∙ c.if2.false))
+    (refl, other c.before.before ∙ name-malformed _ (sym c.is_name.ensures ∙ c.if-is_name.false))
 
-numeral-of-requires : tie.Need-numeral-of-requires
+numeral-of-requires : tie.Need-numeral_of-requires
 numeral-of-requires c κs =
-    let args = c.before.before.before.before.args in
+    let args = c.args in
     omega (arith, length_part args.from args.to args.text.now (omega arith) (omega arith))
 
-returns-3 : tie.Need-returns-3
+returns-3 : tie.Need-returns-in-Value
 returns-3 c =
-    let given = c.before.z.given in (
+    let given = c.z-1.given in (
       refl,
-      numeral c.before.before.before _ given.1 ∙ ap (λ z. constant (number (of_z w32 z) given.0.1.0))
-          (sym (to_z-of_z {w = w32} {z = given.0.0} (record { sfits = c.known-told.given.0.1 }))),
+      numeral c.before _ given.1 ∙ ap (λ z. constant (number (of_z w32 z) given.0.1.0))
+          (sym (to_z-of_z {w = w32} {z = given.0.0} (record { sfits = c.in-Value.known_told-1-own.given.0.1 }))),
     )
 
-returns-4 : tie.Need-returns-4
-returns-4 c = (refl, numeral c.before.before _ c.enum_told.given.1)
+returns-4 : tie.Need-returns-in-Malformed
+returns-4 c = (refl, numeral c.before _ c.in-Malformed.is)
 
-returns-5 : tie.Need-returns-5
-returns-5 c = (refl, numeral c.before.before _ c.enum-told2.given.1)
+returns-5 : tie.Need-returns-in-OutOfRange
+returns-5 c = (refl, numeral c.before _ c.in-OutOfRange.is)
 
-pub run-token-spec : {M : Type 1} → statement M
-run-token-spec =
+pub run_token_spec : {M : Type 1} → statement M
+run_token_spec =
     tie.close
     (tie.spec
     (λ c. search rules)  -- sub-word

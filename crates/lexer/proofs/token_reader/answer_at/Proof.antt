@@ -3,18 +3,18 @@ use Rattle.lexer.proofs.token_reader.answer_at.Statement.{statement}
 use Rattle.lexer.proofs.token_reader.answer_at.Tie as tie
 use Rattle.lexer.specs.AnsweredLaws.{told-answered, past-answered}
 
-returns : tie.Need-returns
+returns : tie.Need-returns-then-text-at
 returns c =
-    let args = c.before.before.args in
-    past-answered args.text.now args.at c.if1.true
+    let args = c.args in
+    past-answered args.text.now args.at c.if-text-at.true
 
-token-at-requires : tie.Need-token-at-requires
+token-at-requires : tie.Need-token_at-requires
 token-at-requires c κs = search rules
 
-returns-2 : tie.Need-returns-2
+returns-2 : tie.Need-returns
 returns-2 c =
-    let args = c.before.before.before.args in
-    told-answered args.text.now args.at c.token-at.result c.token-at.ensures
+    let args = c.args in
+    told-answered args.text.now args.at c.token_at.result c.token_at.ensures
 
-pub answer-at-spec : {M : Type 1} → statement M
-answer-at-spec = tie.close (tie.spec returns token-at-requires returns-2)
+pub answer_at_spec : {M : Type 1} → statement M
+answer_at_spec = tie.close (tie.spec returns token-at-requires returns-2)

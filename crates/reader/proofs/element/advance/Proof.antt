@@ -24,129 +24,95 @@ use Rattle.reader.specs.Code.MovedLaws.{
 }
 
 -- what the token at the cursor tells, by what it is
-told : (c : tie.After-token-from) (t : Token) → c.token-from.result ≡ t → let a = c.before.before.before.before.before.args in Told a.text.now a.cursor.at t
-told c t e = answered-told _ _ _ c.token-from.ensures c.before.before.before.before.before.requires.0 t e
+told : (c : tie.After-token_from) (t : Token) → c.token_from.result ≡ t → let a = c.args in Told a.text.now a.cursor.at t
+told c t e = answered-told _ _ _ c.token_from.ensures c.requires.0 t e
 
 -- the word of a name
-named : (c : tie.After-from) → let a = c.before.before.before.before.before.before.before.args in Told a.text.now a.cursor.at (Name c.from.given.0.0 c.from.given.0.1.0)
-named c = told c.before.before _ c.from.given.1
+named : (c : tie.In-Name-2) → let a = c.args in Told a.text.now a.cursor.at (Name c.in-Name.from c.in-Name.next)
+named c = told c.before.before _ c.in-Name.is
 
-sub-put-name : tie.Need-overflow-sub-put-name
+sub-put-name : tie.Need-slice_bounds-put_name-count
 sub-put-name c = omega (arith, (named c.before.before.before.before).1)
 
-part-put-name-start : tie.Need-slice-bounds-put-name-start
+part-put-name-start : tie.Need-slice_bounds-put_name-start
 part-put-name-start c = omega (arith, (named c.before.before.before.before).1)
 
-part-put-name-end : tie.Need-slice-bounds-put-name-end
+part-put-name-end : tie.Need-slice_bounds-put_name-end
 part-put-name-end c = omega (arith, (named c.before.before.before.before).3.high)
 
-put-name-requires : tie.Need-put-name-requires
+put-name-requires : tie.Need-put_name-requires
 put-name-requires c κs =
-    let at_before = c.before.before.before.before in
-    let start = at_before.before.before.before.before.before.before.before.before in
-    (start.requires.1.0, (start.requires.1.1, (named at_before.before).2))
+    (c.requires.1.0, (c.requires.1.1, (named at_before.before).2))
 
-returns : tie.Need-returns
+returns : tie.Need-returns-in-End
 returns c =
     λ r h i.
-    let args = c.before.before.before.before.before.before.before.before.args in
+    let args = c.args in
     end_moved args.text.now args.cursor.at r args.place args.items.now args.names.now args.index.now h
-    (told c.before.before.before _ c.before.enum_told.given.1) c.finish.result c.finish.ensures
+    (told c.before.before _ c.in-End.is) c.finish.result c.finish.ensures
 
-returns-2 : tie.Need-returns-2
+returns-2 : tie.Need-returns-in-Refused
 returns-2 c =
     λ r h i.
-    let args = c.before.before.before.before.before.before.before.before.args in
-    let ground = c.before.ground in
-    refused-moved args.text.now args.cursor.at r ground.given.0.0 ground.given.0.1.0.at (told c.before.before.before _ ground.given.1)
+    let args = c.args in
+    refused-moved args.text.now args.cursor.at r c.in-Refused.ground c.in-Refused.field-1.at (told c.before _ c.in-Refused.is)
 
-returns-3 : tie.Need-returns-3
+returns-3 : tie.Need-returns-in-Open
 returns-3 c =
-    let at-open-list = c.before.before.before in
-    let at_next = at-open-list.before.before.before in
-    let at_before = at_next.before in
     λ r h i.
-    let args = at_before.before.before.before.before.before.before.args in
-    let open-list = at-open-list.open-list in
-    let next = at_next.next in
-    stepped-moved args.text.now args.cursor.at r open-list.new.0 args.names.now args.index.now begins next.given.0.0
-    (told at_before.before _ next.given.1) (begins-indexed r args.index.now i) open-list.result
-    c.moved.result c.moved.ensures (open-list.ensures r args.names.now h)
+    let args = c.args in
+    stepped-moved args.text.now args.cursor.at r c.open_list.new.items args.names.now args.index.now begins c.in-Open.next
+    (told c.before.before.before.before.before.before _ c.in-Open.is) (begins-indexed r args.index.now i) c.open_list.result
+    c.moved.result c.moved.ensures (c.open_list.ensures r args.names.now h)
 
-returns-4 : tie.Need-returns-4
+returns-4 : tie.Need-returns-in-Close
 returns-4 c =
-    let at-close-list = c.before.before.before in
-    let at-next2 = at-close-list.before.before.before in
-    let at_before = at-next2.before in
     λ r h i.
-    let args = at_before.before.before.before.before.before.before.args in
-    let close-list = at-close-list.close-list in
-    let next2 = at-next2.next2 in
-    stepped-moved args.text.now args.cursor.at r close-list.new.0 args.names.now args.index.now ends next2.given.0.0
-    (told at_before.before _ next2.given.1) (ends-indexed r args.index.now i) close-list.result
-    c.moved2.result c.moved2.ensures (close-list.ensures r args.names.now h)
+    let args = c.args in
+    stepped-moved args.text.now args.cursor.at r c.close_list.new.items args.names.now args.index.now ends c.in-Close.next
+    (told c.before.before.before.before.before.before _ c.in-Close.is) (ends-indexed r args.index.now i) c.close_list.result
+    c.moved-in-Close.result c.moved-in-Close.ensures (c.close_list.ensures r args.names.now h)
 
-returns-5 : tie.Need-returns-5
+returns-5 : tie.Need-returns-in-Boolean
 unfolding boolean
 returns-5 c =
-    let at-put-token = c.before.before.before in
-    let at_b = at-put-token.before.before.before in
-    let at_before = at_b.before in
     λ r h i.
-    let args = at_before.before.before.before.before.before.before.args in
-    let put-token = at-put-token.put-token in
-    let b = at_b.b in
-    stepped-moved args.text.now args.cursor.at r put-token.new.0 args.names.now args.index.now
-    (constant (boolean b.given.0.0)) b.given.0.1.0
-    (told at_before.before _ b.given.1)
-    (constant-indexed r args.index.now i (boolean b.given.0.0)) put-token.result c.moved3.result
-    c.moved3.ensures
-    (constant-stepped r args.place args.items.now put-token.new.0 args.names.now (boolean b.given.0.0)
-    2 b.given.0.0 0 put-token.result h refl put-token.ensures)
+    let args = c.args in
+    stepped-moved args.text.now args.cursor.at r c.put_token.new.items args.names.now args.index.now
+    (constant (boolean c.in-Boolean.b)) c.in-Boolean.next
+    (told c.before.before.before.before.before.before _ c.in-Boolean.is)
+    (constant-indexed r args.index.now i (boolean c.in-Boolean.b)) c.put_token.result c.moved-in-Boolean.result
+    c.moved-in-Boolean.ensures
+    (constant-stepped r args.place args.items.now c.put_token.new.items args.names.now (boolean c.in-Boolean.b)
+    2 c.in-Boolean.b 0 c.put_token.result h refl c.put_token.ensures)
 
-returns-6 : tie.Need-returns-6
+returns-6 : tie.Need-returns-in-Number
 returns-6 c =
-    let at-put-token2 = c.before.before.before in
-    let at-to-word = at-put-token2.before in
-    let at-number-kind = at-to-word.before.before in
-    let at-known-told5 = at-number-kind.before in
-    let at-z = at-known-told5.before in
-    let at_before = at-z.before in
     λ r h i.
-    let args = at_before.before.before.before.before.before.before.args in
-    let put-token2 = at-put-token2.put-token2 in
-    let to_word = at-to-word.to_word in
-    let number-kind = at-number-kind.number-kind in
-    let known-told5 = at-known-told5.known-told5 in
-    let z' = at-z.z in
-    let w = of_z w32 z'.given.0.0 in
-    let places = z'.given.0.1.0 in
-    let same : to_word.result ≡ w =
-    to_word.ensures ∙ ap (of_z w32) (to_z-of_z {w = w32} {z = z'.given.0.0} (record { sfits = known-told5.given.0.1 })) in
-    stepped-moved args.text.now args.cursor.at r put-token2.new.0 args.names.now args.index.now
-    (constant (number w places)) z'.given.0.1.1.0
-    (told at_before.before _ z'.given.1)
-    (constant-indexed r args.index.now i (number w places)) put-token2.result
-    c.moved4.result c.moved4.ensures
-    (constant-stepped r args.place args.items.now put-token2.new.0 args.names.now (number w places)
-    number-kind.result to_word.result places put-token2.result h (rw same (number-kind.ensures w)) put-token2.ensures)
+    let args = c.args in
+    let w = of_z w32 c.in-Number.z in
+    let places = c.in-Number.places in
+    let same : c.to_word.result ≡ w =
+    c.to_word.ensures ∙ ap (of_z w32) (to_z-of_z {w = w32} {z = c.in-Number.z} (record { sfits = c.in-Number.known_told-in-Number-1-own.given.0.1 })) in
+    stepped-moved args.text.now args.cursor.at r c.put_token-in-Number.new.items args.names.now args.index.now
+    (constant (number w places)) c.in-Number.next
+    (told c.before.before.before.before.before.before.before.before _ c.in-Number.is)
+    (constant-indexed r args.index.now i (number w places)) c.put_token-in-Number.result
+    c.moved-in-Number.result c.moved-in-Number.ensures
+    (constant-stepped r args.place args.items.now c.put_token-in-Number.new.items args.names.now (number w places)
+    c.number_kind-kind.result c.to_word.result places c.put_token-in-Number.result h (rw same (c.number_kind-kind.ensures w)) c.put_token-in-Number.ensures)
 
-returns-7 : tie.Need-returns-7
+returns-7 : tie.Need-returns-in-Name
 returns-7 c =
-    let at-put-name = c.before.before.before.before.before.before.before in
-    let at_before = at-put-name.before.before.before.before.before in
-    let at_from = at_before.before in
     λ r h i.
-    let args = at_from.before.before.before.before.before.before.before.args in
-    let from = at_from.from in
-    let put-name = at-put-name.put-name in
-    let t = put-name.ensures r h in
-    stepped-moved args.text.now args.cursor.at r put-name.new.0 put-name.new.1.0 put-name.new.1.1.0
-    (name (part from.given.0.0 from.given.0.1.0.at args.text.now)) from.given.0.1.0
-    (named at_before.before).3 t.1 put-name.result c.moved5.result c.moved5.ensures t.0
+    let args = c.args in
+    let t = c.put_name.ensures r h in
+    stepped-moved args.text.now args.cursor.at r c.put_name.new.items c.put_name.new.names c.put_name.new.index
+    (name (part c.in-Name.from c.in-Name.next.at args.text.now)) c.in-Name.next
+    (named at_before.before).3 t.1 c.put_name.result c.moved-in-Name.result c.moved-in-Name.ensures t.0
 
-pub advance-spec : {M : Type 1} → statement M
-advance-spec =
+pub advance_spec : {M : Type 1} → statement M
+advance_spec =
     tie.close
     (tie.spec
     (λ c κs. search rules)  -- token-from-requires

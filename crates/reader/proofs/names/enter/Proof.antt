@@ -6,11 +6,10 @@ use Prim.Native.Nat.{◌+◌}
 use lib.ListN.{length-set, get_or}
 use Rattle.reader.specs.Code.Index.{bucket_count}
 
-slice-write-index-2 : tie.Need-slice-write-index-2
+slice-write-index-2 : tie.Need-bounds-index-bucket-2
 slice-write-index-2 c =
-    let at-args = c.before.before.before.before.before.before.before.before in
-    let args = at-args.args in
-    let pre = at-args.requires in
+    let args = c.args in
+    let pre = c.requires in
     let index = args.index.now in
     omega (arith, pre.1.0, pre.1.2, length-set index (bucket_count + args.number) (get_or index args.bucket 0))
 

@@ -4,9 +4,9 @@ use Rattle.reader.proofs.names.enter_first.Tie as tie
 use Rattle.words.specs.Text.{bytes}
 use Rattle.reading.specs.Numbering.{base_names}
 
-pub enter-first-spec : {M : Type 1} → statement M
+pub enter_first_spec : {M : Type 1} → statement M
 unfolding base_names bytes
-enter-first-spec =
+enter_first_spec =
     tie.close
     (tie.spec
     (λ c. search rules)  -- slice-aggregate-enter-fixed

@@ -4,9 +4,9 @@ use Rattle.reader.proofs.names.enter_others.Tie as tie
 use Rattle.words.specs.Text.{bytes}
 use Rattle.reading.specs.Numbering.{base_names}
 
-pub enter-others-spec : {M : Type 1} → statement M
+pub enter_others_spec : {M : Type 1} → statement M
 unfolding base_names bytes
-enter-others-spec =
+enter_others_spec =
     tie.close
     (tie.spec
     (λ c. search rules)  -- slice-aggregate-enter-fixed

@@ -10,100 +10,74 @@ use Rattle.reader.specs.Code.IndexLaws.{bucket-below, walked-first}
 use Rattle.reader.specs.Code.Stored.{names_in}
 use Rattle.reader.specs.Code.StoredLaws.{entry_known, find-here, find-on, find-falls, find-end}
 
-abbrev invariant-loop : tie.invariant-loop
+abbrev invariant-loop : tie.invariant-loop-entry
 invariant-loop names index known word bucket entry₀ entry =
     Walked (names_in names 0 known) word entry
 
-abbrev decreases-loop : tie.decreases-loop
+abbrev decreases-loop : tie.decreases-loop-entry
 decreases-loop names index known word bucket entry₀ entry =
     entry
 
 -- the name of an entry is stored
-entry-stored : (c : tie.In-loop invariant-loop decreases-loop) → c.before.loop.entry - 1 < c.before.before.before.before.before.before.args.known
+entry-stored : (c : tie.In-loop-entry invariant-loop decreases-loop) → c.loop-entry.entry - 1 < c.args.known
 entry-stored c =
-    let at-loop = c.before in
-    let at-args = at-loop.before.before.before.before.before in
-    let args = at-args.args in
-    entry_known args.word.now args.names.now args.index.now args.known at-args.requires.1.0.0 at-loop.loop.entry at-loop.loop.invariant c.loop-test.true
+    let args = c.args in
+    entry_known args.word.now args.names.now args.index.now args.known c.requires.1.0.0 c.loop-entry.entry c.loop-entry.invariant c.loop-entry-test.true
 
-entry-at-requires : tie.Need-entry-at-requires invariant-loop decreases-loop
+entry-at-requires : tie.Need-entry_at-entry-requires invariant-loop decreases-loop
 entry-at-requires c κs =
-    let args = c.before.before.before.args in
-    let pre = c.before.before.before.requires in
+    let args = c.args in
+    let pre = c.requires in
     omega (arith, pre.1.0.0.size, pre.1.1, bucket-below args.word.now)
 
-loop-holds : tie.Need-loop-init invariant-loop decreases-loop
+loop-holds : tie.Need-loop-entry-init invariant-loop decreases-loop
 loop-holds c =
-    let args = c.before.before.before.before.args in
-    let pre = c.before.before.before.before.requires in
-    rw (c.entry_at.ensures, pre.1.1)
+    let args = c.args in
+    let pre = c.requires in
+    rw (c.entry_at-entry.ensures, pre.1.1)
     (walked-first (names_in args.names.now 0 args.known) args.word.now args.index.now pre.1.0.0)
 
 spells-requires : tie.Need-spells-requires invariant-loop decreases-loop
 spells-requires c κs =
-    let pre = c.before.before.before.before.before.before.requires in
-    (omega (arith, pre.0.0, entry-stored c), pre.0.1 (c.before.loop.entry - 1) (entry-stored c))
+    let pre = c.requires in
+    (omega (arith, pre.0.0, entry-stored c), pre.0.1 (c.loop-entry.entry - 1) (entry-stored c))
 
-returns : tie.Need-returns invariant-loop decreases-loop
+returns : tie.Need-returns-then-spells invariant-loop decreases-loop
 returns c =
-    let at-spells = c.before in
-    let at-loop-test = at-spells.before in
-    let at-loop = at-loop-test.before in
-    let at-args = at-loop.before.before.before.before.before in
-    let args = at-args.args in
-    let pre = at-args.requires in
-    let loop = at-loop.loop in
-    let loop-test = at-loop-test.loop-test in
-    let spells = at-spells.spells in
-    find-here args.word.now args.names.now args.index.now args.known pre.1.0.0 loop.entry loop.invariant
-    loop-test.true spells.result spells.ensures c.if1.true
+    let args = c.args in
+    let pre = c.requires in
+    find-here args.word.now args.names.now args.index.now args.known pre.1.0.0 c.loop-entry.entry c.loop-entry.invariant
+    c.loop-entry-test.true c.spells.result c.spells.ensures c.if-spells.true
 
-add-entry-at : tie.Need-overflow-add-entry-at invariant-loop decreases-loop
-add-entry-at c = omega (arith, entry-stored c.before.before, c.before.before.before.before.before.before.before.before.requires.1.0.1)
+add-entry-at : tie.Need-overflow_add-n invariant-loop decreases-loop
+add-entry-at c = omega (arith, entry-stored c.before.before, c.requires.1.0.1)
 
-entry-at-requires-2 : tie.Need-entry-at-requires-2 invariant-loop decreases-loop
+entry-at-requires-2 : tie.Need-entry_at-entry-requires-in-loop-entry invariant-loop decreases-loop
 entry-at-requires-2 c κs =
-    let pre = c.before.before.before.before.before.before.before.before.requires in
+    let pre = c.requires in
     omega (arith, entry-stored c.before.before, pre.1.0.0.size, pre.1.0.1)
 
-loop-less : tie.Need-loop-smaller invariant-loop decreases-loop
+loop-less : tie.Need-loop-entry-smaller invariant-loop decreases-loop
 loop-less c =
-    let at-loop-test = c.before.before.before in
-    let at-loop = at-loop-test.before in
-    let at-args = at-loop.before.before.before.before.before in
-    let args = at-args.args in
-    let pre = at-args.requires in
-    let loop = at-loop.loop in
-    let loop-test = at-loop-test.loop-test in
-    rw c.entry-at2.ensures
-    (find-falls args.word.now args.names.now args.index.now args.known pre.1.0.0 loop.entry loop.invariant
-    loop-test.true)
+    let args = c.args in
+    let pre = c.requires in
+    rw c.entry_at-entry-in-loop-entry.ensures
+    (find-falls args.word.now args.names.now args.index.now args.known pre.1.0.0 c.loop-entry.entry c.loop-entry.invariant
+    c.loop-entry-test.true)
 
-loop-again : tie.Need-loop-preserved invariant-loop decreases-loop
+loop-again : tie.Need-loop-entry-preserved invariant-loop decreases-loop
 loop-again c =
-    let at-if1 = c.before in
-    let at-spells = at-if1.before in
-    let at-loop-test = at-spells.before in
-    let at-loop = at-loop-test.before in
-    let at-args = at-loop.before.before.before.before.before in
-    let args = at-args.args in
-    let pre = at-args.requires in
-    let loop = at-loop.loop in
-    let loop-test = at-loop-test.loop-test in
-    let spells = at-spells.spells in
-    let if1 = at-if1.if1 in
-    rw c.entry-at2.ensures
-    (find-on args.word.now args.names.now args.index.now args.known pre.1.0.0 loop.entry loop.invariant
-    loop-test.true spells.result spells.ensures if1.false)
+    let args = c.args in
+    let pre = c.requires in
+    rw c.entry_at-entry-in-loop-entry.ensures
+    (find-on args.word.now args.names.now args.index.now args.known pre.1.0.0 c.loop-entry.entry c.loop-entry.invariant
+    c.loop-entry-test.true c.spells.result c.spells.ensures c.if-spells.false)
 
-returns-2 : tie.Need-returns-2 invariant-loop decreases-loop
+returns-2 : tie.Need-returns invariant-loop decreases-loop
 returns-2 c =
-    let at-loop = c.before in
-    let at-args = at-loop.before.before.before.before.before in
-    let args = at-args.args in
-    let pre = at-args.requires in
-    let loop = at-loop.loop in
-    let w = subst (Walked (names_in args.names.now 0 args.known) args.word.now) c.loop-test.false loop.invariant in
+    let args = c.args in
+    let pre = c.requires in
+    let w = subst (Walked (names_in args.names.now 0 args.known) args.word.now) c.loop-entry-test.false c.loop-entry.invariant in
     find-end args.word.now args.names.now args.index.now args.known pre.1.0.0 w
 
 pub find_spec : {M : Type 1} → statement M

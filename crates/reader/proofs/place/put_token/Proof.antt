@@ -5,48 +5,40 @@ use mathlib.Core.Path.{sym, ◌∙◌}
 use native.Mathlib.Omega.{arith}
 use Rattle.reader.specs.Code.StepLaws.{ground-room, token-refused, token-went}
 
-returns : tie.Need-returns
+returns : tie.Need-returns-then-ground-ne0
 returns c =
     λ r d names bytes table h t k s f b.
-    let args = c.before.before.before.args in
-    let ground-at = c.before.ground-at in
+    let args = c.args in
     token-refused r args.place args.items.now bytes h d args.kind args.first args.second t names args.known k _ table
-    ground-at.result ground-at.ensures c.if1.true
+    c.ground_at-ground.result c.ground_at-ground.ensures c.if-ground-ne0.true
 
-put-element-requires : tie.Need-put-element-requires
+put-element-requires : tie.Need-put_element-requires
 put-element-requires c κs =
-    let args = c.before.before.before.before.args in
-    let ground-at = c.before.before.ground-at in
-    let pre = c.before.before.before.before.requires in
-    let l = ground-room args.place args.known args.place.depth (sym ground-at.ensures ∙ c.before.if1.false) in
+    let args = c.args in
+    let pre = c.requires in
+    let l = ground-room args.place args.known args.place.depth (sym c.ground_at-ground.ensures ∙ c.if-ground-ne0.false) in
     (omega (arith, pre.even, pre.room, l), omega (arith, pre.even, l))
 
-add-t12 : tie.Need-overflow-add-t12
+add-t12 : tie.Need-overflow_add-result
 add-t12 c =
-    let pre = c.before.before.before.before.before.before.before.before.requires in
+    let pre = c.requires in
     omega (arith, pre.even, pre.elements)
 
-add-t13 : tie.Need-overflow-add-t13
+add-t13 : tie.Need-overflow_add-result-2
 add-t13 c =
-    let pre = c.before.before.before.before.before.before.before.before.before.requires in
+    let pre = c.requires in
     omega (arith, pre.elements)
 
-returns-2 : tie.Need-returns-2
+returns-2 : tie.Need-returns
 returns-2 c =
-    let at-put-element = c.before.before.before.before.before in
-    let at-if1 = at-put-element.before.before in
-    let at-ground-at = at-if1.before in
     λ r d names bytes table h t k s f b.
-    let args = at-ground-at.before.before.args in
-    let ground-at = at-ground-at.ground-at in
-    let if1 = at-if1.if1 in
-    let put-element = at-put-element.put-element in
+    let args = c.args in
     token-went r args.place args.items.now bytes h d args.kind args.first args.second t names args.known k _ table
     c.lacking.result
-    (sym ground-at.ensures ∙ if1.false) s f b put-element.ensures c.lacking.ensures
+    (sym c.ground_at-ground.ensures ∙ c.if-ground-ne0.false) s f b c.put_element.ensures c.lacking.ensures
 
-pub put-token-spec : {M : Type 1} → statement M
-put-token-spec =
+pub put_token_spec : {M : Type 1} → statement M
+put_token_spec =
     tie.close
     (tie.spec
     (λ c κs. search rules)  -- ground-at-requires
