@@ -1,6 +1,6 @@
 /* Expands a recipe and holds a supplier's text against its term: prints yes, no, or the number for which it is refused.
  *
- *   rt staticlib grebetallboy
+ *   tools/staticlib
  *   cc -Iinclude examples/compare.c target/staticlib/libgrebetallboy.a -o compare && ./compare recipe.scm text
  */
 #include "grebetallboy.h"

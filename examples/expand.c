@@ -1,6 +1,6 @@
 /* Expands the recipe on standard input and prints its core term, or the number for which it is refused.
  *
- *   rt staticlib grebetallboy
+ *   tools/staticlib
  *   cc -Iinclude examples/expand.c target/staticlib/libgrebetallboy.a -o expand && ./expand < recipe.scm
  */
 #include "grebetallboy.h"

@@ -1,6 +1,6 @@
 /* Runs the recipe on standard input and prints its value and the units that it took, or the number for which it is refused.
  *
- *   rt staticlib grebetallboy
+ *   tools/staticlib
  *   cc -Iinclude examples/run.c target/staticlib/libgrebetallboy.a -o run && ./run < recipe.scm
  */
 #include "grebetallboy.h"

@@ -1,4 +1,4 @@
-/* The proved services for C. Link libgrebetallboy.a, which `rt staticlib grebetallboy` writes to target/staticlib.
+/* The proved services for C. Link libgrebetallboy.a, which `tools/staticlib` writes to target/staticlib.
  *
  * A call has no requirement but that each pointer has so many elements behind it as its count says, that no two tables of a call
  * overlap, and that there is stack enough. It answers 0 where it accepts, else the number that README.md explains, and tells its

@@ -1,4 +1,4 @@
-//! Links `libgrebetallboy.a`, which `rt staticlib grebetallboy` writes to `target/staticlib` at the top of the repository.
+//! Links `libgrebetallboy.a`, which `tools/staticlib` writes to `target/staticlib` at the top of the repository.
 //! `GREBETALLBOY_LIB` names another folder that has it.
 
 fn main() {
@@ -8,7 +8,7 @@ fn main() {
     println!("cargo:rerun-if-env-changed=GREBETALLBOY_LIB");
     println!("cargo:rerun-if-changed={}", archive.display());
     if !archive.exists() {
-        eprintln!("{} is missing: run `rt staticlib grebetallboy` at the top of the repository,", archive.display());
+        eprintln!("{} is missing: run `tools/staticlib` at the top of the repository,", archive.display());
         eprintln!("or name the folder that has it in the environment: GREBETALLBOY_LIB=FOLDER");
         std::process::exit(1);
     }

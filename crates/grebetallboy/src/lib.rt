@@ -1,6 +1,7 @@
-// The services for C and Rust. Each call answers the ground of documents 01 and 02, 0 where it accepts, and tells its numbers in a lent
-// table.
-// No call has a requirement: it tests what it is lent. A slice passes as a pointer and a count of elements.
+// The services as C and Rust call them; `grebetallboy_c` exports each under its name here. Each call answers the ground of documents 01 and
+// 02, 0 where it accepts, and tells its numbers in a lent table.
+// No call has a requirement: it tests what it is lent.
+#![tactic(auto)]
 
 ghost use Rattle.std.specs.Prelude.{◌≡◌, [], ◌∷◌, length};
 ghost use Rattle.reading.specs.Read.{read, read_elements, read_numbers, items_after, names_after};
@@ -43,8 +44,7 @@ fn tell_four(counts: &mut [u64], a: u64, b: u64, c: u64, d: u64)
 }
 
 // Reading: counts has the items and the names of an accepted text, then 0.
-#[unsafe(no_mangle)]
-pub extern "C" fn grebetallboy_read(
+pub fn grebetallboy_read(
     text: &[u8],
     items: &mut [u32],
     names: &mut [u8],
@@ -68,8 +68,7 @@ pub extern "C" fn grebetallboy_read(
 }
 
 // Expansion: counts has steps, sum and the length of the term; a refusal's length is 0.
-#[unsafe(no_mangle)]
-pub extern "C" fn grebetallboy_expand(
+pub fn grebetallboy_expand(
     items: &[u32],
     fuel: u32,
     work: &mut [u32],
@@ -102,8 +101,7 @@ pub extern "C" fn grebetallboy_expand(
 }
 
 // Writing: counts has the length of the text, then 0 and 0.
-#[unsafe(no_mangle)]
-pub extern "C" fn grebetallboy_write(
+pub fn grebetallboy_write(
     words: &[u32],
     operations: u32,
     names: &[u8],
@@ -131,8 +129,7 @@ pub extern "C" fn grebetallboy_write(
 }
 
 // Comparing: counts has 1 for yes and 0 for no, then 0 and 0.
-#[unsafe(no_mangle)]
-pub extern "C" fn grebetallboy_compare(
+pub fn grebetallboy_compare(
     items: &[u32],
     names: &[u8],
     words: &[u32],
@@ -190,21 +187,14 @@ fn tell_running(running: Running, counts: &mut [u64]) -> u32
 }
 
 // Running: counts has what the result is (1 integer, 2 boolean, 3 quoted datum, 4 closure, 5 operation), its two words, the units.
-#[unsafe(no_mangle)]
-pub extern "C" fn grebetallboy_run(
-    words: &[u32],
-    budget: u32,
-    table: &mut [u32],
-    counts: &mut [u64],
-) -> u32
+pub fn grebetallboy_run(words: &[u32], budget: u32, table: &mut [u32], counts: &mut [u64]) -> u32
     ensures { RunCalled words.now budget table.old table.new counts.old counts.new result }
 {
     tell_running(runner::run(words, budget, table), counts)
 }
 
 // Running a recipe: counts as running's; where expansion refuses, its steps and sum, then 0 and 0.
-#[unsafe(no_mangle)]
-pub extern "C" fn grebetallboy_run_recipe(
+pub fn grebetallboy_run_recipe(
     items: &[u32],
     fuel: u32,
     work: &mut [u32],

@@ -1,5 +1,5 @@
 //! The comparing program itself, on files: pairs with known outputs, those of examples/, and what is no pair of texts. It stands where
-//! `rt check compare_expansions` puts it.
+//! `rt run` in its crate's folder puts it, and `rt ci`.
 
 use inputs::{pairs, top};
 use std::path::{Path, PathBuf};
@@ -7,7 +7,7 @@ use std::process::Command;
 
 /// What it prints on standard output and on standard error.
 fn run(arguments: &[&Path]) -> (String, String) {
-    let program = top().join("target/bin/compare_expansions");
+    let program = top().join("crates/compare_expansions/out/compare_expansions");
     let output = Command::new(&program).args(arguments).output().unwrap_or_else(|e| panic!("{}: {e}", program.display()));
     assert!(output.status.success(), "{arguments:?}");
     (String::from_utf8(output.stdout).unwrap(), String::from_utf8(output.stderr).unwrap())

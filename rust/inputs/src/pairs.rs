@@ -116,7 +116,7 @@ pub fn examples() -> Vec<(Vec<u8>, Vec<u8>, String)> {
 pub fn proved() -> Vec<(String, String, String)> {
     let row = |(recipe, text, rest): (String, String, &str)| {
         let answer = rest.lines().next().unwrap_or("");
-        (recipe, text, answer.trim_matches([' ', '∷', '(', ')']).replace("refusedOn", "refused"))
+        (recipe, text, answer.trim_matches([' ', '∷', '(', ')']).replace("refused_on", "refused"))
     };
     rows(&spec("comparison/specs/Rows.antt"), row)
 }

@@ -25,16 +25,16 @@ fn number(s: &str) -> Option<(u32, &str)> {
 /// A recipe, its fuel, and ground, steps, sum and words.
 pub type Row = (String, u32, (u32, u32, u32, Vec<u32>));
 
-/// `gives "recipe" steps sum (word ∷ .. ∷ [])`, `refuses "recipe" ground steps sum` and `turnsBack "recipe" ground`, under
-/// `withFuel n (` at times.
+/// `gives "recipe" steps sum (word ∷ .. ∷ [])`, `refuses "recipe" ground steps sum` and `turns_back "recipe" ground`, under
+/// `with_fuel n (` at times.
 fn rows_of(specs: &str) -> Vec<Row> {
     let mut rows = Vec::new();
-    for (at, word) in ["gives \"", "refuses \"", "turnsBack \""].into_iter().flat_map(|word| specs.match_indices(word)) {
-        let fuel = specs[..at].trim_end().strip_suffix('(').and_then(|s| s.trim_end().rsplit_once("withFuel "));
+    for (at, word) in ["gives \"", "refuses \"", "turns_back \""].into_iter().flat_map(|word| specs.match_indices(word)) {
+        let fuel = specs[..at].trim_end().strip_suffix('(').and_then(|s| s.trim_end().rsplit_once("with_fuel "));
         let fuel = fuel.and_then(|(_, n)| n.trim().parse().ok()).unwrap_or(512);
         let (recipe, rest) = quoted(&specs[at + word.len() - 1..]).unwrap();
         let (a, rest) = number(rest).unwrap();
-        let answer = if word.starts_with("turnsBack") {
+        let answer = if word.starts_with("turns_back") {
             (a, 0, 0, Vec::new())
         } else {
             let (b, rest) = number(rest).unwrap();
@@ -68,14 +68,14 @@ pub fn expansions() -> Vec<Row> {
     expansion_files().into_iter().flat_map(|(_, rows)| rows).collect()
 }
 
-/// A recipe, its fuel, and the whole output: `row "recipe" "output"` and `rowWith fuel "recipe" "output"`.
+/// A recipe, its fuel, and the whole output: `row "recipe" "output"` and `row_with fuel "recipe" "output"`.
 pub type Output = (String, u32, String);
 
 fn outputs_of(specs: &str) -> Vec<Output> {
     let mut rows = Vec::new();
-    for (at, word) in specs.match_indices("row \"").chain(specs.match_indices("rowWith ")) {
+    for (at, word) in specs.match_indices("row \"").chain(specs.match_indices("row_with ")) {
         let rest = &specs[at + word.trim_end_matches('"').len()..];
-        let (fuel, rest) = if word == "rowWith " { number(rest).unwrap_or((0, "")) } else { (512, rest) };
+        let (fuel, rest) = if word == "row_with " { number(rest).unwrap_or((0, "")) } else { (512, rest) };
         let Some((recipe, rest)) = quoted(rest) else { continue };
         let Some((output, _)) = quoted(rest) else { continue };
         rows.push((recipe, fuel, output));

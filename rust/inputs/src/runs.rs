@@ -59,7 +59,7 @@ pub fn proved() -> Vec<Row> {
 fn printed(outcome: &[&str]) -> String {
     let number = |n: &str| n.parse::<i64>().unwrap_or_else(|e| panic!("{outcome:?}: {e}"));
     let (value, units) = match *outcome {
-        ["unfit" | "refusedOn", ground] => return format!("refused {ground}\n"),
+        ["unfit" | "refused_on", ground] => return format!("refused {ground}\n"),
         ["accepted", "number", "pos", n, units] => (n.to_string(), units),
         ["accepted", "number", "negsuc", n, units] => ((-1 - number(n)).to_string(), units),
         ["accepted", "boolean", b, units] => (if b == "true" { "#t" } else { "#f" }.to_string(), units),

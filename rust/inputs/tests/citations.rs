@@ -31,7 +31,15 @@ fn found(span: &str, before: Option<&Path>) -> Vec<PathBuf> {
         let fits = |path: &PathBuf| path.to_str().is_some_and(|p| p.starts_with(start) && p.ends_with(end));
         files(folder).into_iter().filter(fits).collect()
     };
-    places.iter().flatten().flat_map(matching).filter(|path| path.exists()).collect()
+    places.iter().flatten().flat_map(matching).filter(|path| path.exists() || code_of(path).is_some_and(|code| code.exists())).collect()
+}
+
+/// The code whose proofs a folder is for: src for proofs, src/M.rt for proofs/M. A proof that is found by search has no file there.
+fn code_of(path: &Path) -> Option<PathBuf> {
+    let folder = crate_of(path)?;
+    let module = path.strip_prefix(folder.join("proofs")).ok()?;
+    let code = folder.join("src").join(module);
+    Some(if module.as_os_str().is_empty() { code } else { code.with_extension("rt") })
 }
 
 /// The file, or all files of a folder.
@@ -51,16 +59,16 @@ fn declares(line: &str, name: &str, code: bool) -> bool {
     !line.starts_with("--") && line.contains(':') && line.split(':').next().unwrap().split_whitespace().any(fits)
 }
 
-/// Whether a name is declared in a file or folder: `module::name` in the file or crate of that name. A proof's folder is named after the
-/// functions that it proves.
+/// Whether a name is declared in a file or folder: `module::name` in the file or crate of that name; in a folder of proofs, a function that
+/// is proved there.
 fn is_declared(name: &str, path: &Path) -> bool {
     let (module, name) = name.rsplit_once("::").unwrap_or(("", name));
     let parts = |file: &Path| file.with_extension("").iter().map(|part| part.to_string_lossy().to_string()).collect::<Vec<_>>();
-    files(path).iter().filter(|file| module.is_empty() || parts(file).iter().any(|part| part == module)).any(|file| {
-        let proved = parts(file).iter().any(|part| part.split('+').any(|function| function == name));
+    let files = files(path).into_iter().chain(code_of(path).iter().flat_map(|code| files(code))).collect::<Vec<_>>();
+    files.iter().filter(|file| module.is_empty() || parts(file).iter().any(|part| part == module)).any(|file| {
         let lines = || std::fs::read_to_string(file).unwrap();
         match file.extension().and_then(|end| end.to_str()) {
-            Some("antt") => proved && file.ends_with("Proof.antt") || lines().lines().any(|line| declares(line, name, false)),
+            Some("antt") => lines().lines().any(|line| declares(line, name, false)),
             Some("rt") => lines().lines().any(|line| declares(line, name, true)),
             _ => false,
         }
