@@ -18,14 +18,14 @@ use Rattle.lexer.specs.Answers.{numeral_meaning}
 use Rattle.reading.specs.Laws.Meanings.{numeral-means, other-means, name-is, name-malformed}
 use Rattle.lexer.specs.ToldLaws.{name-short}
 
-abbrev word : tie.Start → List ℕ
+abbrev word : (c : tie.Start) → List ℕ
 word c = part c.args.from c.args.to c.args.text.now
 
 -- what the word means, by the test of numerals
-other : (c : tie.Then-not-is_numeral) → meaning_of (run (word c)) ≡ name_of (word c)
+other : (c : tie.Then-not-is_numeral) → meaning_of (run (word c.before.before.before.before)) ≡ name_of (word c.before.before.before.before)
 other c = other-means _ (sym c.is_numeral.ensures ∙ not-true _ c.if-not-is_numeral.true-raw)
 
-numeral : (c : tie.After-numeral_of) (n : Numeral) → c.numeral_of.result ≡ n → meaning_of (run (word c)) ≡ numeral_meaning n
+numeral : (c : tie.After-numeral_of) (n : Numeral) → c.numeral_of.result ≡ n → meaning_of (run (word c.before.before.before.before.before)) ≡ numeral_meaning n
 numeral c n e = numeral-means _ (sym c.is_numeral.ensures ∙ not-false _ c.if-not-is_numeral.false-raw) ∙ sym c.numeral_of.ensures ∙ ap numeral_meaning e
 
 returns : tie.Need-returns-then-is_name
