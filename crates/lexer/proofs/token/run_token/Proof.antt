@@ -45,10 +45,10 @@ numeral-of-requires c κs =
 
 returns-3 : tie.Need-returns-in-Value
 returns-3 c =
-    let given = c.z-1.given in (
+    (
       refl,
-      numeral c.before _ given.1 ∙ ap (λ z. constant (number (of_z w32 z) given.0.1.0))
-          (sym (to_z-of_z {w = w32} {z = given.0.0} (record { sfits = c.in-Value.known_told-1-own.given.0.1 }))),
+      numeral c.before _ c.in-Value.is ∙ ap (λ z. constant (number (of_z w32 z) c.in-Value.places))
+          (sym (to_z-of_z {w = w32} {z = c.in-Value.z} (record { sfits = c.in-Value.known_told-1-own.given.0.1 }))),
     )
 
 returns-4 : tie.Need-returns-in-Malformed
