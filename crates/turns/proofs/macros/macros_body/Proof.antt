@@ -12,12 +12,12 @@ bind-macros-requires c κs =
 all-macros-requires : tie.Need-all_macros-requires
 all-macros-requires c κs =
     let a = c.args in
-    macros-ask a.work.now a.macros.now a.node a.wrap a.inside a.reached c.requires.0 c.requires.1.0 c.requires.1.1 _ _ c.element-list.ensures c.count-count.ensures c.bind_macros-scope.new.work _ _ _ c.bind_macros-scope.ensures c.Rules-wrap.ensures c.bind_macros-scope.auto.work
+    macros-ask a.work.now a.macros.now a.node a.wrap a.inside a.reached c.requires.0 c.requires.1.0 c.requires.1.1 _ _ c.element-list.ensures c.count-count.ensures c.bind_macros-scope.new.work _ _ _ c.bind_macros-scope.ensures c.rules_wrap-within.ensures c.bind_macros-scope.auto.work
 
 returns : tie.Need-returns-in_default
 returns c =
     let a = c.args in
-    (macros-bad a.work.now a.macros.now a.node a.wrap a.inside a.reached c.requires.0 c.requires.1.0 c.requires.1.1 _ _ c.element-list.ensures c.count-count.ensures c.bind_macros-scope.new.work _ _ _ c.bind_macros-scope.ensures c.Rules-wrap.ensures c.bind_macros-scope.auto.work c.all_macros.new.work c.all_macros.new.macros _ c.all_macros.ensures c.in_default.is, c.refuse.ensures)
+    (macros-bad a.work.now a.macros.now a.node a.wrap a.inside a.reached c.requires.0 c.requires.1.0 c.requires.1.1 _ _ c.element-list.ensures c.count-count.ensures c.bind_macros-scope.new.work _ _ _ c.bind_macros-scope.ensures c.rules_wrap-within.ensures c.bind_macros-scope.auto.work c.all_macros.new.work c.all_macros.new.macros _ c.all_macros.ensures c.in_default.is, c.refuse.ensures)
 
 grown-requires : tie.Need-grown-requires
 grown-requires c κs =
@@ -27,7 +27,7 @@ grown-requires c κs =
 returns-2 : tie.Need-returns
 returns-2 c =
     let a = c.args in
-    macros-known a.work.now a.macros.now a.node a.wrap a.inside a.reached c.requires.0 c.requires.1.0 c.requires.1.1 _ _ c.element-list.ensures c.count-count.ensures c.bind_macros-scope.new.work _ _ _ c.bind_macros-scope.ensures c.Rules-wrap.ensures c.bind_macros-scope.auto.work c.all_macros.new.work c.all_macros.new.macros _ c.all_macros.ensures _ _ c.in-Good.is c.element-body.ensures _ c.grown.ensures
+    macros-known a.work.now a.macros.now a.node a.wrap a.inside a.reached c.requires.0 c.requires.1.0 c.requires.1.1 _ _ c.element-list.ensures c.count-count.ensures c.bind_macros-scope.new.work _ _ _ c.bind_macros-scope.ensures c.rules_wrap-within.ensures c.bind_macros-scope.auto.work c.all_macros.new.work c.all_macros.new.macros _ c.all_macros.ensures _ _ c.in-Good.is c.element-body.ensures _ c.grown.ensures
 
 pub macros_body_spec : {M : Type 1} → statement M
 macros_body_spec =
