@@ -1,5 +1,6 @@
 // A caller of each service, here and for C and Rust, that asks for nothing and restates what the service gives: a service that asked for
 // something, or gave less, would have none.
+#![tactic(auto)]
 
 ghost use Rattle.std.specs.Prelude.{◌≡◌, [], ◌∷◌, length};
 ghost use Rattle.lexer.specs.Answered.{Answered};

@@ -1,6 +1,7 @@
 // The services for C and Rust. Each call answers the ground of documents 01 and 02, 0 where it accepts, and tells its numbers in a lent
 // table.
 // No call has a requirement: it tests what it is lent. A slice passes as a pointer and a count of elements.
+#![tactic(auto)]
 
 ghost use Rattle.std.specs.Prelude.{◌≡◌, [], ◌∷◌, length};
 ghost use Rattle.reading.specs.Read.{read, read_elements, read_numbers, items_after, names_after};

@@ -32,8 +32,8 @@ loop-again c =
     let outer = c.args.outer.now in
     let below : MovingBelow outer (c.loop-k.k + 1) c.if-x-ne0.moving =
     elim c.if-x-ne0.branch [
-      lts.then-x-ne0 w ↦ rw w.moving-is (moving-all outer (c.loop-k.k + 1))
-    | lts.else-x-ne0 w ↦ rw w.moving-is (moving-less outer c.loop-k.k _ _ c.get-x.ensures w.if-x-ne0.false c.loop-k.invariant.3)
+      | lts.then-x-ne0 w ↦ rw w.moving-is (moving-all outer (c.loop-k.k + 1))
+      | lts.else-x-ne0 w ↦ rw w.moving-is (moving-less outer c.loop-k.k _ _ c.get-x.ensures w.if-x-ne0.false c.loop-k.invariant.3)
     ] in
     (omega arith, c.put.auto.env ∙ c.loop-k.invariant.1, begins-more outer _ _ _ _ _ c.get-x.ensures c.begun.ensures c.put.ensures c.loop-k.invariant.2, below)
 

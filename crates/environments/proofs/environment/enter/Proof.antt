@@ -38,8 +38,8 @@ loop-again : tie.Need-loop-k-preserved invariant-loop decreases-loop
 loop-again c =
     let a = c.args in
     elim c.if-x-ne0.branch [
-      lts.then-x-ne0 w ↦ rw w.table-is (omega arith, w.put.auto.env ∙ c.loop-k.invariant.1, enter-next a.work.now a.env.now c.loop-k.k _ _ c.loop-k.invariant.2 c.get-x.ensures _ _ w.if-x-ne0.true w.next.ensures w.put.ensures)
-    | lts.else-x-ne0 w ↦ rw w.table-is (omega arith, c.loop-k.invariant.1, enter-flat a.work.now a.env.now c.loop-k.k _ _ c.loop-k.invariant.2 c.get-x.ensures w.if-x-ne0.false)
+      | lts.then-x-ne0 w ↦ rw w.table-is (omega arith, w.put.auto.env ∙ c.loop-k.invariant.1, enter-next a.work.now a.env.now c.loop-k.k _ _ c.loop-k.invariant.2 c.get-x.ensures _ _ w.if-x-ne0.true w.next.ensures w.put.ensures)
+      | lts.else-x-ne0 w ↦ rw w.table-is (omega arith, c.loop-k.invariant.1, enter-flat a.work.now a.env.now c.loop-k.k _ _ c.loop-k.invariant.2 c.get-x.ensures w.if-x-ne0.false)
     ]
 
 returns : tie.Need-returns invariant-loop decreases-loop

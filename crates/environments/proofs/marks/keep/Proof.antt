@@ -44,8 +44,8 @@ loop-again : tie.Need-loop-k-preserved invariant-loop decreases-loop
 loop-again c =
     let a = c.args in
     elim c.if-marks-place-eq1.branch [
-      lts.then-marks-place-eq1 w ↦ rw w.to-is (omega arith, w.put.auto.env ∙ c.loop-k.invariant.1, keeps-more a.marks.now a.env.now c.loop-k.k _ c.place.ensures _ c.loop-k.invariant.2 _ _ w.get-x.ensures w.put.ensures)
-    | lts.else-marks-place-eq1 w ↦ rw w.to-is (omega arith, c.loop-k.invariant.1, keeps-skip a.marks.now a.env.now c.loop-k.k _ c.place.ensures _ c.loop-k.invariant.2 w.if-marks-place-eq1.false)
+      | lts.then-marks-place-eq1 w ↦ rw w.to-is (omega arith, w.put.auto.env ∙ c.loop-k.invariant.1, keeps-more a.marks.now a.env.now c.loop-k.k _ c.place.ensures _ c.loop-k.invariant.2 _ _ w.get-x.ensures w.put.ensures)
+      | lts.else-marks-place-eq1 w ↦ rw w.to-is (omega arith, c.loop-k.invariant.1, keeps-skip a.marks.now a.env.now c.loop-k.k _ c.place.ensures _ c.loop-k.invariant.2 w.if-marks-place-eq1.false)
     ]
 
 returns : tie.Need-returns invariant-loop decreases-loop

@@ -52,8 +52,8 @@ returns-6 c =
     let b = c.args.b in
     let save = any-neither b 33 95 c.in_default.in_default-own.rest.1 in
     elim c.else-b-ge97.branch [
-      lts.else-b-ge97-via-then-b-ge97+else-b-le122 w ↦ valued-at is_running false (33 ∷ 95 ∷ []) 123 133 refl b (omega (arith, w.if-b-le122.false)) (omega arith) save
-    | lts.else-b-ge97-via-else-b-ge97 w ↦ valued-at is_running false (33 ∷ 95 ∷ []) 64 33 refl b (omega arith) (omega (arith, w.if-b-ge97.false)) save
+      | lts.else-b-ge97-via-then-b-ge97+else-b-le122 w ↦ valued-at is_running false (33 ∷ 95 ∷ []) 123 133 refl b (omega (arith, w.if-b-le122.false)) (omega arith) save
+      | lts.else-b-ge97-via-else-b-ge97 w ↦ valued-at is_running false (33 ∷ 95 ∷ []) 64 33 refl b (omega arith) (omega (arith, w.if-b-ge97.false)) save
     ]
 
 returns-7 : tie.Need-returns-in-33

@@ -44,12 +44,11 @@ numeral-of-requires c κs =
     omega (arith, length_part args.from args.to args.text.now (omega arith) (omega arith))
 
 returns-3 : tie.Need-returns-in-Value
-returns-3 c =
-    (
-      refl,
-      numeral c.before _ c.in-Value.is ∙ ap (λ z. constant (number (of_z w32 z) c.in-Value.places))
-          (sym (to_z-of_z {w = w32} {z = c.in-Value.z} (record { sfits = c.in-Value.known_told-1-own.given.0.1 }))),
-    )
+returns-3 c = (
+  refl,
+  numeral c.before _ c.in-Value.is ∙ ap (λ z. constant (number (of_z w32 z) c.in-Value.places))
+      (sym (to_z-of_z {w = w32} {z = c.in-Value.z} (record { sfits = c.in-Value.known_told-1-own.given.0.1 }))),
+)
 
 returns-4 : tie.Need-returns-in-Malformed
 returns-4 c = (refl, numeral c.before _ c.in-Malformed.is)

@@ -76,8 +76,7 @@ gather-loop-less t c =
 
 gather-loop-again : (t : ℕ) → gather-lts.Need-loop-head-preserved (gather-claims t) (gather-at t) gather.Post gather-Inv-loop gather-μ-loop
 gather-loop-again t c =
-    let a = c.args in
-    (
+    let a = c.args in (
       c.gather-k.auto.vars ∙ c.loop-head.invariant.0,
       gathering-more a.work.now a.form.wrap c.loop-head.at c.loop-head.m c.loop-head.vars (dots_of a.work.now a.form) (literals_of a.work.now a.form) a.d _ _ _ (sym c.word.ensures ∙ c.loop-head-test.true) c.reference-head.ensures c.reference-rest.ensures c.depth_before-inner.ensures _ _ _ _ _
           (gathered-stored _ _ _ _ _ _ _ (kept_of c.gather-k.result) _ (kept-count c.gather-k.result c.if-k.false) c.gather-k.ensures)

@@ -30,8 +30,7 @@ returns c =
 
 loop-again : tie.Need-loop-k-preserved invariant-loop decreases-loop
 loop-again c =
-    let a = c.args in
-    (
+    let a = c.args in (
       omega arith,
       known_more a.work.now a.w a.vars.now (name_at a.work.now a.node a.w) _ _ c.loop-k-test.true (sym c.if-same_names.false ∙ c.same_names.ensures) ∙ c.loop-k.invariant.1,
     )
