@@ -1,5 +1,7 @@
 // Ground 19 of document 01: whether words are exactly one core term, and one that holds together.
 // Its definition is term_of of specs/Check.antt; is_term says whether there is one, counted_of how many variables it binds.
+#![tactic(auto)]
+
 pub mod codes; // codes of nodes
 mod flags; // the variables that are in scope
 mod head; // whether a node may stand where it stands

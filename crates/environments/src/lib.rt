@@ -1,4 +1,5 @@
 // What a pattern's variables take from a use: parts, environments, and the lists that drive copies (ground 17).
+#![tactic(auto)]
 
 pub mod agree;
 pub mod bind;

@@ -1,4 +1,5 @@
 // The expansion service. What its tables mean and what a call leaves stands in specs/.
+#![tactic(auto)]
 
 mod cycle;
 mod ending;

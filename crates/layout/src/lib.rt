@@ -1,5 +1,7 @@
 // The tests that expansion makes before it runs: ground 7 (the layout of the item table), 8 and 9 (fuel and lent
 // tables) and 10 (the operations). None of them reads or writes the lent work and core tables.
+#![tactic(auto)]
+
 mod distinct;
 pub mod item;
 pub mod operation;

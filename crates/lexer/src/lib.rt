@@ -1,4 +1,5 @@
 // Tokens of a text: classes of bytes, numbers, the cursor, and the token reader, which holds the text and an offset.
+#![tactic(auto)]
 
 mod bytes; // classes of bytes
 mod number; // runs that are numbers

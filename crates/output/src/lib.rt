@@ -1,1 +1,2 @@
 // Definitions only: the recipes of document 01 that are proved from the definitions of all services stand in specs/.
+#![tactic(auto)]

@@ -1,1 +1,2 @@
 // Laws only: demand 3 for two calls of the expansion service stands in specs/.
+#![tactic(auto)]

@@ -1,1 +1,2 @@
 // Laws only: what the programs above the services share stands in specs/.
+#![tactic(auto)]

@@ -1,4 +1,6 @@
 // The reading service. Its meaning stands in reading/specs/Read.antt, its promise in specs/Served.antt.
+#![tactic(auto)]
+
 ghost use Rattle.std.specs.Prelude.{◌≡◌, ◌≤◌, length, replicate};
 ghost use Rattle.words.specs.Limits.{item_words_least, name_bytes_least};
 ghost use Rattle.reading.specs.Numbering.{base_names};

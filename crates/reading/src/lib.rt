@@ -1,1 +1,2 @@
 // Definitions and laws only: what reading means stands in specs/.
+#![tactic(auto)]

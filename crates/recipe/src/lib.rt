@@ -1,1 +1,2 @@
 // Definitions only: names, trees and the item table stand in specs/.
+#![tactic(auto)]

@@ -1,5 +1,7 @@
 // A recipe run (request L11, in the form that document 01 names): its items are expanded, and the term's words are run. Both are called by
 // their promises alone; what a call answers and leaves stands in specs/Service.antt.
+#![tactic(auto)]
+
 ghost use Rattle.recipe_runner.specs.Service.{RecipeRan};
 
 use expander::Expansion;

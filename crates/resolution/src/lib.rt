@@ -1,4 +1,5 @@
 // Names in the arena, with the marks and binders that wait on them: looked up, compared and bound.
+#![tactic(auto)]
 
 mod alike;
 mod direct;

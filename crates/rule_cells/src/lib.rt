@@ -1,4 +1,5 @@
 // Rules as cells of the arena: read once, when their form is reached. What the cells mean stands in specs/.
+#![tactic(auto)]
 
 pub mod cells; // tags, and where words stand
 mod constructors;

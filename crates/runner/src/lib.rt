@@ -1,4 +1,6 @@
 // The runner (request L11): a core term's value, or the ground. Its meaning stands in evaluation/specs/Run.antt.
+#![tactic(auto)]
+
 mod begin; // a node begins
 mod come; // a value comes
 mod machine; // from turn to turn

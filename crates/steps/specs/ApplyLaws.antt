@@ -26,15 +26,15 @@ use Rattle.steps.specs.declared.apply.Applied.TheVariants as A
 
 -- ---- the rule that is found
 
-or_next-each : {P : Rule → Type 0} (r : Rule) (l : List Name) (b : Bool) (later : List Name × Option Rule) → P r → Given P (or_next r l b later).1
+or_next-each : {P : Rule → Type 0} (r : Rule) (l : List Name) (b : Bool) (later : List Name × Option Rule) → P r → Given P later.1 → Given P (or_next r l b later).1
 unfolding or_next
-or_next-each r l true later p = given p
-or_next-each r l false later p = 𝓛
+or_next-each r l true later p g = given p
+or_next-each r l false later p g = g
 
 first_fit-each : {P : Rule → Type 0} {rs : List Rule} (t : Tree) → Each P rs → Given P (first_fit rs t).1
 unfolding first_fit
 first_fit-each t none_of = missing
-first_fit-each t (also {x = r} p ps) = or_next-each r _ _ _ p
+first_fit-each t (also {x = r} p ps) = or_next-each r _ _ _ p (first_fit-each t ps)
 
 -- ---- a template in an environment
 

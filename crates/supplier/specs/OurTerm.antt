@@ -44,4 +44,4 @@ module _ (ours operations : List ℕ) where
       let a = accepted (length operations) (has_name ours) words t h in
       let p : every (tests true) outside 0 t ≡ true = every-from (λ (i : Unit {0}). proper) (tests true) (variables t) (λ e f b. Unit {0}) (λ e f b x r l k. k tt) (λ e f b x r k. tt) (λ e f b n r. tt)
       t (λ i. tt) outside 0 tt (omega arith) (λ i. a.formed) in
-      (good-both t (λ i. elim i [ true ↦ p | false ↦ a.known' ]), sym a.words)
+      (good-both t (λ i. elim i as (λ k. every (tests k) outside 0 t ≡ true) [ true ↦ p | false ↦ a.known' ]), sym a.words)

@@ -1,5 +1,7 @@
 // The comparison service (request L4): the supplier's expansions held against ours. Its meaning stands in
 // comparison/specs/Compare.antt, its promise in specs/Service.antt.
+#![tactic(auto)]
+
 mod front; // our node as numbers
 mod grammar; // the text's lists: forms, formals, where the walk goes on
 mod names; // names of two tables

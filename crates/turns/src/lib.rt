@@ -1,4 +1,5 @@
 // One turn of an expression: what it is and what its head finds say what is written and what is left to expand.
+#![tactic(auto)]
 
 pub mod answers;
 mod base_forms;

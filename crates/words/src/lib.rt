@@ -1,5 +1,7 @@
 // The limits of documents 01 and 02, for code; specs/Limits.antt has the same numbers for definitions. And what is done with words, bytes and
 // tables, whatever they mean.
+#![tactic(auto)]
+
 pub mod casts;
 pub mod packed;
 pub mod signed;

@@ -1,6 +1,6 @@
 -- A text is its pieces.
 use Rattle.std.specs.Prelude.{◌≡◌, ℕ, zero, suc, ◌+◌, ◌-◌, Bool, true, false, List, [], ◌∷◌, ◌++◌, length, ◌≢◌, slice_index}
-use Rattle.std.proofs.Math.Path.{refl, sym}
+use Rattle.std.proofs.Math.Path.{refl, sym, ap}
 use Rattle.std.proofs.Common.{ap, ◌∙◌, append_assoc, append-nil, arith, add-one, ne_eqb}
 use Rattle.std.proofs.lemmas.Bool.{false≢true}
 use Rattle.words.specs.Text.{bytes}
@@ -27,7 +27,8 @@ module _ (said : Said) where
   formals-after : (t : List ℕ) (first n : ℕ) → spaced_after t (formal_texts spell said.called first n) ≡ t ++ formals_text said true first n
   unfolding spaced_after formal_texts formals_text gap_text
   formals-after t first zero = sym (append-nil t)
-  formals-after t first (suc n) = rw (formals-after _ (suc first) n)
+  formals-after t first (suc n) =
+      ap (λ (l : List ℕ). t ++ (32 ∷ l)) (formals-after (variable_text spell said.called first) (suc first) n)
 
   formals-spaced : (first n : ℕ) → spaced (formal_texts spell said.called first n) ≡ formals_text said false first n
   unfolding spaced formal_texts formals_text gap_text

@@ -1,4 +1,6 @@
 // Writing: a core term's one text, or ground 19 or 20. specs/Writing.antt says what each call answers and leaves.
+#![tactic(auto)]
+
 pub mod bytes; // bytes laid into the output
 mod called; // the names of variables, by number
 mod names; // names as text

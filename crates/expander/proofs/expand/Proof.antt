@@ -14,82 +14,61 @@ use Rattle.layout.specs.Places.{places-none}
 use Rattle.expander.specs.ServiceLaws.{room, served-layout, served-fuel, served-tables, served-operations, lends, expanded-fits, served-expanded}
 
 -- the tests of grounds 7, 8 and 9 that are passed
-layout : (c : tie.Else1) → is_layout c.before.before.before.before.before.args.items.now ≡ true
-layout c = sym c.before.is-layout.ensures ∙ not-false _ c.if1.false
+layout : (c : tie.Else-not-is_layout) → is_layout c.args.items.now ≡ true
+layout c = sym c.is_layout.ensures ∙ not-false _ c.if-not-is_layout.false-raw
 
-fuelled : (c : tie.Else2) → leb c.before.before.before.before.before.before.before.args.fuel fuel_most ≡ true
-fuelled c = sym c.before.fuel-fits.ensures ∙ not-false _ c.if2.false
+fuelled : (c : tie.Else-not-fuel_fits) → leb c.args.fuel fuel_most ≡ true
+fuelled c = sym c.fuel_fits.ensures ∙ not-false _ c.if-not-fuel_fits.false-raw
 
-roomy : (c : tie.Else3) → let a = c.before.before.before.before.before.before.before.before.before.args in room a.items.now a.fuel a.work.now a.core.now ≡ true
+roomy : (c : tie.Else-not-tables_fit) → let a = c.args in room a.items.now a.fuel a.work.now a.core.now ≡ true
 unfolding item_count
-roomy c = sym c.before.tables-fit.ensures ∙ not-false _ c.if3.false
+roomy c = sym c.tables_fit.ensures ∙ not-false _ c.if-not-tables_fit.false-raw
 
-returns : tie.Need-returns
+returns : tie.Need-returns-then-not-is_layout
 returns c =
-    let a = c.before.before.before.before.before.before.args in
-    served-layout a.items.now a.fuel a.work.now a.core.now (sym c.before.before.is-layout.ensures ∙ not-true _ c.before.if1.true) _ c.refused.ensures
+    let a = c.args in
+    served-layout a.items.now a.fuel a.work.now a.core.now (sym c.is_layout.ensures ∙ not-true _ c.if-not-is_layout.true-raw) _ c.refused.ensures
 
-returns-2 : tie.Need-returns-2
+returns-2 : tie.Need-returns-then-not-fuel_fits
 returns-2 c =
-    let at-if2 = c.before in
-    let at-fuel-fits = at-if2.before in
-    let past-layout = at-fuel-fits.before in
-    let a = past-layout.before.before.before.before.before.args in
-    served-fuel a.items.now a.fuel a.work.now a.core.now (layout past-layout) (sym at-fuel-fits.fuel-fits.ensures ∙ not-true _ at-if2.if2.true) _ c.refused2.ensures
+    let a = c.args in
+    served-fuel a.items.now a.fuel a.work.now a.core.now (layout c.before.before.before) (sym c.fuel_fits.ensures ∙ not-true _ c.if-not-fuel_fits.true-raw) _ c.refused-then-not-fuel_fits.ensures
 
-returns-3 : tie.Need-returns-3
+returns-3 : tie.Need-returns-then-not-tables_fit
 unfolding item_count
 returns-3 c =
-    let at-if3 = c.before in
-    let at-tables-fit = at-if3.before in
-    let past-fuel = at-tables-fit.before in
-    let past-layout = past-fuel.before.before in
-    let a = past-layout.before.before.before.before.before.args in
-    served-tables a.items.now a.fuel a.work.now a.core.now (layout past-layout) (fuelled past-fuel) (sym at-tables-fit.tables-fit.ensures ∙ not-true _ at-if3.if3.true) _ c.refused3.ensures
+    let a = c.args in
+    served-tables a.items.now a.fuel a.work.now a.core.now (layout c.before.before.before.before.before) (fuelled c.before.before.before) (sym c.tables_fit.ensures ∙ not-true _ c.if-not-tables_fit.true-raw) _ c.refused-then-not-tables_fit.ensures
 
 operations-requires : tie.Need-operations-requires
 operations-requires c κs =
     (layout c.before.before.before.before.before, refl, places-none)
 
-returns-4 : tie.Need-returns-4
+returns-4 : tie.Need-returns-then-not-operations
 returns-4 c =
-    let at-if4 = c.before in
-    let at-operations2 = at-if4.before.before in
-    let past-tables = at-operations2.before.before in
-    let past-fuel = past-tables.before.before in
-    let past-layout = past-fuel.before.before in
-    let a = past-layout.before.before.before.before.before.args in
-    served-operations a.items.now a.fuel a.work.now a.core.now (layout past-layout) (fuelled past-fuel) (roomy past-tables) (sym at-operations2.operations2.ensures.0 ∙ not-true _ at-if4.if4.true) _ c.refused4.ensures
+    let a = c.args in
+    served-operations a.items.now a.fuel a.work.now a.core.now (layout c.before.before.before.before.before.before.before.before.before) (fuelled c.before.before.before.before.before.before.before) (roomy c.before.before.before.before.before) (sym c.operations.ensures.0 ∙ not-true _ c.if-not-operations.true-raw) _ c.refused-then-not-operations.ensures
 
-expand-recipe-requires : tie.Need-expand-recipe-requires
+expand-recipe-requires : tie.Need-expand_recipe-ended-requires
 expand-recipe-requires c κs =
-    let at-if4 = c.before.before.before in
-    let at-operations2 = at-if4.before.before in
-    let past-tables = at-operations2.before.before in
-    let past-fuel = past-tables.before.before in
-    let past-layout = past-fuel.before.before in
-    let a = past-layout.before.before.before.before.before.args in
-    let good = not-false _ at-if4.if4.false in
-    lends a.items.now a.fuel a.work.now a.core.now (layout past-layout) (fuelled past-fuel) (roomy past-tables) _ (sym at-operations2.operations2.ensures.0 ∙ good) (at-operations2.operations2.ensures.1 good) at-operations2.operations2.auto.1.0
+    let a = c.args in
+    let good = not-false _ c.if-not-operations.false-raw in
+    lends a.items.now a.fuel a.work.now a.core.now (layout c.before.before.before.before.before.before.before.before.before.before.before) (fuelled c.before.before.before.before.before.before.before.before.before) (roomy c.before.before.before.before.before.before.before) _ (sym c.operations.ensures.0 ∙ good) (c.operations.ensures.1 good) c.operations.auto.places
 
 finish-requires : tie.Need-finish-requires
 finish-requires c κs =
-    let at-expand-recipe = c.before.before.before.before.before.before.before.before.before in
-    let a = at-expand-recipe.before.before.before.before.before.before.before.before.before.before.before.before.before.before.before.before.before.args in
-    let lent = expand-recipe-requires at-expand-recipe.before at-expand-recipe.expand-recipe.lifetimes in
-    expanded-fits a.items.now a.fuel a.work.now a.core.now _ _ lent.begun at-expand-recipe.expand-recipe.ensures at-expand-recipe.expand-recipe.auto.1.1.0
+    let a = c.args in
+    let lent = expand-recipe-requires c.before.before.before.before.before.before.before.before.before.before c.expand_recipe-ended.lifetimes in
+    expanded-fits a.items.now a.fuel a.work.now a.core.now _ _ lent.begun c.expand_recipe-ended.ensures c.expand_recipe-ended.auto.core
 
-returns-5 : tie.Need-returns-5
+returns-5 : tie.Need-returns
 returns-5 c =
-    let at-finish = c.before.before in
-    let at-zero-words = at-finish.before.before.before.before in
-    let at-expand-recipe = at-zero-words.before.before.before.before.before.before in
-    let a = at-expand-recipe.before.before.before.before.before.before.before.before.before.before.before.before.before.before.before.before.before.args in
-    let lent = expand-recipe-requires at-expand-recipe.before at-expand-recipe.expand-recipe.lifetimes in
-    served-expanded a.items.now a.fuel a.work.now a.core.now _ _ lent.begun at-expand-recipe.expand-recipe.ensures at-expand-recipe.expand-recipe.auto.1.1.0 _ _ _ at-finish.finish.ensures (at-zero-words.zero-words.ensures ∙ ap (λ (n : ℕ). replicate n 0) at-expand-recipe.expand-recipe.auto.1.0)
+    let a = c.args in
+    let lent = expand-recipe-requires c.before.before.before.before.before.before.before.before.before.before.before.before.before c.expand_recipe-ended.lifetimes in
+    served-expanded a.items.now a.fuel a.work.now a.core.now _ _ lent.begun c.expand_recipe-ended.ensures c.expand_recipe-ended.auto.core _ _ _ c.finish.ensures (c.zero_words.ensures ∙ ap (λ (n : ℕ). replicate n 0) c.expand_recipe-ended.auto.work)
 
-pub expand-spec : {M : Type 1} → statement M
-expand-spec =
+pub expand_spec : {M : Type 1} → statement M
+expand_spec =
     tie.close
     (tie.spec
     (λ c κs. search rules)  -- is-layout-requires

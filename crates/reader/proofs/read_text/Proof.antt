@@ -45,8 +45,7 @@ loop-less c =
 
 loop-again : tie.Need-loop-p-preserved invariant-loop decreases-loop
 loop-again c =
-    let args = c.args in
-    (
+    let args = c.args in (
       c.advance.auto.items ∙ c.loop-p.invariant.0,
       c.advance.auto.names ∙ c.loop-p.invariant.1,
       c.advance.auto.index ∙ c.loop-p.invariant.2,

@@ -31,11 +31,10 @@ slice-aggregate-evaluated c = search rules
 
 -- src/lib.rt:129:9
 evaluated-requires : tie.Need-evaluated-requires
-evaluated-requires c κs =
-    (
-      subst (λ (e : List ℕ). Memo c.args.words.now e) (sym c.short_ends-ends.ensures) (memo-none _ 1024),
-      tested-fit _ _ _ _ c.if-g-ne0.false c.unfit-g.ensures,
-    )
+evaluated-requires c κs = (
+  subst (λ (e : List ℕ). Memo c.args.words.now e) (sym c.short_ends-ends.ensures) (memo-none _ 1024),
+  tested-fit _ _ _ _ c.if-g-ne0.false c.unfit-g.ensures,
+)
 
 -- src/lib.rt:129:9
 same-length-2 : tie.Need-shape_of-table-then-words-le-SHORT
@@ -55,11 +54,10 @@ slice-aggregate-evaluated-2 c = search rules
 
 -- src/lib.rt:132:5
 evaluated-requires-2 : tie.Need-evaluated-requires-2
-evaluated-requires-2 c κs =
-    (
-      subst (λ (e : List ℕ). Memo c.args.words.now e) (sym c.long_ends-ends.ensures) (memo-none _ 36864),
-      tested-fit _ _ _ _ c.if-g-ne0.false c.unfit-g.ensures,
-    )
+evaluated-requires-2 c κs = (
+  subst (λ (e : List ℕ). Memo c.args.words.now e) (sym c.long_ends-ends.ensures) (memo-none _ 36864),
+  tested-fit _ _ _ _ c.if-g-ne0.false c.unfit-g.ensures,
+)
 
 -- src/lib.rt:120:1
 same-length-3 : tie.Need-shape_of-table

@@ -44,8 +44,8 @@ bind-returns-2 t c =
     let a = c.args in
     let list = whole-list a.work.now _ _ _ _ _ _ c.bind_list.ensures in
     elim c.if-rest-ne0.branch [
-      | inl y ↦ pattern-ellipsis a.work.now a.p _ c.word-tag.ensures a.env.now _ _ c.reference-rest.ensures c.reference-head.ensures _ _ c.if-tag-eq-ELLIPSIS.true a.u _ y.1.ensures (subst (Binds a.work.now _ _ _) (sym y.5) (whole-binds a.work.now _ _ _ _ y.4.ensures)) list
-      | inr y ↦ pattern-last a.work.now a.p _ c.word-tag.ensures a.env.now _ _ c.reference-rest.ensures c.reference-head.ensures _ _ c.if-tag-eq-ELLIPSIS.true a.u y.0.left y.1 list
+      | bind-lts.then-rest-ne0 y ↦ pattern-ellipsis a.work.now a.p _ c.word-tag.ensures a.env.now _ _ c.reference-rest.ensures c.reference-head.ensures _ _ c.if-tag-eq-ELLIPSIS.true a.u _ y.after-after.ensures (subst (Binds a.work.now _ _ _) (sym y.env-is) (whole-binds a.work.now _ _ _ _ y.bind.ensures)) list
+      | bind-lts.else-rest-ne0 y ↦ pattern-last a.work.now a.p _ c.word-tag.ensures a.env.now _ _ c.reference-rest.ensures c.reference-head.ensures _ _ c.if-tag-eq-ELLIPSIS.true a.u y.if-rest-ne0.false y.env-is list
     ]
 
 bind-returns-3 : (t : ℕ) → bind-lts.Need-returns-then-tag-ne-PAIR (bind-claims t) (bind-at t) bind.Post

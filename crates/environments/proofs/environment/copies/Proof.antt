@@ -11,23 +11,23 @@ use Rattle.environments.specs.EntryLaws.{next-most, copies-out, copies-flat, cop
 returns : tie.Need-returns-then-k-ge-VARIABLES
 returns c =
     let a = c.args in
-    copies-out a.work.now a.env.now a.k a.d c.table-1.given.0 c.if-k-ge-VARIABLES.true
+    copies-out a.work.now a.env.now a.k a.d c.table-1.given c.if-k-ge-VARIABLES.true
 
 add-i : tie.Need-overflow_add-i
 add-i c =
-    omega (arith, c.next_level.ensures, next-most c.args.d, c.table-1.given.0, c.if-k-ge-VARIABLES.false)
+    omega (arith, c.next_level.ensures, next-most c.args.d, c.table-1.given, c.if-k-ge-VARIABLES.false)
 
 add-ellipsis : tie.Need-overflow_add-ellipsis
 add-ellipsis c =
-    omega (arith, c.next_level.ensures, next-most c.args.d, c.table-1.given.0, c.if-k-ge-VARIABLES.false)
+    omega (arith, c.next_level.ensures, next-most c.args.d, c.table-1.given, c.if-k-ge-VARIABLES.false)
 
 mul-ellipsis : tie.Need-offset_bounds-table-i
 mul-ellipsis c =
-    omega (arith, c.next_level.ensures, next-most c.args.d, c.table-1.given.0, c.if-k-ge-VARIABLES.false)
+    omega (arith, c.next_level.ensures, next-most c.args.d, c.table-1.given, c.if-k-ge-VARIABLES.false)
 
 shared-slice-read-ellipsis : tie.Need-bounds-table-i
 shared-slice-read-ellipsis c =
-    omega (arith, c.next_level.ensures, next-most c.args.d, c.table-1.given.0, c.if-k-ge-VARIABLES.false)
+    omega (arith, c.next_level.ensures, next-most c.args.d, c.table-1.given, c.if-k-ge-VARIABLES.false)
 
 returns-2 : tie.Need-returns-then-ellipsis-eq0
 returns-2 c =
@@ -36,11 +36,11 @@ returns-2 c =
 
 mul-share : tie.Need-offset_bounds-table-i-2
 mul-share c =
-    omega (arith, c.next_level.ensures, next-most c.args.d, c.table-1.given.0, c.if-k-ge-VARIABLES.false)
+    omega (arith, c.next_level.ensures, next-most c.args.d, c.table-1.given, c.if-k-ge-VARIABLES.false)
 
 shared-slice-read-share : tie.Need-bounds-table-i-2
 shared-slice-read-share c =
-    omega (arith, c.next_level.ensures, next-most c.args.d, c.table-1.given.0, c.if-k-ge-VARIABLES.false)
+    omega (arith, c.next_level.ensures, next-most c.args.d, c.table-1.given, c.if-k-ge-VARIABLES.false)
 
 returns-3 : tie.Need-returns
 returns-3 c =

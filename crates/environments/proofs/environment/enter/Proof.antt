@@ -1,6 +1,7 @@
 -- `environment::enter`. The loop's invariant: the entries below k are those of the next copy, and the others as they were.
 use Rattle.environments.proofs.environment.enter.Statement.{statement}
 use Rattle.environments.proofs.environment.enter.Tie as tie
+use Rattle.environments.proofs.environment.enter.Lts as lts
 use Rattle.std.proofs.Common.{◌≡◌, ◌-◌, ◌≤◌, length, ◌∙◌, ⊎_elim, arith, rules}
 use Rattle.environments.specs.Entries.{table_words}
 use Rattle.environments.specs.EntryLaws.{Entering, enter-begins, enter-flat, enter-next, entered_all}
@@ -36,10 +37,10 @@ put-requires c κs =
 loop-again : tie.Need-loop-k-preserved invariant-loop decreases-loop
 loop-again c =
     let a = c.args in
-    ⊎_elim
-    (λ w. rw w.6 (omega arith, w.3.kept.0 ∙ c.loop-k.invariant.1, enter-next a.work.now a.env.now c.loop-k.k _ _ c.loop-k.invariant.2 c.get-x.ensures _ _ w.0.taken w.2.ensures w.3.ensures))
-    (λ w. rw w.1 (omega arith, c.loop-k.invariant.1, enter-flat a.work.now a.env.now c.loop-k.k _ _ c.loop-k.invariant.2 c.get-x.ensures w.0.left))
-    c.if-x-ne0.branch
+    elim c.if-x-ne0.branch [
+      | lts.then-x-ne0 w ↦ rw w.table-is (omega arith, w.put.auto.env ∙ c.loop-k.invariant.1, enter-next a.work.now a.env.now c.loop-k.k _ _ c.loop-k.invariant.2 c.get-x.ensures _ _ w.if-x-ne0.true w.next.ensures w.put.ensures)
+      | lts.else-x-ne0 w ↦ rw w.table-is (omega arith, c.loop-k.invariant.1, enter-flat a.work.now a.env.now c.loop-k.k _ _ c.loop-k.invariant.2 c.get-x.ensures w.if-x-ne0.false)
+    ]
 
 returns : tie.Need-returns invariant-loop decreases-loop
 returns c =

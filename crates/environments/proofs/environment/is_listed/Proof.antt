@@ -23,7 +23,7 @@ returns-3 c =
 
 shared-slice-read-q : tie.Need-bounds-table-k
 shared-slice-read-q c =
-    omega (arith, c.table-1.given.0, c.if-k-ge-VARIABLES.false)
+    omega (arith, c.table-1.given, c.if-k-ge-VARIABLES.false)
 
 returns-4 : tie.Need-returns
 returns-4 c =

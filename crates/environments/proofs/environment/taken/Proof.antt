@@ -2,11 +2,11 @@
 use Rattle.std.proofs.Common.{arith, rules}
 use Rattle.environments.proofs.environment.taken.Statement.{statement}
 use Rattle.environments.proofs.environment.taken.Tie as tie
-use Rattle.environments.specs.EntryLaws.{level-most, taken_out, taken_in}
+use Rattle.environments.specs.EntryLaws.{level-most, taken_out, taken_in_lem}
 
 returns : tie.Need-returns-then-k-ge-VARIABLES
 returns c =
-    taken_out c.args.env.now c.args.k c.args.d c.table-1.given.0 c.if-k-ge-VARIABLES.true
+    taken_out c.args.env.now c.args.k c.args.d c.table-1.given c.if-k-ge-VARIABLES.true
 
 add-result : tie.Need-overflow_add-result
 add-result c =
@@ -18,11 +18,11 @@ mul-result-2 c =
 
 shared-slice-read-result : tie.Need-bounds-table-k
 shared-slice-read-result c =
-    omega (arith, c.level.ensures, level-most c.args.d, c.table-1.given.0)
+    omega (arith, c.level.ensures, level-most c.args.d, c.table-1.given)
 
 returns-2 : tie.Need-returns
 returns-2 c =
-    taken_in c.args.env.now c.args.k c.args.d _ c.level.ensures
+    taken_in_lem c.args.env.now c.args.k c.args.d _ c.level.ensures
 
 pub taken_spec : {M : Type 1} → statement M
 taken_spec =

@@ -1,6 +1,7 @@
 -- `marks::keep`. The loop's invariant: the marked entries below k are kept.
 use Rattle.environments.proofs.marks.keep.Statement.{statement}
 use Rattle.environments.proofs.marks.keep.Tie as tie
+use Rattle.environments.proofs.marks.keep.Lts as lts
 use Rattle.std.proofs.Common.{◌≡◌, ℕ, ◌-◌, ◌≤◌, length, ◌∙◌, subst, ⊎_elim, arith, rules}
 use Rattle.words.specs.Limits.{pattern_variables_most}
 use Rattle.environments.specs.Entries.{table_words}
@@ -33,7 +34,7 @@ shared-slice-read-if1 c =
 
 get-requires : tie.Need-get-x-requires invariant-loop decreases-loop
 get-requires c κs =
-    (c.from-1.given.0, omega arith)
+    (c.from-1.given, omega arith)
 
 put-requires : tie.Need-put-requires invariant-loop decreases-loop
 put-requires c κs =
@@ -42,10 +43,10 @@ put-requires c κs =
 loop-again : tie.Need-loop-k-preserved invariant-loop decreases-loop
 loop-again c =
     let a = c.args in
-    ⊎_elim
-    (λ w. rw w.6 (omega arith, w.3.kept.0 ∙ c.loop-k.invariant.1, keeps-more a.marks.now a.env.now c.loop-k.k _ c.place.ensures _ c.loop-k.invariant.2 _ _ w.1.ensures w.3.ensures))
-    (λ w. rw w.1 (omega arith, c.loop-k.invariant.1, keeps-skip a.marks.now a.env.now c.loop-k.k _ c.place.ensures _ c.loop-k.invariant.2 w.0.left))
-    c.if-marks-place-eq1.branch
+    elim c.if-marks-place-eq1.branch [
+      | lts.then-marks-place-eq1 w ↦ rw w.to-is (omega arith, w.put.auto.env ∙ c.loop-k.invariant.1, keeps-more a.marks.now a.env.now c.loop-k.k _ c.place.ensures _ c.loop-k.invariant.2 _ _ w.get-x.ensures w.put.ensures)
+      | lts.else-marks-place-eq1 w ↦ rw w.to-is (omega arith, c.loop-k.invariant.1, keeps-skip a.marks.now a.env.now c.loop-k.k _ c.place.ensures _ c.loop-k.invariant.2 w.if-marks-place-eq1.false)
+    ]
 
 returns : tie.Need-returns invariant-loop decreases-loop
 returns c =

@@ -67,11 +67,11 @@ abbrev operands-below : ℕ → In 4 operands-kinds.ps
 operands-below t =
     and 4 operands-kinds.ps (falls 4 operands-kinds.ps ◌<◌ μ-operands t) operands.Pre
 
-abbrev expression-Inv-loop : expression-lts.invariant-loop
+abbrev expression-Inv-loop : expression-lts.invariant-loop-n
 expression-Inv-loop work₀ core₀ known₀ operations fuel start outer node₀ wrap₀ reached₀ work core known node wrap reached =
     (o : List ℕ) → Lent o operations → Going o fuel (tree_at work₀ start outer) reached₀ (tables work₀ core₀ known₀) node wrap reached (tables work core known)
 
-abbrev expression-μ-loop : expression-lts.decreases-loop
+abbrev expression-μ-loop : expression-lts.decreases-loop-n
 expression-μ-loop work₀ core₀ known₀ operations fuel start outer node₀ wrap₀ reached₀ work core known node wrap reached =
     left_of fuel work node wrap reached
 
@@ -81,341 +81,199 @@ expression-claims t = (turn-reads.Asked, turn-reads.Learnt, operands-below t, op
 abbrev operand-claims : ℕ → operand-lts.Claims
 operand-claims t = (word-reads.Asked, word-reads.Learnt, bare-name-reads.Asked, bare-name-reads.Learnt, expression-below t, expression.Post, refuse-reads.Asked, refuse-reads.Learnt, constant-reads.Asked, constant-reads.Learnt)
 
-abbrev operands-Inv-loop : operands-lts.invariant-loop
+abbrev operands-Inv-loop : operands-lts.invariant-loop-work
 operands-Inv-loop work₀ core₀ known₀ operations fuel first wrap list₀ reached₀ work core known list reached =
     (o : List ℕ) → Lent o operations → Walking o fuel (tree_at work₀ first wrap) reached₀ (tables work₀ core₀ known₀) list wrap reached (tables work core known)
 
-abbrev operands-μ-loop : operands-lts.decreases-loop
+abbrev operands-μ-loop : operands-lts.decreases-loop-work
 operands-μ-loop work₀ core₀ known₀ operations fuel first wrap list₀ reached₀ work core known list reached =
     list
 
 abbrev operands-claims : ℕ → operands-lts.Claims
 operands-claims t = (word-reads.Asked, word-reads.Learnt, reference-reads.Asked, reference-reads.Learnt, operand_below t, operand.Post)
 
-expression-loop-holds : (t : ℕ) → expression-lts.Need-loop-init (expression-claims t) (expression-at t) expression.Post expression-Inv-loop expression-μ-loop
+expression-loop-holds : (t : ℕ) → expression-lts.Need-loop-n-init (expression-claims t) (expression-at t) expression.Post expression-Inv-loop expression-μ-loop
 expression-loop-holds t c =
-    let pre = c.before.before.before.before.requires in
+    let pre = c.requires in
     λ o lent. going_start o _ _ _ _ _ pre.1.2 pre.1.1
 
 expression-turn-requires : (t : ℕ) → expression-lts.Need-turn-requires (expression-claims t) (expression-at t) expression.Post expression-Inv-loop expression-μ-loop
 expression-turn-requires t c κs =
-    let at-loop = c.before.before.before in
-    let pre = at-loop.before.before.before.before.before.requires in
+    let pre = c.requires in
     let lends = pre.1.0 in
     let o = lends.operations in
     let lent = lends.lent in
-    let loop = at-loop.loop in
-    ((loop.invariant o lent).placed, going-ready o _ _ _ _ _ _ _ _ (loop.invariant o lent) pre.1.2)
+    ((c.loop-n.invariant o lent).placed, going-ready o _ _ _ _ _ _ _ _ (c.loop-n.invariant o lent) pre.1.2)
 
-expression-loop-less : (t : ℕ) → expression-lts.Need-loop-smaller (expression-claims t) (expression-at t) expression.Post expression-Inv-loop expression-μ-loop
+expression-loop-less : (t : ℕ) → expression-lts.Need-loop-n-smaller (expression-claims t) (expression-at t) expression.Post expression-Inv-loop expression-μ-loop
 expression-loop-less t c =
-    let at_n = c.before in
-    let at_turn = at_n.before.before.before.before.before.before.before.before in
-    let at-loop = at_turn.before.before.before.before in
-    let entry = at-loop.before.before.before.before.before in
-    let lends = entry.requires.1.0 in
+    let lends = c.requires.1.0 in
     let o = lends.operations in
     let lent = lends.lent in
-    let loop = at-loop.loop in
-    let turn = at_turn.turn in
-    let after = tables turn.new.0 turn.new.1.0 turn.new.1.1.0 in
-    again-falls o entry.args.fuel _ _ _ _ _ _ _ (loop.invariant o lent) after turn.result (turn.ensures o lent) _ _ _ at_n.n.given.1
+    let after = tables c.turn.new.work c.turn.new.core c.turn.new.macros in
+    again-falls o c.args.fuel _ _ _ _ _ _ _ (c.loop-n.invariant o lent) after c.turn.result (c.turn.ensures o lent) _ _ _ c.in-Again.is
 
-expression-loop-again : (t : ℕ) → expression-lts.Need-loop-preserved (expression-claims t) (expression-at t) expression.Post expression-Inv-loop expression-μ-loop
+expression-loop-again : (t : ℕ) → expression-lts.Need-loop-n-preserved (expression-claims t) (expression-at t) expression.Post expression-Inv-loop expression-μ-loop
 expression-loop-again t c =
-    let at_n = c.before in
-    let at_turn = at_n.before.before.before.before.before.before.before.before in
-    let at-loop = at_turn.before.before.before.before in
-    let entry = at-loop.before.before.before.before.before in
-    let loop = at-loop.loop in
-    let turn = at_turn.turn in
-    let after = tables turn.new.0 turn.new.1.0 turn.new.1.1.0 in
-    λ o lent. again-going o entry.args.fuel _ _ _ _ _ _ _ (loop.invariant o lent) after turn.result (turn.ensures o lent) _ _ _ at_n.n.given.1
+    let after = tables c.turn.new.work c.turn.new.core c.turn.new.macros in
+    λ o lent. again-going o c.args.fuel _ _ _ _ _ _ _ (c.loop-n.invariant o lent) after c.turn.result (c.turn.ensures o lent) _ _ _ c.in-Again.is
 
 expression-operands-requires : (t : ℕ) → expression-lts.Need-operands-requires (expression-claims t) (expression-at t) expression.Post expression-Inv-loop expression-μ-loop
 expression-operands-requires t c κs =
-    let at-l = c.before.before.before.before in
-    let at_turn = at-l.before.before.before.before.before.before.before.before in
-    let at-loop = at_turn.before.before.before.before in
-    let entry = at-loop.before.before.before.before.before in
-    let lends = entry.requires.1.0 in
+    let lends = c.requires.1.0 in
     let o = lends.operations in
     let lent = lends.lent in
-    let loop = at-loop.loop in
-    let turn = at_turn.turn in
-    let after = tables turn.new.0 turn.new.1.0 turn.new.1.1.0 in
-    let asks = spread-asks o entry.args.fuel _ _ _ _ _ _ _ (loop.invariant o lent) after turn.result (turn.ensures o lent) _ _ _ at-l.l.given.1 entry.requires.1.2 in
-    (omega (arith, entry.requires.0, asks.0), (entry.requires.1.0, asks.1, asks.2))
+    let after = tables c.turn.new.work c.turn.new.core c.turn.new.macros in
+    let asks = spread-asks o c.args.fuel _ _ _ _ _ _ _ (c.loop-n.invariant o lent) after c.turn.result (c.turn.ensures o lent) _ _ _ c.in-Operands.is c.requires.1.2 in
+    (omega (arith, c.requires.0, asks.0), (c.requires.1.0, asks.1, asks.2))
 
-expression-same-length : (t : ℕ) → expression-lts.Need-same-length (expression-claims t) (expression-at t) expression.Post expression-Inv-loop expression-μ-loop
+expression-same-length : (t : ℕ) → expression-lts.Need-shape_of-work-in-Operands (expression-claims t) (expression-at t) expression.Post expression-Inv-loop expression-μ-loop
 expression-same-length t c =
-    let at-operands = c.before.before.before.before.before.before in
-    let at_turn = at-operands.before.before.before.before.before.before.before.before.before.before.before.before.before in
-    let at-loop = at_turn.before.before.before.before in
-    let lends = at-loop.before.before.before.before.before.requires.1.0 in
+    let lends = c.requires.1.0 in
     let o = lends.operations in
     let lent = lends.lent in
-    let loop = at-loop.loop in
-    let turn = at_turn.turn in
-    let operands = at-operands.operands in
-    operands.auto.0 ∙ turn.auto.0 ∙ (loop.invariant o lent).kept.work-long
+    c.operands.auto.work ∙ c.turn.auto.work ∙ (c.loop-n.invariant o lent).kept.work-long
 
-expression-same-length-2 : (t : ℕ) → expression-lts.Need-same-length-2 (expression-claims t) (expression-at t) expression.Post expression-Inv-loop expression-μ-loop
+expression-same-length-2 : (t : ℕ) → expression-lts.Need-shape_of-core-in-Operands (expression-claims t) (expression-at t) expression.Post expression-Inv-loop expression-μ-loop
 expression-same-length-2 t c =
-    let at-operands = c.before.before.before.before.before.before in
-    let at_turn = at-operands.before.before.before.before.before.before.before.before.before.before.before.before.before in
-    let at-loop = at_turn.before.before.before.before in
-    let lends = at-loop.before.before.before.before.before.requires.1.0 in
+    let lends = c.requires.1.0 in
     let o = lends.operations in
     let lent = lends.lent in
-    let loop = at-loop.loop in
-    let turn = at_turn.turn in
-    let operands = at-operands.operands in
-    operands.auto.1.0 ∙ turn.auto.1.0 ∙ (loop.invariant o lent).kept.core-long
+    c.operands.auto.core ∙ c.turn.auto.core ∙ (c.loop-n.invariant o lent).kept.core-long
 
-expression-same-length-3 : (t : ℕ) → expression-lts.Need-same-length-3 (expression-claims t) (expression-at t) expression.Post expression-Inv-loop expression-μ-loop
+expression-same-length-3 : (t : ℕ) → expression-lts.Need-shape_of-known-in-Operands (expression-claims t) (expression-at t) expression.Post expression-Inv-loop expression-μ-loop
 expression-same-length-3 t c =
-    let at-operands = c.before.before.before.before.before.before in
-    let at_turn = at-operands.before.before.before.before.before.before.before.before.before.before.before.before.before in
-    let at-loop = at_turn.before.before.before.before in
-    let lends = at-loop.before.before.before.before.before.requires.1.0 in
+    let lends = c.requires.1.0 in
     let o = lends.operations in
     let lent = lends.lent in
-    let loop = at-loop.loop in
-    let turn = at_turn.turn in
-    let operands = at-operands.operands in
-    operands.auto.1.1.0 ∙ turn.auto.1.1.0 ∙ (loop.invariant o lent).kept.macros-long
+    c.operands.auto.known ∙ c.turn.auto.macros ∙ (c.loop-n.invariant o lent).kept.macros-long
 
-expression-returns : (t : ℕ) → expression-lts.Need-returns (expression-claims t) (expression-at t) expression.Post expression-Inv-loop expression-μ-loop
+expression-returns : (t : ℕ) → expression-lts.Need-returns-in-Operands (expression-claims t) (expression-at t) expression.Post expression-Inv-loop expression-μ-loop
 expression-returns t c =
-    let at-operands = c.before.before.before.before.before.before in
-    let at-l = at-operands.before.before.before.before.before in
-    let at_turn = at-l.before.before.before.before.before.before.before.before in
-    let at-loop = at_turn.before.before.before.before in
-    let entry = at-loop.before.before.before.before.before in
-    let loop = at-loop.loop in
-    let turn = at_turn.turn in
-    let after = tables turn.new.0 turn.new.1.0 turn.new.1.1.0 in
-    λ o lent. spread-over o entry.args.fuel _ _ _ _ _ _ _ (loop.invariant o lent) after turn.result (turn.ensures o lent) _ _ _ at-l.l.given.1 _ _ (at-operands.operands.ensures o lent)
+    let after = tables c.turn.new.work c.turn.new.core c.turn.new.macros in
+    λ o lent. spread-over o c.args.fuel _ _ _ _ _ _ _ (c.loop-n.invariant o lent) after c.turn.result (c.turn.ensures o lent) _ _ _ c.in-Operands.is _ _ (c.operands.ensures o lent)
 
-expression-same-length-4 : (t : ℕ) → expression-lts.Need-same-length-4 (expression-claims t) (expression-at t) expression.Post expression-Inv-loop expression-μ-loop
+expression-same-length-4 : (t : ℕ) → expression-lts.Need-shape_of-work-in-Over (expression-claims t) (expression-at t) expression.Post expression-Inv-loop expression-μ-loop
 expression-same-length-4 t c =
-    let at_turn = c.before.before.before.before.before.before.before.before.before in
-    let at-loop = at_turn.before.before.before.before in
-    let lends = at-loop.before.before.before.before.before.requires.1.0 in
-    let loop = at-loop.loop in
-    at_turn.turn.auto.0 ∙ (loop.invariant lends.operations lends.lent).kept.work-long
+    let lends = c.requires.1.0 in
+    c.turn.auto.work ∙ (c.loop-n.invariant lends.operations lends.lent).kept.work-long
 
-expression-same-length-5 : (t : ℕ) → expression-lts.Need-same-length-5 (expression-claims t) (expression-at t) expression.Post expression-Inv-loop expression-μ-loop
+expression-same-length-5 : (t : ℕ) → expression-lts.Need-shape_of-core-in-Over (expression-claims t) (expression-at t) expression.Post expression-Inv-loop expression-μ-loop
 expression-same-length-5 t c =
-    let at_turn = c.before.before.before.before.before.before.before.before.before in
-    let at-loop = at_turn.before.before.before.before in
-    let lends = at-loop.before.before.before.before.before.requires.1.0 in
-    let loop = at-loop.loop in
-    at_turn.turn.auto.1.0 ∙ (loop.invariant lends.operations lends.lent).kept.core-long
+    let lends = c.requires.1.0 in
+    c.turn.auto.core ∙ (c.loop-n.invariant lends.operations lends.lent).kept.core-long
 
-expression-same-length-6 : (t : ℕ) → expression-lts.Need-same-length-6 (expression-claims t) (expression-at t) expression.Post expression-Inv-loop expression-μ-loop
+expression-same-length-6 : (t : ℕ) → expression-lts.Need-shape_of-known-in-Over (expression-claims t) (expression-at t) expression.Post expression-Inv-loop expression-μ-loop
 expression-same-length-6 t c =
-    let at_turn = c.before.before.before.before.before.before.before.before.before in
-    let at-loop = at_turn.before.before.before.before in
-    let lends = at-loop.before.before.before.before.before.requires.1.0 in
-    let loop = at-loop.loop in
-    at_turn.turn.auto.1.1.0 ∙ (loop.invariant lends.operations lends.lent).kept.macros-long
+    let lends = c.requires.1.0 in
+    c.turn.auto.macros ∙ (c.loop-n.invariant lends.operations lends.lent).kept.macros-long
 
-expression-returns-2 : (t : ℕ) → expression-lts.Need-returns-2 (expression-claims t) (expression-at t) expression.Post expression-Inv-loop expression-μ-loop
+expression-returns-2 : (t : ℕ) → expression-lts.Need-returns-in-Over (expression-claims t) (expression-at t) expression.Post expression-Inv-loop expression-μ-loop
 expression-returns-2 t c =
-    let at-e = c.before in
-    let at_turn = at-e.before.before.before.before.before.before.before.before in
-    let at-loop = at_turn.before.before.before.before in
-    let entry = at-loop.before.before.before.before.before in
-    let loop = at-loop.loop in
-    let turn = at_turn.turn in
-    let after = tables turn.new.0 turn.new.1.0 turn.new.1.1.0 in
-    λ o lent. over-right o entry.args.fuel _ _ _ _ _ _ _ (loop.invariant o lent) after turn.result (turn.ensures o lent) _ at-e.e.given.1
+    let after = tables c.turn.new.work c.turn.new.core c.turn.new.macros in
+    λ o lent. over-right o c.args.fuel _ _ _ _ _ _ _ (c.loop-n.invariant o lent) after c.turn.result (c.turn.ensures o lent) _ c.in-Over.is
 
-operand-bare-name-requires : (t : ℕ) → operand-lts.Need-bare-name-requires (operand-claims t) (operand_at t) operand.Post
+operand-bare-name-requires : (t : ℕ) → operand-lts.Need-bare_name-requires (operand-claims t) (operand_at t) operand.Post
 operand-bare-name-requires t c κs =
-    let entry = c.before.before.before.before.before.before.before.before.before in
-    let a = entry.args in
-    operand-room a.work.now a.core.now a.known.now a.fuel a.node a.wrap a.from entry.requires.1.1 entry.requires.1.2
+    let a = c.args in
+    operand-room a.work.now a.core.now a.known.now a.fuel a.node a.wrap a.from c.requires.1.1 c.requires.1.2
 
-operand-returns : (t : ℕ) → operand-lts.Need-returns (operand-claims t) (operand_at t) operand.Post
+operand-returns : (t : ℕ) → operand-lts.Need-returns-then-kind-eq-NAME (operand-claims t) (operand_at t) operand.Post
 operand-returns t c =
-    let at-bare-name = c.before.before in
-    let at-if1 = at-bare-name.before.before.before in
-    let at-word = at-if1.before in
-    let entry = at-word.before.before.before.before.before.before in
-    let a = entry.args in
-    let name = at-bare-name.bare-name in
-    λ o lent. name-expands a.work.now a.core.now a.known.now a.fuel a.node a.wrap a.from entry.requires.1.1 entry.requires.1.2 _ at-word.word.ensures o at-if1.if1.true _ name.result (found_in o a.operations.now (name_at a.work.now a.node a.wrap) lent (λ f. Leaf (name_end f) 2 a.from a.core.now name.new.1.0 name.result) name.ensures)
+    let a = c.args in
+    λ o lent. name-expands a.work.now a.core.now a.known.now a.fuel a.node a.wrap a.from c.requires.1.1 c.requires.1.2 _ c.word-kind.ensures o c.if-kind-eq-NAME.true _ c.bare_name.result (found_in o a.operations.now (name_at a.work.now a.node a.wrap) lent (λ f. Leaf (name_end f) 2 a.from a.core.now c.bare_name.new.core c.bare_name.result) c.bare_name.ensures)
 
 operand-expression-requires : (t : ℕ) → operand-lts.Need-expression-requires (operand-claims t) (operand_at t) operand.Post
 operand-expression-requires t c κs =
-    let pre = c.before.before.before.before.before.before.before.before.before.before.before.requires in
+    let pre = c.requires in
     (omega (arith, pre.0), pre.1)
 
-operand-returns-2 : (t : ℕ) → operand-lts.Need-returns-2 (operand-claims t) (operand_at t) operand.Post
+operand-returns-2 : (t : ℕ) → operand-lts.Need-returns-then-kind-eq-PAIR (operand-claims t) (operand_at t) operand.Post
 operand-returns-2 t c =
-    c.before.before.before.before.before.before.expression.ensures
+    c.expression.ensures
 
-operand-returns-3 : (t : ℕ) → operand-lts.Need-returns-3 (operand-claims t) (operand_at t) operand.Post
+operand-returns-3 : (t : ℕ) → operand-lts.Need-returns-then-kind-eq-EMPTY (operand-claims t) (operand_at t) operand.Post
 operand-returns-3 t c =
-    let at-if3 = c.before in
-    let at-word = at-if3.before.before.before in
-    let entry = at-word.before.before.before.before.before.before in
-    let a = entry.args in
-    λ o lent. empty-expands a.work.now a.core.now a.known.now a.fuel a.node a.wrap a.from entry.requires.1.1 entry.requires.1.2 _ at-word.word.ensures o at-if3.if3.true _ c.refuse.ensures
+    let a = c.args in
+    λ o lent. empty-expands a.work.now a.core.now a.known.now a.fuel a.node a.wrap a.from c.requires.1.1 c.requires.1.2 _ c.word-kind.ensures o c.if-kind-eq-EMPTY.true _ c.refuse.ensures
 
 operand-constant-requires : (t : ℕ) → operand-lts.Need-constant-requires (operand-claims t) (operand_at t) operand.Post
 operand-constant-requires t c κs =
-    let at-word3 = c.before in
-    let at-word2 = at-word3.before.before in
-    let at-if3 = at-word2.before.before in
-    let at-if2 = at-if3.before in
-    let at-if1 = at-if2.before in
-    let at-word = at-if1.before in
-    let entry = at-word.before.before.before.before.before.before in
-    let a = entry.args in
-    constant-asks a.work.now a.core.now a.known.now a.fuel a.node a.wrap a.from entry.requires.1.1 entry.requires.1.2 _ at-word.word.ensures at-if3.if3.false at-if1.if1.false at-if2.if2.false _ _ at-word2.word2.ensures at-word3.word3.ensures
+    let a = c.args in
+    constant-asks a.work.now a.core.now a.known.now a.fuel a.node a.wrap a.from c.requires.1.1 c.requires.1.2 _ c.word-kind.ensures c.if-kind-eq-EMPTY.false c.if-kind-eq-NAME.false c.if-kind-eq-PAIR.false _ _ c.word-first.ensures c.word-second.ensures
 
-operand-returns-4 : (t : ℕ) → operand-lts.Need-returns-4 (operand-claims t) (operand_at t) operand.Post
+operand-returns-4 : (t : ℕ) → operand-lts.Need-returns (operand-claims t) (operand_at t) operand.Post
 operand-returns-4 t c =
-    let at_constant = c.before.before in
-    let at-word3 = at_constant.before.before in
-    let at-word2 = at-word3.before.before in
-    let at-if3 = at-word2.before.before in
-    let at-if2 = at-if3.before in
-    let at-if1 = at-if2.before in
-    let at-word = at-if1.before in
-    let entry = at-word.before.before.before.before.before.before in
-    let a = entry.args in
-    let constant = at_constant.constant in
-    λ o lent. constant-expands a.work.now a.core.now a.known.now a.fuel a.node a.wrap a.from entry.requires.1.1 entry.requires.1.2 _ at-word.word.ensures at-if3.if3.false at-if1.if1.false at-if2.if2.false _ _ at-word2.word2.ensures at-word3.word3.ensures o _ constant.result constant.ensures
+    let a = c.args in
+    λ o lent. constant-expands a.work.now a.core.now a.known.now a.fuel a.node a.wrap a.from c.requires.1.1 c.requires.1.2 _ c.word-kind.ensures c.if-kind-eq-EMPTY.false c.if-kind-eq-NAME.false c.if-kind-eq-PAIR.false _ _ c.word-first.ensures c.word-second.ensures o _ c.constant.result c.constant.ensures
 
-operands-loop-holds : (t : ℕ) → operands-lts.Need-loop-init (operands-claims t) (operands-at t) operands.Post operands-Inv-loop operands-μ-loop
+operands-loop-holds : (t : ℕ) → operands-lts.Need-loop-work-init (operands-claims t) (operands-at t) operands.Post operands-Inv-loop operands-μ-loop
 operands-loop-holds t c =
-    let pre = c.before.before.before.before.requires in
+    let pre = c.requires in
     λ o lent. walking_start o _ _ _ _ _ pre.1.2 pre.1.1
 
-operands-operand-requires : (t : ℕ) → operands-lts.Need-operand-requires (operands-claims t) (operands-at t) operands.Post operands-Inv-loop operands-μ-loop
+operands-operand-requires : (t : ℕ) → operands-lts.Need-operand-ended-requires (operands-claims t) (operands-at t) operands.Post operands-Inv-loop operands-μ-loop
 operands-operand-requires t c κs =
-    let at-reference = c.before.before.before in
-    let at-if1 = at-reference.before.before in
-    let at-word = at-if1.before in
-    let at-loop = at-word.before.before in
-    let entry = at-loop.before.before.before.before.before in
-    let lends = entry.requires.1.0 in
+    let lends = c.requires.1.0 in
     let o = lends.operations in
     let lent = lends.lent in
-    let loop = at-loop.loop in
-    let word = at-word.word in
-    let head = at-reference.reference in
-    let asks = operand-asks o entry.args.fuel _ _ _ _ _ _ _ (loop.invariant o lent) entry.requires.1.2 _ word.ensures at-if1.if1.true _ head.ensures in
-    (omega (arith, entry.requires.0, asks.0), (entry.requires.1.0, asks.1, asks.2))
+    let asks = operand-asks o c.args.fuel _ _ _ _ _ _ _ (c.loop-work.invariant o lent) c.requires.1.2 _ c.word.ensures c.loop-work-test.true _ c.reference-head.ensures in
+    (omega (arith, c.requires.0, asks.0), (c.requires.1.0, asks.1, asks.2))
 
-operands-returns : (t : ℕ) → operands-lts.Need-returns (operands-claims t) (operands-at t) operands.Post operands-Inv-loop operands-μ-loop
+operands-returns : (t : ℕ) → operands-lts.Need-returns-in_default (operands-claims t) (operands-at t) operands.Post operands-Inv-loop operands-μ-loop
 operands-returns t c =
-    let at-operand = c.before.before.before.before.before.before.before.before in
-    let at-reference = at-operand.before.before.before.before in
-    let at-if1 = at-reference.before.before in
-    let at-word = at-if1.before in
-    let at-loop = at-word.before.before in
-    let entry = at-loop.before.before.before.before.before in
-    let loop = at-loop.loop in
-    let word = at-word.word in
-    let head = at-reference.reference in
-    let operand = at-operand.operand in
-    let after = tables operand.new.0 operand.new.1.0 operand.new.1.1.0 in
-    λ o lent. operand-refused o entry.args.fuel _ _ _ _ _ _ _ (loop.invariant o lent) entry.requires.1.2 _ word.ensures at-if1.if1.true _ head.ensures after operand.result (operand.ensures o lent) _ _ _ c.enum_told.given.1
+    let after = tables c.operand-ended.new.work c.operand-ended.new.core c.operand-ended.new.known in
+    λ o lent. operand-refused o c.args.fuel _ _ _ _ _ _ _ (c.loop-work.invariant o lent) c.requires.1.2 _ c.word.ensures c.loop-work-test.true _ c.reference-head.ensures after c.operand-ended.result (c.operand-ended.ensures o lent) _ _ _ c.in_default.is
 
-operands-loop-less : (t : ℕ) → operands-lts.Need-loop-smaller (operands-claims t) (operands-at t) operands.Post operands-Inv-loop operands-μ-loop
+operands-loop-less : (t : ℕ) → operands-lts.Need-loop-work-smaller (operands-claims t) (operands-at t) operands.Post operands-Inv-loop operands-μ-loop
 operands-loop-less t c =
-    let at_ended = c.before.before.before in
-    let at-operand = at_ended.before.before.before.before.before.before.before.before in
-    let at-reference = at-operand.before.before.before.before in
-    let at-if1 = at-reference.before.before in
-    let at-word = at-if1.before in
-    let at-loop = at-word.before.before in
-    let entry = at-loop.before.before.before.before.before in
-    let lends = entry.requires.1.0 in
+    let lends = c.requires.1.0 in
     let o = lends.operations in
     let lent = lends.lent in
-    let loop = at-loop.loop in
-    let word = at-word.word in
-    let head = at-reference.reference in
-    let operand = at-operand.operand in
-    let after = tables operand.new.0 operand.new.1.0 operand.new.1.1.0 in
-    let tail = c.reference2 in
-    next-falls o entry.args.fuel _ _ _ _ _ _ _ (loop.invariant o lent) entry.requires.1.2 _ word.ensures at-if1.if1.true _ head.ensures after operand.result (operand.ensures o lent) _ at_ended.ended.given.1 _ tail.ensures
+    let after = tables c.operand-ended.new.work c.operand-ended.new.core c.operand-ended.new.known in
+    next-falls o c.args.fuel _ _ _ _ _ _ _ (c.loop-work.invariant o lent) c.requires.1.2 _ c.word.ensures c.loop-work-test.true _ c.reference-head.ensures after c.operand-ended.result (c.operand-ended.ensures o lent) _ c.in-Done.is _ c.reference-list.ensures
 
-operands-loop-again : (t : ℕ) → operands-lts.Need-loop-preserved (operands-claims t) (operands-at t) operands.Post operands-Inv-loop operands-μ-loop
+operands-loop-again : (t : ℕ) → operands-lts.Need-loop-work-preserved (operands-claims t) (operands-at t) operands.Post operands-Inv-loop operands-μ-loop
 operands-loop-again t c =
-    let at_ended = c.before.before.before in
-    let at-operand = at_ended.before.before.before.before.before.before.before.before in
-    let at-reference = at-operand.before.before.before.before in
-    let at-if1 = at-reference.before.before in
-    let at-word = at-if1.before in
-    let at-loop = at-word.before.before in
-    let entry = at-loop.before.before.before.before.before in
-    let loop = at-loop.loop in
-    let word = at-word.word in
-    let head = at-reference.reference in
-    let operand = at-operand.operand in
-    let after = tables operand.new.0 operand.new.1.0 operand.new.1.1.0 in
-    let tail = c.reference2 in
-    λ o lent. operand-walking o entry.args.fuel _ _ _ _ _ _ _ (loop.invariant o lent) entry.requires.1.2 _ word.ensures at-if1.if1.true _ head.ensures after operand.result (operand.ensures o lent) _ at_ended.ended.given.1 _ tail.ensures
+    let after = tables c.operand-ended.new.work c.operand-ended.new.core c.operand-ended.new.known in
+    λ o lent. operand-walking o c.args.fuel _ _ _ _ _ _ _ (c.loop-work.invariant o lent) c.requires.1.2 _ c.word.ensures c.loop-work-test.true _ c.reference-head.ensures after c.operand-ended.result (c.operand-ended.ensures o lent) _ c.in-Done.is _ c.reference-list.ensures
 
-operands-same-length : (t : ℕ) → operands-lts.Need-same-length (operands-claims t) (operands-at t) operands.Post operands-Inv-loop operands-μ-loop
+operands-same-length : (t : ℕ) → operands-lts.Need-shape_of-work-in_default (operands-claims t) (operands-at t) operands.Post operands-Inv-loop operands-μ-loop
 operands-same-length t c =
-    let at-operand = c.before.before.before.before.before.before.before.before in
-    let at-loop = at-operand.before.before.before.before.before.before.before.before.before in
-    let lends = at-loop.before.before.before.before.before.requires.1.0 in
-    let loop = at-loop.loop in
-    at-operand.operand.auto.0 ∙ (loop.invariant lends.operations lends.lent).kept.work-long
+    let lends = c.requires.1.0 in
+    c.operand-ended.auto.work ∙ (c.loop-work.invariant lends.operations lends.lent).kept.work-long
 
-operands-same-length-2 : (t : ℕ) → operands-lts.Need-same-length-2 (operands-claims t) (operands-at t) operands.Post operands-Inv-loop operands-μ-loop
+operands-same-length-2 : (t : ℕ) → operands-lts.Need-shape_of-core-in_default (operands-claims t) (operands-at t) operands.Post operands-Inv-loop operands-μ-loop
 operands-same-length-2 t c =
-    let at-operand = c.before.before.before.before.before.before.before.before in
-    let at-loop = at-operand.before.before.before.before.before.before.before.before.before in
-    let lends = at-loop.before.before.before.before.before.requires.1.0 in
-    let loop = at-loop.loop in
-    at-operand.operand.auto.1.0 ∙ (loop.invariant lends.operations lends.lent).kept.core-long
+    let lends = c.requires.1.0 in
+    c.operand-ended.auto.core ∙ (c.loop-work.invariant lends.operations lends.lent).kept.core-long
 
-operands-same-length-3 : (t : ℕ) → operands-lts.Need-same-length-3 (operands-claims t) (operands-at t) operands.Post operands-Inv-loop operands-μ-loop
+operands-same-length-3 : (t : ℕ) → operands-lts.Need-shape_of-known-in_default (operands-claims t) (operands-at t) operands.Post operands-Inv-loop operands-μ-loop
 operands-same-length-3 t c =
-    let at-operand = c.before.before.before.before.before.before.before.before in
-    let at-loop = at-operand.before.before.before.before.before.before.before.before.before in
-    let lends = at-loop.before.before.before.before.before.requires.1.0 in
-    let loop = at-loop.loop in
-    at-operand.operand.auto.1.1.0 ∙ (loop.invariant lends.operations lends.lent).kept.macros-long
+    let lends = c.requires.1.0 in
+    c.operand-ended.auto.known ∙ (c.loop-work.invariant lends.operations lends.lent).kept.macros-long
 
-operands-same-length-4 : (t : ℕ) → operands-lts.Need-same-length-4 (operands-claims t) (operands-at t) operands.Post operands-Inv-loop operands-μ-loop
+operands-same-length-4 : (t : ℕ) → operands-lts.Need-shape_of-work (operands-claims t) (operands-at t) operands.Post operands-Inv-loop operands-μ-loop
 operands-same-length-4 t c =
-    let lends = c.before.before.before.before.before.before.before.before.requires.1.0 in
-    let loop = c.before.before.before.loop in
-    (loop.invariant lends.operations lends.lent).kept.work-long
+    let lends = c.requires.1.0 in
+    (c.loop-work.invariant lends.operations lends.lent).kept.work-long
 
-operands-same-length-5 : (t : ℕ) → operands-lts.Need-same-length-5 (operands-claims t) (operands-at t) operands.Post operands-Inv-loop operands-μ-loop
+operands-same-length-5 : (t : ℕ) → operands-lts.Need-shape_of-core (operands-claims t) (operands-at t) operands.Post operands-Inv-loop operands-μ-loop
 operands-same-length-5 t c =
-    let lends = c.before.before.before.before.before.before.before.before.requires.1.0 in
-    let loop = c.before.before.before.loop in
-    (loop.invariant lends.operations lends.lent).kept.core-long
+    let lends = c.requires.1.0 in
+    (c.loop-work.invariant lends.operations lends.lent).kept.core-long
 
-operands-same-length-6 : (t : ℕ) → operands-lts.Need-same-length-6 (operands-claims t) (operands-at t) operands.Post operands-Inv-loop operands-μ-loop
+operands-same-length-6 : (t : ℕ) → operands-lts.Need-shape_of-known (operands-claims t) (operands-at t) operands.Post operands-Inv-loop operands-μ-loop
 operands-same-length-6 t c =
-    let lends = c.before.before.before.before.before.before.before.before.requires.1.0 in
-    let loop = c.before.before.before.loop in
-    (loop.invariant lends.operations lends.lent).kept.macros-long
+    let lends = c.requires.1.0 in
+    (c.loop-work.invariant lends.operations lends.lent).kept.macros-long
 
-operands-returns-2 : (t : ℕ) → operands-lts.Need-returns-2 (operands-claims t) (operands-at t) operands.Post operands-Inv-loop operands-μ-loop
+operands-returns-2 : (t : ℕ) → operands-lts.Need-returns (operands-claims t) (operands-at t) operands.Post operands-Inv-loop operands-μ-loop
 operands-returns-2 t c =
-    let entry = c.before.before.before.before.before.before.before.before in
-    let loop = c.before.before.before.loop in
-    let word = c.before.word in
-    λ o lent. operands_end o entry.args.fuel _ _ _ _ _ _ _ (loop.invariant o lent) entry.requires.1.2 _ word.ensures c.if1.false
+    λ o lent. operands_end o c.args.fuel _ _ _ _ _ _ _ (c.loop-work.invariant o lent) c.requires.1.2 _ c.word.ensures c.loop-work-test.false
 
-pub +expression-operand-operands-spec : {M : Type 1} → statement M
-+expression-operand-operands-spec =
+pub +expression_operand_operands_spec : {M : Type 1} → statement M
++expression_operand_operands_spec =
     close μ-expression μ-operand μ-operands (λ t. expression-lts.spec (
       turn-reads.Asked,
       turn-reads.Learnt,

@@ -4,31 +4,22 @@ use Rattle.expander.proofs.ending.finish.Statement.{statement}
 use Rattle.expander.proofs.ending.finish.Tie as tie
 use Rattle.expander.specs.ServiceLaws.{done-fits, finished-done, finished-refused}
 
-sub-zero-words : tie.Need-overflow-sub-zero-words
+sub-zero-words : tie.Need-slice_bounds-zero_words-count
 sub-zero-words c =
-    let at_ended = c.before.before in
-    let at-args = at_ended.before.before.before in
-    done-fits at-args.args.ended _ _ at_ended.ended.given.1 at-args.requires
+    done-fits c.args.ended _ _ c.in-Done.is c.requires
 
-part-zero-words-start : tie.Need-slice-bounds-zero-words-start
+part-zero-words-start : tie.Need-slice_bounds-zero_words-start
 part-zero-words-start c =
-    let at_ended = c.before.before in
-    let at-args = at_ended.before.before.before in
-    done-fits at-args.args.ended _ _ at_ended.ended.given.1 at-args.requires
+    done-fits c.args.ended _ _ c.in-Done.is c.requires
 
-returns : tie.Need-returns
+returns : tie.Need-returns-in-Done
 returns c =
-    let at-zero-words = c.before.before in
-    let at_ended = at-zero-words.before.before.before.before in
-    let at-args = at_ended.before.before.before in
-    finished-done at-args.args.ended _ at-args.args.core.now _ at_ended.ended.given.1 (done-fits at-args.args.ended _ _ at_ended.ended.given.1 at-args.requires) at-zero-words.zero-words.ensures
+    finished-done c.args.ended _ c.args.core.now _ c.in-Done.is (done-fits c.args.ended _ _ c.in-Done.is c.requires) c.zero_words.ensures
 
-returns-2 : tie.Need-returns-2
+returns-2 : tie.Need-returns-in-Refused
 returns-2 c =
-    let at-zero-words2 = c.before.before in
-    let at-ended2 = at-zero-words2.before.before.before in
-    let a = at-ended2.before.before.before.args in
-    finished-refused a.ended _ _ _ a.core.now _ at-ended2.ended2.given.1 at-zero-words2.zero-words2.ensures
+    let a = c.args in
+    finished-refused a.ended _ _ _ a.core.now _ c.in-Refused.is c.zero_words-in-Refused.ensures
 
 pub finish_spec : {M : Type 1} → statement M
 finish_spec =

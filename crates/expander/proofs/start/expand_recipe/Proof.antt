@@ -9,16 +9,15 @@ use Rattle.expander.specs.StartLaws.{start-most}
 run-requires : tie.Need-run-requires
 unfolding item_count
 run-requires c κs =
-    (c.before.before.before.before.before.before.before.before.requires, omega (arith, c.before.before.before.if1.true))
+    (c.requires, omega (arith, c.if-items-fuel.true))
 
 run-requires-2 : tie.Need-run-requires-2
 run-requires-2 c κs =
-    let entry = c.before.before.before.before.before.before.before.before in
-    let a = entry.args in
-    (entry.requires, omega (arith, start-most a.items.now a.work.now a.core.now a.operations.now a.fuel entry.requires))
+    let a = c.args in
+    (c.requires, omega (arith, start-most a.items.now a.work.now a.core.now a.operations.now a.fuel c.requires))
 
-pub expand-recipe-spec : {M : Type 1} → statement M
-expand-recipe-spec =
+pub expand_recipe_spec : {M : Type 1} → statement M
+expand_recipe_spec =
     tie.close
     (tie.spec
     (λ c. search rules)  -- add-if1

@@ -47,11 +47,10 @@ count-requires c κs =
     (omega (arith, (pair c.before).head_below, c.head.ensures), λ k h. omega (arith, c.requires.3 k h))
 
 count-requires-2 : tie.Need-count-requires-2
-count-requires-2 c κs =
-    (
-      omega (arith, (pair c.before.before.before.before.before.before).tail_below, c.tail.ensures, c.count.auto.counts),
-      most-one c.args.counts.now c.count.new.counts c.head.result 65533 c.count.auto.counts c.count.ensures c.requires.3,
-    )
+count-requires-2 c κs = (
+  omega (arith, (pair c.before.before.before.before.before.before).tail_below, c.tail.ensures, c.count.auto.counts),
+  most-one c.args.counts.now c.count.new.counts c.head.result 65533 c.count.auto.counts c.count.ensures c.requires.3,
+)
 
 returns-3 : tie.Need-returns
 returns-3 c =

@@ -1,6 +1,7 @@
 -- Each way through the code is a range of bytes, or two, over which the definition has one value.
 use Rattle.lexer.proofs.bytes.is_running.Statement.{statement}
 use Rattle.lexer.proofs.bytes.is_running.Tie as tie
+use Rattle.lexer.proofs.bytes.is_running.Lts as lts
 use native.Mathlib.Omega.{arith}
 use mathlib.Core.Path.{refl}
 use mathlib.Core.Bool.{true, false}
@@ -50,10 +51,10 @@ unfolding is_running is_digit within any_of bytes valued
 returns-6 c =
     let b = c.args.b in
     let save = any-neither b 33 95 c.in_default.in_default-own.rest.1 in
-    ⊎_elim
-    (λ above. valued-at is_running false (33 ∷ 95 ∷ []) 123 133 refl b (omega (arith, leb-false b 122 above.1.left)) (omega arith) save)
-    (λ below. valued-at is_running false (33 ∷ 95 ∷ []) 64 33 refl b (omega arith) (omega (arith, below.left)) save)
-    c.else-b-ge97.branch
+    elim c.else-b-ge97.branch [
+      | lts.else-b-ge97-via-then-b-ge97+else-b-le122 w ↦ valued-at is_running false (33 ∷ 95 ∷ []) 123 133 refl b (omega (arith, w.if-b-le122.false)) (omega arith) save
+      | lts.else-b-ge97-via-else-b-ge97 w ↦ valued-at is_running false (33 ∷ 95 ∷ []) 64 33 refl b (omega arith) (omega (arith, w.if-b-ge97.false)) save
+    ]
 
 returns-7 : tie.Need-returns-in-33
 unfolding is_running is_digit within any_of bytes

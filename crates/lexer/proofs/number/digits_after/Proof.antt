@@ -40,7 +40,7 @@ loop-again c =
     let args = c.args in
     let d = sym c.is_digit.ensures ∙ not-false _ c.if-not-is_digit.false-raw in (
       omega arith,
-      sym (leading-more c.is_digit args.run.now c.loop-i.i c.loop-i-test.true d) ∙ c.loop-i.invariant.1,
+      sym (leading-more is_digit args.run.now c.loop-i.i c.loop-i-test.true d) ∙ c.loop-i.invariant.1,
       value-more args.before args.run.now c.loop-i.i c.loop-i.value _ c.loop-i-test.true c.loop-i.invariant.2 c.appended-value.ensures,
     )
 

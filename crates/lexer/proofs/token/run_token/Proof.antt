@@ -18,14 +18,14 @@ use Rattle.lexer.specs.Answers.{numeral_meaning}
 use Rattle.reading.specs.Laws.Meanings.{numeral-means, other-means, name-is, name-malformed}
 use Rattle.lexer.specs.ToldLaws.{name-short}
 
-abbrev word : tie.Start → List ℕ
+abbrev word : (c : tie.Start) → List ℕ
 word c = part c.args.from c.args.to c.args.text.now
 
 -- what the word means, by the test of numerals
-other : (c : tie.Then-not-is_numeral) → meaning_of (run (word c)) ≡ name_of (word c)
+other : (c : tie.Then-not-is_numeral) → meaning_of (run (word c.before.before.before.before)) ≡ name_of (word c.before.before.before.before)
 other c = other-means _ (sym c.is_numeral.ensures ∙ not-true _ c.if-not-is_numeral.true-raw)
 
-numeral : (c : tie.After-numeral_of) (n : Numeral) → c.numeral_of.result ≡ n → meaning_of (run (word c)) ≡ numeral_meaning n
+numeral : (c : tie.After-numeral_of) (n : Numeral) → c.numeral_of.result ≡ n → meaning_of (run (word c.before.before.before.before.before)) ≡ numeral_meaning n
 numeral c n e = numeral-means _ (sym c.is_numeral.ensures ∙ not-false _ c.if-not-is_numeral.false-raw) ∙ sym c.numeral_of.ensures ∙ ap numeral_meaning e
 
 returns : tie.Need-returns-then-is_name
@@ -44,12 +44,11 @@ numeral-of-requires c κs =
     omega (arith, length_part args.from args.to args.text.now (omega arith) (omega arith))
 
 returns-3 : tie.Need-returns-in-Value
-returns-3 c =
-    let given = c.z-1.given in (
-      refl,
-      numeral c.before _ given.1 ∙ ap (λ z. constant (number (of_z w32 z) given.0.1.0))
-          (sym (to_z-of_z {w = w32} {z = given.0.0} (record { sfits = c.in-Value.known_told-1-own.given.0.1 }))),
-    )
+returns-3 c = (
+  refl,
+  numeral c.before _ c.in-Value.is ∙ ap (λ z. constant (number (of_z w32 z) c.in-Value.places))
+      (sym (to_z-of_z {w = w32} {z = c.in-Value.z} (record { sfits = c.in-Value.known_told-1-own.given.0.1 }))),
+)
 
 returns-4 : tie.Need-returns-in-Malformed
 returns-4 c = (refl, numeral c.before _ c.in-Malformed.is)

@@ -28,21 +28,21 @@ told : (c : tie.After-token_from) (t : Token) → c.token_from.result ≡ t → 
 told c t e = answered-told _ _ _ c.token_from.ensures c.requires.0 t e
 
 -- the word of a name
-named : (c : tie.In-Name-2) → let a = c.args in Told a.text.now a.cursor.at (Name c.in-Name.from c.in-Name.next)
-named c = told c.before.before _ c.in-Name.is
+named : (c : tie.In-Name) → let a = c.args in Told a.text.now a.cursor.at (Name c.in-Name.from c.in-Name.next)
+named c = told c.before _ c.in-Name.is
 
 sub-put-name : tie.Need-slice_bounds-put_name-count
-sub-put-name c = omega (arith, (named c.before.before.before.before).1)
+sub-put-name c = omega (arith, (named c.before.before.before).1)
 
 part-put-name-start : tie.Need-slice_bounds-put_name-start
-part-put-name-start c = omega (arith, (named c.before.before.before.before).1)
+part-put-name-start c = omega (arith, (named c.before.before.before).1)
 
 part-put-name-end : tie.Need-slice_bounds-put_name-end
-part-put-name-end c = omega (arith, (named c.before.before.before.before).3.high)
+part-put-name-end c = omega (arith, (named c.before.before.before).3.high)
 
 put-name-requires : tie.Need-put_name-requires
 put-name-requires c κs =
-    (c.requires.1.0, (c.requires.1.1, (named at_before.before).2))
+    (c.requires.1.0, (c.requires.1.1, (named c.before.before.before.before).2))
 
 returns : tie.Need-returns-in-End
 returns c =
@@ -109,7 +109,7 @@ returns-7 c =
     let t = c.put_name.ensures r h in
     stepped-moved args.text.now args.cursor.at r c.put_name.new.items c.put_name.new.names c.put_name.new.index
     (name (part c.in-Name.from c.in-Name.next.at args.text.now)) c.in-Name.next
-    (named at_before.before).3 t.1 c.put_name.result c.moved-in-Name.result c.moved-in-Name.ensures t.0
+    (named c.before.before.before.before.before.before.before.before.before.before.before.before).3 t.1 c.put_name.result c.moved-in-Name.result c.moved-in-Name.ensures t.0
 
 pub advance_spec : {M : Type 1} → statement M
 advance_spec =

@@ -9,13 +9,9 @@ unfolding base_names bytes
 enter_others_spec =
     tie.close
     (tie.spec
-    (λ c. search rules)  -- slice-aggregate-enter-fixed
     (λ c κs. search rules)  -- enter-fixed-requires
-    (λ c. search rules)  -- slice-aggregate-enter-fixed-2
     (λ c κs. search rules)  -- enter-fixed-requires-2
-    (λ c. search rules)  -- slice-aggregate-enter-fixed-3
     (λ c κs. search rules)  -- enter-fixed-requires-3
-    (λ c. search rules)  -- slice-aggregate-enter-fixed-4
     (λ c κs. search rules)  -- enter-fixed-requires-4
     (λ c. search rules)  -- same-length
     (λ c. search rules)  -- same-length-2

@@ -61,8 +61,7 @@ returns-2 c =
 
 loop-again : tie.Need-loop-i-preserved invariant-loop decreases-loop
 loop-again c =
-    let args = c.args in
-    (
+    let args = c.args in (
       omega arith,
       sym (equal-step args.word.now (name_at args.names.now args.number) (lengths c.before.before.before.before.before) c.loop-i.i c.loop-i-test.true
           (byte c.before.before.before ∙ c.if-names-start.false)) ∙ c.loop-i.invariant.1,

@@ -10,40 +10,35 @@ use Rattle.arena.specs.Arena.{wrap_at}
 use Rattle.resolution.specs.HandLaws.{wrap-falls}
 use Rattle.resolution.specs.Alike.{AlikeMarks, binder-over}
 
-abbrev invariant-loop : tie.invariant-loop
+abbrev invariant-loop : tie.invariant-loop-at
 invariant-loop work v end at₀ at = AlikeMarks work v at
 
-abbrev decreases-loop : tie.decreases-loop
+abbrev decreases-loop : tie.decreases-loop-at
 decreases-loop work v end at₀ at = at
 
-loop-holds : tie.Need-loop-init invariant-loop decreases-loop
+loop-holds : tie.Need-loop-at-init invariant-loop decreases-loop
 loop-holds c = λ x. refl
 
-returns : tie.Need-returns invariant-loop decreases-loop
+returns : tie.Need-returns-then-word-ne-BINDER invariant-loop decreases-loop
 returns c = λ z. absurd (false≢true z)
 
-loop-less : tie.Need-loop-smaller invariant-loop decreases-loop
+loop-less : tie.Need-loop-at-smaller invariant-loop decreases-loop
 loop-less c =
-    let at-word = c.before.before in
-    let at-loop = at-word.before.before in
-    let if1 = c.before.if1 in
-    omega (arith, wrap-falls at-loop.before.before.args.work.now at-loop.loop.at _ at-word.word.ensures 2 _ (λ z. omega (arith, if1.false)) c.reference.ensures)
+    omega (arith, wrap-falls c.args.work.now c.loop-at.at _ c.word.ensures 2 _ (λ z. omega (arith, c.if-word-ne-BINDER.false)) c.reference-at.ensures)
 
-loop-again : tie.Need-loop-preserved invariant-loop decreases-loop
+loop-again : tie.Need-loop-at-preserved invariant-loop decreases-loop
 loop-again c =
-    let at-word = c.before.before in
-    let at-loop = at-word.before.before in
-    let work = at-loop.before.before.args.work.now in
-    let over = binder-over work at-loop.loop.at _ at-word.word.ensures c.before.if1.false in
-    λ x. at-loop.loop.invariant x ∙ over x ∙ ap (λ (r : ℕ). (wrap_at work r x).marks) (sym c.reference.ensures)
+    let work = c.args.work.now in
+    let over = binder-over work c.loop-at.at _ c.word.ensures c.if-word-ne-BINDER.false in
+    λ x. c.loop-at.invariant x ∙ over x ∙ ap (λ (r : ℕ). (wrap_at work r x).marks) (sym c.reference-at.ensures)
 
-returns-2 : tie.Need-returns-2 invariant-loop decreases-loop
+returns-2 : tie.Need-returns invariant-loop decreases-loop
 returns-2 c =
-    let work = c.before.before.before.args.work.now in
-    λ z x. c.before.loop.invariant x ∙ ap (λ (r : ℕ). (wrap_at work r x).marks) c.loop-test.false
+    let work = c.args.work.now in
+    λ z x. c.loop-at.invariant x ∙ ap (λ (r : ℕ). (wrap_at work r x).marks) c.loop-at-test.false
 
-pub binders-over-spec : {M : Type 1} → statement M
-binders-over-spec =
+pub binders_over_spec : {M : Type 1} → statement M
+binders_over_spec =
     tie.close
     (tie.spec
     invariant-loop

@@ -6,26 +6,20 @@ use mathlib.Core.Bool.{false≢true}
 use borrow.Author.Tests.{not-false}
 use Rattle.resolution.specs.Alike.{told-by}
 
-returns : tie.Need-returns
+returns : tie.Need-returns-then-base-eq-NO_BASE
 returns c = λ z. absurd (false≢true z)
 
-returns-2 : tie.Need-returns-2
+returns-2 : tie.Need-returns-then-not-binders_over
 returns-2 c = λ z. absurd (false≢true z)
 
-returns-3 : tie.Need-returns-3
+returns-3 : tie.Need-returns
 returns-3 c =
-    let at-reference3 = c.before in
-    let at-if2 = at-reference3.before in
-    let at-binders-over = at-if2.before in
-    let at-reference2 = at-binders-over.before in
-    let at-reference = at-reference2.before in
-    let at-if1 = at-reference.before in
-    let a = at-if1.before.before.args in
-    λ z. told-by a.work.now a.base a.w _ _ _ at-if1.if1.false at-reference.reference.ensures at-reference2.reference2.ensures at-reference3.reference3.ensures
-    (at-binders-over.binders-over.ensures (not-false _ at-if2.if2.false)) (c.same-cells.ensures z)
+    let a = c.args in
+    λ z. told-by a.work.now a.base a.w _ _ _ c.if-base-eq-NO_BASE.false c.reference-inner.ensures c.reference-pending.ensures c.reference-own.ensures
+    (c.binders_over.ensures (not-false _ c.if-not-binders_over.false-raw)) (c.same_cells.ensures z)
 
-pub is-told-spec : {M : Type 1} → statement M
-is-told-spec =
+pub is_told_spec : {M : Type 1} → statement M
+is_told_spec =
     tie.close
     (tie.spec
     returns

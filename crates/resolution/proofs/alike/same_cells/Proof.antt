@@ -11,42 +11,36 @@ use Rattle.arena.specs.Arena.{wrap_at}
 use Rattle.arena.specs.ArenaLaws.{reference_at-falls}
 use Rattle.resolution.specs.Alike.{Alike}
 
-abbrev invariant-loop : tie.invariant-loop
+abbrev invariant-loop : tie.invariant-loop-v
 invariant-loop work a b v₀ w₀ v w = Alike work v w → Alike work a b
 
-abbrev decreases-loop : tie.decreases-loop
+abbrev decreases-loop : tie.decreases-loop-v
 decreases-loop work a b v₀ w₀ v w = v
 
-loop-holds : tie.Need-loop-init invariant-loop decreases-loop
+loop-holds : tie.Need-loop-v-init invariant-loop decreases-loop
 loop-holds c = λ i. i
 
-returns : tie.Need-returns invariant-loop decreases-loop
+returns : tie.Need-returns-then-not-same_cell invariant-loop decreases-loop
 returns c = λ z. absurd (false≢true z)
 
-loop-less : tie.Need-loop-smaller invariant-loop decreases-loop
+loop-less : tie.Need-loop-v-smaller invariant-loop decreases-loop
 loop-less c =
-    let at-if1 = c.before.before in
-    let at-same-cell = at-if1.before in
-    let at-loop = at-same-cell.before.before in
-    let cell = at-same-cell.same-cell.ensures (not-false _ at-if1.if1.false) in
-    omega (arith, c.before.reference.ensures, reference_at-falls at-loop.before.before.args.work.now at-loop.loop.v 2 cell.some-cell)
+    let cell = c.same_cell.ensures (not-false _ c.if-not-same_cell.false-raw) in
+    omega (arith, c.reference-v.ensures, reference_at-falls c.args.work.now c.loop-v.v 2 cell.some-cell)
 
-loop-again : tie.Need-loop-preserved invariant-loop decreases-loop
+loop-again : tie.Need-loop-v-preserved invariant-loop decreases-loop
 loop-again c =
-    let at-if1 = c.before.before in
-    let at-same-cell = at-if1.before in
-    let at-loop = at-same-cell.before.before in
-    let work = at-loop.before.before.args.work.now in
-    let cell = at-same-cell.same-cell.ensures (not-false _ at-if1.if1.false) in
-    λ i. at-loop.loop.invariant (cell.outside λ x. ap (λ (r : ℕ). wrap_at work r x) (sym c.before.reference.ensures) ∙ i x ∙ ap (λ (r : ℕ). wrap_at work r x) c.reference2.ensures)
+    let work = c.args.work.now in
+    let cell = c.same_cell.ensures (not-false _ c.if-not-same_cell.false-raw) in
+    λ i. c.loop-v.invariant (cell.outside λ x. ap (λ (r : ℕ). wrap_at work r x) (sym c.reference-v.ensures) ∙ i x ∙ ap (λ (r : ℕ). wrap_at work r x) c.reference-w.ensures)
 
-returns-2 : tie.Need-returns-2 invariant-loop decreases-loop
+returns-2 : tie.Need-returns invariant-loop decreases-loop
 returns-2 c =
-    let work = c.before.before.before.args.work.now in
-    λ z. c.before.loop.invariant λ x. ap (λ (r : ℕ). wrap_at work r x) c.loop-test.false
+    let work = c.args.work.now in
+    λ z. c.loop-v.invariant λ x. ap (λ (r : ℕ). wrap_at work r x) c.loop-v-test.false
 
-pub same-cells-spec : {M : Type 1} → statement M
-same-cells-spec =
+pub same_cells_spec : {M : Type 1} → statement M
+same_cells_spec =
     tie.close
     (tie.spec
     invariant-loop

@@ -6,28 +6,23 @@ use Rattle.words.specs.ListLaws.{whole}
 use Rattle.resolution.specs.Direct.{OnlyMark}
 use Rattle.resolution.specs.DirectLaws.{finds-nothing, finds-binder}
 
-returns : tie.Need-returns
+returns : tie.Need-returns-then-word-ne-BINDER
 returns c =
-    let a = c.before.before.before.args in
+    let a = c.args in
     finds-nothing a.work.now a.number a.own a.at
 
-returns-2 : tie.Need-returns-2
+returns-2 : tie.Need-returns-then-mark-ge-STEP_LIMIT
 returns-2 c =
-    let a = c.before.before.before.before.before.before.before.args in
+    let a = c.args in
     finds-nothing a.work.now a.number a.own a.at
 
-returns-3 : tie.Need-returns-3
+returns-3 : tie.Need-returns
 returns-3 c =
-    let at-if2 = c.before in
-    let at-only-mark = at-if2.before in
-    let at-reference = at-only-mark.before in
-    let at-if1 = at-reference.before.before in
-    let at-word = at-if1.before in
-    let a = at-word.before.before.args in
-    finds-binder a.work.now a.number a.own a.at _ _ _ _ at-word.word.ensures at-if1.if1.false at-reference.reference.ensures (whole (λ s. OnlyMark s a.number a.own at-reference.reference.result at-only-mark.only-mark.result) a.work.now at-only-mark.only-mark.ensures) at-if2.if2.false c.given-key.ensures
+    let a = c.args in
+    finds-binder a.work.now a.number a.own a.at _ _ _ _ c.word.ensures c.if-word-ne-BINDER.false c.reference.ensures (whole (λ s. OnlyMark s a.number a.own c.reference.result c.only_mark-mark.result) a.work.now c.only_mark-mark.ensures) c.if-mark-ge-STEP_LIMIT.false c.given_key.ensures
 
-pub binding-by-spec : {M : Type 1} → statement M
-binding-by-spec =
+pub binding_by_spec : {M : Type 1} → statement M
+binding_by_spec =
     tie.close
     (tie.spec
     (λ c κs. search rules)  -- word-requires

@@ -5,23 +5,18 @@ use Rattle.resolution.proofs.direct.given_key.Tie as tie
 use borrow.Author.Tests.{not-false, not-true}
 use Rattle.resolution.specs.DirectLaws.{gives_nothing, gives_key}
 
-returns : tie.Need-returns
+returns : tie.Need-returns-then-not-says
 returns c =
-    let at-says = c.before in
-    let at-count-of = at-says.before in
-    let args' = at-count-of.before.before.args in
-    gives_nothing args'.work.now args'.number args'.at args'.mark _ at-count-of.count_of.ensures _ at-says.says.ensures (not-true _ c.if1.true)
+    let args' = c.args in
+    gives_nothing args'.work.now args'.number args'.at args'.mark _ c.count_of.ensures _ c.says.ensures (not-true _ c.if-not-says.true-raw)
 
-returns-2 : tie.Need-returns-2
+returns-2 : tie.Need-returns
 returns-2 c =
-    let at-if1 = c.before in
-    let at-says = at-if1.before in
-    let at-count-of = at-says.before in
-    let args' = at-count-of.before.before.args in
-    gives_key args'.work.now args'.number args'.at args'.mark _ at-count-of.count_of.ensures _ at-says.says.ensures (not-false _ at-if1.if1.false) _ c.word.ensures
+    let args' = c.args in
+    gives_key args'.work.now args'.number args'.at args'.mark _ c.count_of.ensures _ c.says.ensures (not-false _ c.if-not-says.false-raw) _ c.word.ensures
 
-pub given-key-spec : {M : Type 1} → statement M
-given-key-spec =
+pub given_key_spec : {M : Type 1} → statement M
+given_key_spec =
     tie.close
     (tie.spec
     (λ c κs. search rules)  -- count-of-requires

@@ -11,7 +11,7 @@ word-requires : tie.Need-word-requires
 word-requires c κs =
     search rules
 
-returns : tie.Need-returns
+returns : tie.Need-returns-then-word-ne-BINDER
 returns c =
     λ z. absurd (true≢false (sym z))
 
@@ -19,10 +19,10 @@ word-requires-2 : tie.Need-word-requires-2
 word-requires-2 c κs =
     search rules
 
-returns-2 : tie.Need-returns-2
+returns-2 : tie.Need-returns
 returns-2 c =
-    let a = c.before.before.before.before.args in
-    λ z. binder-skips a.work.now a.at _ c.before.before.word.ensures c.before.if1.false a.number _ c.word2.ensures (eqb-false _ _ (not-true _ z))
+    let a = c.args in
+    λ z. binder-skips a.work.now a.at _ c.word.ensures c.if-word-ne-BINDER.false a.number _ c.word-2.ensures (eqb-false _ _ (not-true _ z))
 
-pub is-other-binder-spec : {M : Type 1} → statement M
-is-other-binder-spec = tie.close (tie.spec word-requires returns word-requires-2 returns-2)
+pub is_other_binder_spec : {M : Type 1} → statement M
+is_other_binder_spec = tie.close (tie.spec word-requires returns word-requires-2 returns-2)

@@ -8,19 +8,19 @@ word-requires : tie.Need-word-requires
 word-requires c κs =
     search rules
 
-returns : tie.Need-returns
+returns : tie.Need-returns-then-word-eq-MARK
 returns c =
-    let a = c.before.before.before.args in
-    λ z. mark-passes a.work.now a.at _ c.before.word.ensures c.if1.true a.number
+    let a = c.args in
+    λ z. mark-passes a.work.now a.at _ c.word.ensures c.if-word-eq-MARK.true a.number
 
-is-other-binder-requires : tie.Need-is-other-binder-requires
+is-other-binder-requires : tie.Need-is_other_binder-requires
 is-other-binder-requires c κs =
     search rules
 
-returns-2 : tie.Need-returns-2
+returns-2 : tie.Need-returns
 returns-2 c =
-    let a = c.before.before.before.before.args in
-    λ z. skip-passes a.work.now a.number a.at (c.is-other-binder.ensures z)
+    let a = c.args in
+    λ z. skip-passes a.work.now a.number a.at (c.is_other_binder.ensures z)
 
-pub is-passed-spec : {M : Type 1} → statement M
-is-passed-spec = tie.close (tie.spec word-requires returns is-other-binder-requires returns-2)
+pub is_passed_spec : {M : Type 1} → statement M
+is_passed_spec = tie.close (tie.spec word-requires returns is-other-binder-requires returns-2)

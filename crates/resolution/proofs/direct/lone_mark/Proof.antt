@@ -6,47 +6,40 @@ use native.Mathlib.Omega.{arith}
 use Rattle.arena.specs.ArenaLaws.{reference_at-falls}
 use Rattle.resolution.specs.DirectLaws.{Around, around-begins, around-on, around-ends, no-lone-mark}
 
-abbrev invariant-loop : tie.invariant-loop
+abbrev invariant-loop : tie.invariant-loop-at
 invariant-loop work number w at₀ mark₀ at mark =
     Around work number w at mark
 
-abbrev decreases-loop : tie.decreases-loop
+abbrev decreases-loop : tie.decreases-loop-at
 decreases-loop work number w at₀ mark₀ at mark =
     at
 
-loop-holds : tie.Need-loop-init invariant-loop decreases-loop
+loop-holds : tie.Need-loop-at-init invariant-loop decreases-loop
 loop-holds c =
-    let a = c.before.args in
+    let a = c.args in
     around-begins a.work.now a.number a.w
 
-returns : tie.Need-returns invariant-loop decreases-loop
+returns : tie.Need-returns-then-mark-ge-STEP_LIMIT invariant-loop decreases-loop
 returns c =
-    let a = c.before.before.before.before.before.args in
+    let a = c.args in
     no-lone-mark a.work.now a.number a.w
 
-loop-less : tie.Need-loop-smaller invariant-loop decreases-loop
+loop-less : tie.Need-loop-at-smaller invariant-loop decreases-loop
 loop-less c =
-    let at-loop-test = c.before.before.before in
-    let at-loop = at-loop-test.before in
-    omega (arith, c.reference.ensures, reference_at-falls at-loop.before.before.args.work.now at-loop.loop.at 2 (omega (arith, at-loop-test.loop-test.true)))
+    omega (arith, c.reference-at.ensures, reference_at-falls c.args.work.now c.loop-at.at 2 (omega (arith, c.loop-at-test.true)))
 
-loop-again : tie.Need-loop-preserved invariant-loop decreases-loop
+loop-again : tie.Need-loop-at-preserved invariant-loop decreases-loop
 loop-again c =
-    let at-if1 = c.before in
-    let at-one-mark = at-if1.before in
-    let at-loop = at-one-mark.before.before in
-    let loop = at-loop.loop in
-    let a = at-loop.before.before.args in
-    around-on a.work.now a.number a.w loop.at loop.mark _ _ loop.invariant at-one-mark.one-mark.ensures at-if1.if1.false c.reference.ensures
+    let a = c.args in
+    around-on a.work.now a.number a.w c.loop-at.at c.loop-at.mark _ _ c.loop-at.invariant c.one_mark-mark.ensures c.if-mark-ge-STEP_LIMIT.false c.reference-at.ensures
 
-returns-2 : tie.Need-returns-2 invariant-loop decreases-loop
+returns-2 : tie.Need-returns invariant-loop decreases-loop
 returns-2 c =
-    let loop = c.before.loop in
-    let a = c.before.before.before.args in
-    around-ends a.work.now a.number a.w loop.at loop.mark loop.invariant c.loop-test.false
+    let a = c.args in
+    around-ends a.work.now a.number a.w c.loop-at.at c.loop-at.mark c.loop-at.invariant c.loop-at-test.false
 
-pub lone-mark-spec : {M : Type 1} → statement M
-lone-mark-spec =
+pub lone_mark_spec : {M : Type 1} → statement M
+lone_mark_spec =
     tie.close
     (tie.spec
     invariant-loop

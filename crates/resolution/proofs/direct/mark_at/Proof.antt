@@ -8,24 +8,24 @@ word-requires : tie.Need-word-requires
 word-requires c κs =
     search rules
 
-returns : tie.Need-returns
+returns : tie.Need-returns-then-word-ne-MARK
 returns c =
-    let a = c.before.before.before.args in
+    let a = c.args in
     no-mark a.work.now a.at
 
-word-requires-2 : tie.Need-word-requires-2
+word-requires-2 : tie.Need-word-step-requires
 word-requires-2 c κs =
     search rules
 
-returns-2 : tie.Need-returns-2
+returns-2 : tie.Need-returns-then-step-eq0
 returns-2 c =
-    let a = c.before.before.before.before.before.args in
+    let a = c.args in
     no-mark a.work.now a.at
 
-returns-3 : tie.Need-returns-3
+returns-3 : tie.Need-returns
 returns-3 c =
-    let a = c.before.before.before.before.before.args in
-    mark-cell a.work.now a.at _ c.before.before.before.word.ensures c.before.before.if1.false _ c.before.word2.ensures c.if2.false
+    let a = c.args in
+    mark-cell a.work.now a.at _ c.word.ensures c.if-word-ne-MARK.false _ c.word-step.ensures c.if-step-eq0.false
 
-pub mark-at-spec : {M : Type 1} → statement M
-mark-at-spec = tie.close (tie.spec word-requires returns word-requires-2 returns-2 returns-3)
+pub mark_at_spec : {M : Type 1} → statement M
+mark_at_spec = tie.close (tie.spec word-requires returns word-requires-2 returns-2 returns-3)

@@ -4,29 +4,29 @@ use Rattle.resolution.proofs.direct.one_mark.Statement.{statement}
 use Rattle.resolution.proofs.direct.one_mark.Tie as tie
 use Rattle.resolution.specs.DirectLaws.{skip-mark, two-marks, first-mark}
 
-is-other-binder-requires : tie.Need-is-other-binder-requires
+is-other-binder-requires : tie.Need-is_other_binder-requires
 is-other-binder-requires c κs =
     search rules
 
-returns : tie.Need-returns
+returns : tie.Need-returns-then-is_other_binder
 returns c =
-    let a = c.before.before.before.args in
-    skip-mark a.work.now a.number a.at a.mark (c.before.is-other-binder.ensures c.if1.true)
+    let a = c.args in
+    skip-mark a.work.now a.number a.at a.mark (c.is_other_binder.ensures c.if-is_other_binder.true)
 
-returns-2 : tie.Need-returns-2
+returns-2 : tie.Need-returns-then-mark-ne0
 returns-2 c =
-    let a = c.before.before.before.before.args in
+    let a = c.args in
     two-marks a.work.now a.number a.at a.mark
 
-mark-at-requires : tie.Need-mark-at-requires
+mark-at-requires : tie.Need-mark_at-requires
 mark-at-requires c κs =
     search rules
 
-returns-3 : tie.Need-returns-3
+returns-3 : tie.Need-returns
 returns-3 c =
-    let a = c.before.before.before.before.before.args in
-    first-mark a.work.now a.number a.at a.mark _ c.before.if2.false c.mark-at.ensures
+    let a = c.args in
+    first-mark a.work.now a.number a.at a.mark _ c.if-mark-ne0.false c.mark_at.ensures
 
-pub one-mark-spec : {M : Type 1} → statement M
-one-mark-spec =
+pub one_mark_spec : {M : Type 1} → statement M
+one_mark_spec =
     tie.close (tie.spec is-other-binder-requires returns returns-2 mark-at-requires returns-3)

@@ -9,45 +9,38 @@ use Rattle.arena.specs.ArenaLaws.{reference_at-falls}
 use Rattle.resolution.specs.Direct.{Passes}
 use Rattle.resolution.specs.DirectLaws.{passes_on, passes-ends}
 
-abbrev invariant-loop : tie.invariant-loop
+abbrev invariant-loop : tie.invariant-loop-at
 invariant-loop work number w at₀ at =
     Passes work number w at
 
-abbrev decreases-loop : tie.decreases-loop
+abbrev decreases-loop : tie.decreases-loop-at
 decreases-loop work number w at₀ at =
     at
 
-loop-holds : tie.Need-loop-init invariant-loop decreases-loop
+loop-holds : tie.Need-loop-at-init invariant-loop decreases-loop
 loop-holds c =
     λ x n. refl
 
-returns : tie.Need-returns invariant-loop decreases-loop
+returns : tie.Need-returns-then-not-is_passed invariant-loop decreases-loop
 returns c =
-    c.before.before.before.loop.invariant
+    c.loop-at.invariant
 
-loop-less : tie.Need-loop-smaller invariant-loop decreases-loop
+loop-less : tie.Need-loop-at-smaller invariant-loop decreases-loop
 loop-less c =
-    let at-loop-test = c.before.before.before in
-    let at-loop = at-loop-test.before in
-    omega (arith, c.reference.ensures, reference_at-falls at-loop.before.before.args.work.now at-loop.loop.at 2 (omega (arith, at-loop-test.loop-test.true)))
+    omega (arith, c.reference-at.ensures, reference_at-falls c.args.work.now c.loop-at.at 2 (omega (arith, c.loop-at-test.true)))
 
-loop-again : tie.Need-loop-preserved invariant-loop decreases-loop
+loop-again : tie.Need-loop-at-preserved invariant-loop decreases-loop
 loop-again c =
-    let at-if1 = c.before in
-    let at-is-passed = at-if1.before in
-    let at-loop = at-is-passed.before.before in
-    let loop = at-loop.loop in
-    let a = at-loop.before.before.args in
-    passes_on a.work.now a.number a.w loop.at _ loop.invariant (at-is-passed.is-passed.ensures (not-false _ at-if1.if1.false)) c.reference.ensures
+    let a = c.args in
+    passes_on a.work.now a.number a.w c.loop-at.at _ c.loop-at.invariant (c.is_passed.ensures (not-false _ c.if-not-is_passed.false-raw)) c.reference-at.ensures
 
-returns-2 : tie.Need-returns-2 invariant-loop decreases-loop
+returns-2 : tie.Need-returns invariant-loop decreases-loop
 returns-2 c =
-    let loop = c.before.loop in
-    let a = c.before.before.before.args in
-    passes-ends a.work.now a.number a.w loop.at loop.invariant c.loop-test.false
+    let a = c.args in
+    passes-ends a.work.now a.number a.w c.loop-at.at c.loop-at.invariant c.loop-at-test.false
 
-pub passed-spec : {M : Type 1} → statement M
-passed-spec =
+pub passed_spec : {M : Type 1} → statement M
+passed_spec =
     tie.close
     (tie.spec
     invariant-loop

@@ -25,49 +25,36 @@ toggle-below t = and 1 toggle-kinds.ps (falls 1 toggle-kinds.ps ◌<◌ μ-toggl
 abbrev toggle-claims : ℕ → toggle-lts.Claims
 toggle-claims t = (toggle-below t, toggle.Post)
 
-toggle-returns : (t : ℕ) → toggle-lts.Need-returns (toggle-claims t) (toggle-at t) toggle.Post
+toggle-returns : (t : ℕ) → toggle-lts.Need-returns-then-count-eq0 (toggle-claims t) (toggle-at t) toggle.Post
 toggle-returns t c =
-    let a = c.before.before.args in
-    let pre = c.before.before.requires in
-    toggled-none a.marks.now a.start a.count a.m pre.1 c.if1.true
+    let a = c.args in
+    let pre = c.requires in
+    toggled-none a.marks.now a.start a.count a.m pre.1 c.if-count-eq0.true
 
-toggle-returns-2 : (t : ℕ) → toggle-lts.Need-returns-2 (toggle-claims t) (toggle-at t) toggle.Post
+toggle-returns-2 : (t : ℕ) → toggle-lts.Need-returns-then-x-m (toggle-claims t) (toggle-at t) toggle.Post
 toggle-returns-2 t c =
-    let entry = c.before.before.before.before in
-    let a = entry.args in
-    let pre = entry.requires in
-    let if1 = c.before.before.if1 in
-    toggled-cancel a.marks.now a.start a.count a.m pre.1 if1.false c.if2.true
+    let a = c.args in
+    let pre = c.requires in
+    toggled-cancel a.marks.now a.start a.count a.m pre.1 c.if-count-eq0.false c.if-x-m.true
 
-toggle-returns-3 : (t : ℕ) → toggle-lts.Need-returns-3 (toggle-claims t) (toggle-at t) toggle.Post
+toggle-returns-3 : (t : ℕ) → toggle-lts.Need-returns-then-x-m-2 (toggle-claims t) (toggle-at t) toggle.Post
 toggle-returns-3 t c =
-    let entry = c.before.before.before.before.before in
-    let a = entry.args in
-    let pre = entry.requires in
-    let if1 = c.before.before.before.if1 in
-    let if2 = c.before.if2 in
-    toggled-front a.marks.now a.start a.count a.m pre.1 if1.false if2.false c.if3.true
+    let a = c.args in
+    let pre = c.requires in
+    toggled-front a.marks.now a.start a.count a.m pre.1 c.if-count-eq0.false c.if-x-m.false c.if-x-m-2.true
 
-toggle-slice-write-marks-3 : (t : ℕ) → toggle-lts.Need-slice-write-marks-3 (toggle-claims t) (toggle-at t) toggle.Post
+toggle-slice-write-marks-3 : (t : ℕ) → toggle-lts.Need-bounds-marks-start-3 (toggle-claims t) (toggle-at t) toggle.Post
 toggle-slice-write-marks-3 t c =
-    let toggle = c.before.before.toggle in
-    omega (arith, toggle.ensures.room, toggle.auto.0)
+    omega (arith, c.toggle-n.ensures.room, c.toggle-n.auto.marks)
 
-toggle-returns-4 : (t : ℕ) → toggle-lts.Need-returns-4 (toggle-claims t) (toggle-at t) toggle.Post
+toggle-returns-4 : (t : ℕ) → toggle-lts.Need-returns (toggle-claims t) (toggle-at t) toggle.Post
 toggle-returns-4 t c =
-    let at-toggle = c.before.before in
-    let at-if2 = at-toggle.before.before.before in
-    let at-if1 = at-if2.before.before in
-    let entry = at-if1.before.before in
-    let a = entry.args in
-    let pre = entry.requires in
-    let if1 = at-if1.if1 in
-    let if2 = at-if2.if2 in
-    let toggle = at-toggle.toggle in
-    let l : a.m ≤ get_or a.marks.now (a.start + (a.count - 1)) 0 = omega arith in toggled-later a.marks.now a.start a.count a.m pre.1 if1.false if2.false l toggle.new.0 toggle.result toggle.auto.0 toggle.ensures
+    let a = c.args in
+    let pre = c.requires in
+    let l : a.m ≤ get_or a.marks.now (a.start + (a.count - 1)) 0 = omega arith in toggled-later a.marks.now a.start a.count a.m pre.1 c.if-count-eq0.false c.if-x-m.false l c.toggle-n.new.marks c.toggle-n.result c.toggle-n.auto.marks c.toggle-n.ensures
 
-pub +toggle-spec : {M : Type 1} → statement M
-+toggle-spec =
+pub +toggle_spec : {M : Type 1} → statement M
++toggle_spec =
     close
     μ-toggle
     λ t. toggle-lts.spec

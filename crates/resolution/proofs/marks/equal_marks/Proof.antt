@@ -9,38 +9,35 @@ use Rattle.resolution.specs.Marks.{marks_in}
 use Rattle.resolution.specs.MarkLaws.{equal-differ, equal_next, equal-none}
 use borrow.Author.Rules.{rules}
 
-abbrev invariant-loop : tie.invariant-loop
+abbrev invariant-loop : tie.invariant-loop-n
 invariant-loop marks a b count n₀ n =
     (n ≤ count) × (equal (marks_in marks a count) (marks_in marks b count) ≡ equal (marks_in marks a n) (marks_in marks b n))
 
-abbrev decreases-loop : tie.decreases-loop
+abbrev decreases-loop : tie.decreases-loop-n
 decreases-loop marks a b count n₀ n =
     n
 
-loop-holds : tie.Need-loop-init invariant-loop decreases-loop
+loop-holds : tie.Need-loop-n-init invariant-loop decreases-loop
 loop-holds c =
     (omega arith, refl)
 
-returns : tie.Need-returns invariant-loop decreases-loop
+returns : tie.Need-returns-then-marks-a invariant-loop decreases-loop
 returns c =
-    let a = c.before.before.before.before.before.args in
-    let loop = c.before.before.before.before.loop in
-    sym (loop.invariant.1 ∙ equal-differ a.marks.now a.a a.b loop.n (λ z. omega arith) c.if1.true)
+    let a = c.args in
+    sym (c.loop-n.invariant.1 ∙ equal-differ a.marks.now a.a a.b c.loop-n.n (λ z. omega arith) c.if-marks-a.true)
 
-loop-again : tie.Need-loop-preserved invariant-loop decreases-loop
+loop-again : tie.Need-loop-n-preserved invariant-loop decreases-loop
 loop-again c =
-    let a = c.before.before.before.before.before.args in
-    let loop = c.before.before.before.before.loop in
-    (omega arith, loop.invariant.1 ∙ equal_next a.marks.now a.a a.b loop.n (λ z. omega arith) c.if1.false)
+    let a = c.args in
+    (omega arith, c.loop-n.invariant.1 ∙ equal_next a.marks.now a.a a.b c.loop-n.n (λ z. omega arith) c.if-marks-a.false)
 
-returns-2 : tie.Need-returns-2 invariant-loop decreases-loop
+returns-2 : tie.Need-returns invariant-loop decreases-loop
 returns-2 c =
-    let a = c.before.before.args in
-    let loop = c.before.loop in
-    sym (loop.invariant.1 ∙ equal-none a.marks.now a.a a.b loop.n (omega arith))
+    let a = c.args in
+    sym (c.loop-n.invariant.1 ∙ equal-none a.marks.now a.a a.b c.loop-n.n (omega arith))
 
-pub equal-marks-spec : {M : Type 1} → statement M
-equal-marks-spec =
+pub equal_marks_spec : {M : Type 1} → statement M
+equal_marks_spec =
     tie.close
     (tie.spec
     invariant-loop

@@ -29,32 +29,25 @@ same-grown-below t =
 abbrev same-grown-claims : ℕ → same-grown-lts.Claims
 same-grown-claims t = (compare-reads.Asked, compare-reads.Learnt, same-grown-below t, same-grown.Post)
 
-same-grown-same-grown-requires : (t : ℕ) → same-grown-lts.Need-same-grown-requires (same-grown-claims t) (same-grown-at t) same-grown.Post
+same-grown-same-grown-requires : (t : ℕ) → same-grown-lts.Need-same_grown-requires (same-grown-claims t) (same-grown-at t) same-grown.Post
 same-grown-same-grown-requires t c κs =
-    let at-enum-told3 = c.before in
-    let at-compare = at-enum-told3.before.before.before.before in
-    let pre = at-compare.before.before.before.before.requires in
-    let compare = at-compare.compare in
-    let enum-told3 = at-enum-told3.enum-told3 in
-    (omega (arith, pre.0, told-full compare.ensures enum-told3.given.1, compare.auto.1.0), tt)
+    let pre = c.requires in
+    (omega (arith, pre.0, told-full c.compare.ensures c.in-Full.is, c.compare.auto.table), tt)
 
-same-grown-returns : (t : ℕ) → same-grown-lts.Need-returns (same-grown-claims t) (same-grown-at t) same-grown.Post
+same-grown-returns : (t : ℕ) → same-grown-lts.Need-returns-in-Same (same-grown-claims t) (same-grown-at t) same-grown.Post
 same-grown-returns t c =
-    let compare = c.before.before.before.before.compare in
-    told_same compare.ensures c.enum_told.given.1
+    told_same c.compare.ensures c.in-Same.is
 
-same-grown-returns-2 : (t : ℕ) → same-grown-lts.Need-returns-2 (same-grown-claims t) (same-grown-at t) same-grown.Post
+same-grown-returns-2 : (t : ℕ) → same-grown-lts.Need-returns-in-Other (same-grown-claims t) (same-grown-at t) same-grown.Post
 same-grown-returns-2 t c =
-    let compare = c.before.before.before.before.compare in
-    told-other compare.ensures c.enum-told2.given.1
+    told-other c.compare.ensures c.in-Other.is
 
-same-grown-returns-3 : (t : ℕ) → same-grown-lts.Need-returns-3 (same-grown-claims t) (same-grown-at t) same-grown.Post
+same-grown-returns-3 : (t : ℕ) → same-grown-lts.Need-returns-in-Full (same-grown-claims t) (same-grown-at t) same-grown.Post
 same-grown-returns-3 t c =
-    let same-grown = c.before.same-grown in
-    same-grown.ensures
+    c.same_grown.ensures
 
-pub +same-grown-spec : {M : Type 1} → statement M
-+same-grown-spec = close μ-same-grown λ t. same-grown-lts.spec (
+pub +same_grown_spec : {M : Type 1} → statement M
++same_grown_spec = close μ-same-grown λ t. same-grown-lts.spec (
   compare-reads.Asked,
   compare-reads.Learnt,
   same-grown-below t,

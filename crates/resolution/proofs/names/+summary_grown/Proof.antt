@@ -32,27 +32,21 @@ summary-grown-below t =
 abbrev summary-grown-claims : ℕ → summary-grown-lts.Claims
 summary-grown-claims t = (summary-in-reads.Asked, summary-in-reads.Learnt, summary-grown-below t, summary-grown.Post)
 
-summary-grown-returns : (t : ℕ) → summary-grown-lts.Need-returns (summary-grown-claims t) (summary-grown-at t) summary-grown.Post
+summary-grown-returns : (t : ℕ) → summary-grown-lts.Need-returns-then-s-table (summary-grown-claims t) (summary-grown-at t) summary-grown.Post
 summary-grown-returns t c =
-    let summary-in = c.before.before.before.before.summary-in in
-    summary-in.ensures.within c.if1.true
+    c.summary_in-s.ensures.within c.if-s-table.true
 
-summary-grown-summary-grown-requires : (t : ℕ) → summary-grown-lts.Need-summary-grown-requires (summary-grown-claims t) (summary-grown-at t) summary-grown.Post
+summary-grown-summary-grown-requires : (t : ℕ) → summary-grown-lts.Need-summary_grown-requires (summary-grown-claims t) (summary-grown-at t) summary-grown.Post
 summary-grown-summary-grown-requires t c κs =
-    let at-if1 = c.before in
-    let at-summary-in = at-if1.before.before.before.before in
-    let pre = at-summary-in.before.before.before.before.requires in
-    let summary-in = at-summary-in.summary-in in
-    let if1 = at-if1.if1 in
-    (omega (arith, pre.0, summary-in.ensures.full if1.false, summary-in.auto.1.0), tt)
+    let pre = c.requires in
+    (omega (arith, pre.0, c.summary_in-s.ensures.full c.if-s-table.false, c.summary_in-s.auto.table), tt)
 
-summary-grown-returns-2 : (t : ℕ) → summary-grown-lts.Need-returns-2 (summary-grown-claims t) (summary-grown-at t) summary-grown.Post
+summary-grown-returns-2 : (t : ℕ) → summary-grown-lts.Need-returns (summary-grown-claims t) (summary-grown-at t) summary-grown.Post
 summary-grown-returns-2 t c =
-    let summary-grown = c.before.summary-grown in
-    summary-grown.ensures
+    c.summary_grown.ensures
 
-pub +summary-grown-spec : {M : Type 1} → statement M
-+summary-grown-spec = close μ-summary-grown λ t. summary-grown-lts.spec (
+pub +summary_grown_spec : {M : Type 1} → statement M
++summary_grown_spec = close μ-summary-grown λ t. summary-grown-lts.spec (
   summary-in-reads.Asked,
   summary-in-reads.Learnt,
   summary-grown-below t,

@@ -5,26 +5,20 @@ use Rattle.resolution.proofs.names.are_copies.Tie as tie
 use mathlib.Core.Bool.{false≢true}
 use Rattle.resolution.specs.NameLaws.{copies-same}
 
-returns : tie.Need-returns
+returns : tie.Need-returns-then-v-w
 returns c = λ z. absurd (false≢true z)
 
-returns-2 : tie.Need-returns-2
+returns-2 : tie.Need-returns-then-number_of
 returns-2 c = λ z. absurd (false≢true z)
 
-returns-3 : tie.Need-returns-3
+returns-3 : tie.Need-returns
 returns-3 c =
-    let at-reference2 = c.before in
-    let at-reference = at-reference2.before in
-    let at-if2 = at-reference.before in
-    let at-number-of2 = at-if2.before in
-    let at-number-of = at-number-of2.before in
-    let at-if1 = at-number-of.before in
-    let a = at-if1.before.before.args in
-    λ z. copies-same a.work.now a.a a.v a.b a.w _ _ _ _ at-if1.if1.false at-number-of.number_of_lem.ensures at-number-of2.number-of2.ensures at-if2.if2.false
-    at-reference.reference.ensures at-reference2.reference2.ensures (c.same-cells.ensures z)
+    let a = c.args in
+    λ z. copies-same a.work.now a.a a.v a.b a.w _ _ _ _ c.if-v-w.false c.number_of.ensures c.number_of-2.ensures c.if-number_of.false
+    c.reference-own.ensures c.reference-other.ensures (c.same_cells.ensures z)
 
-pub are-copies-spec : {M : Type 1} → statement M
-are-copies-spec =
+pub are_copies_spec : {M : Type 1} → statement M
+are_copies_spec =
     tie.close
     (tie.spec
     returns

@@ -7,18 +7,18 @@ use Rattle.recipe.specs.Name.{Name, binding_key}
 use Rattle.resolution.specs.NameLaws.{whole-name}
 use Rattle.resolution.specs.DirectLaws.{finds-name}
 
-returns : tie.Need-returns
+returns : tie.Need-returns-then-key
 returns c =
-    let a = c.before.before.before.before.before.args in
-    finds-name a.work.now a.node a.w _ _ _ c.before.before.before.number_of_lem.ensures c.before.before.reference.ensures c.before.binding.ensures c.if1.true
+    let a = c.args in
+    finds-name a.work.now a.node a.w _ _ _ c.number_of-number.ensures c.reference-own.ensures c.binding-key.ensures c.if-key.true
 
-returns-2 : tie.Need-returns-2
+returns-2 : tie.Need-returns
 returns-2 c =
-    let a = c.before.before.before.before.before.before.before.args in
-    c.summary-walked.ensures.binding-is ∙ ap (λ (x : Name). binding_key x.binding) (whole-name a.work.now a.node a.w)
+    let a = c.args in
+    c.summary_walked-s.ensures.binding-is ∙ ap (λ (x : Name). binding_key x.binding) (whole-name a.work.now a.node a.w)
 
-pub binding-of-spec : {M : Type 1} → statement M
-binding-of-spec =
+pub binding_of_spec : {M : Type 1} → statement M
+binding_of_spec =
     tie.close
     (tie.spec
     (λ c κs. search rules)  -- number-of-requires

@@ -8,25 +8,25 @@ word-requires : tie.Need-word-requires
 word-requires c κs =
     search rules
 
-returns : tie.Need-returns
+returns : tie.Need-returns-then-word-ne-NAME
 returns c =
-    let a = c.before.before.before.args in
-    ordinary-other a.work.now a.node _ c.before.word.ensures c.if1.true
+    let a = c.args in
+    ordinary-other a.work.now a.node _ c.word.ensures c.if-word-ne-NAME.true
 
-number-of-requires : tie.Need-number-of-requires
+number-of-requires : tie.Need-number_of-number-requires
 number-of-requires c κs =
     search rules
 
-returns-2 : tie.Need-returns-2
+returns-2 : tie.Need-returns-then-number-eq-ELLIPSIS
 returns-2 c =
-    let a = c.before.before.before.before.before.args in
-    ordinary-ellipsis a.work.now a.node _ c.before.before.before.word.ensures _ c.before.number_of_lem.ensures c.before.before.if1.false c.if2.true
+    let a = c.args in
+    ordinary-ellipsis a.work.now a.node _ c.word.ensures _ c.number_of-number.ensures c.if-word-ne-NAME.false c.if-number-eq-ELLIPSIS.true
 
-returns-3 : tie.Need-returns-3
+returns-3 : tie.Need-returns
 returns-3 c =
-    let a = c.before.before.before.before.before.args in
-    ordinary-last a.work.now a.node _ c.before.before.before.word.ensures _ c.before.number_of_lem.ensures c.before.before.if1.false c.if2.false
+    let a = c.args in
+    ordinary-last a.work.now a.node _ c.word.ensures _ c.number_of-number.ensures c.if-word-ne-NAME.false c.if-number-eq-ELLIPSIS.false
 
-pub is-ordinary-spec : {M : Type 1} → statement M
-is-ordinary-spec =
+pub is_ordinary_spec : {M : Type 1} → statement M
+is_ordinary_spec =
     tie.close (tie.spec word-requires returns number-of-requires returns-2 returns-3)

@@ -7,34 +7,24 @@ use Rattle.arena.specs.Arena.{name_at}
 use Rattle.resolution.specs.NameLaws.{lookup-none, lookup-variable, lookup-macro}
 use mathlib.Core.Path.{sym, ◌∙◌}
 
-returns : tie.Need-returns
+returns : tie.Need-returns-then-b-eq0
 returns c =
-    let at-number-of = c.before in
-    let at-if1 = at-number-of.before in
-    let at-binding-of = at-if1.before in
-    let a = at-binding-of.before.before.before.args in
-    let binding-of = at-binding-of.binding-of in
-    let if1 = at-if1.if1 in
-    let number_of_lem = at-number-of.number_of_lem in
+    let a = c.args in
     let x = name_at a.work.now a.node a.w in
-    lookup-none a.operations.now x _ binding-of.ensures if1.true _ (number_of_lem.ensures ∙ sym (name_at-number a.work.now a.node a.w)) _ c.unbound.ensures
+    lookup-none a.operations.now x _ c.binding_of-b.ensures c.if-b-eq0.true _ (c.number_of-number.ensures ∙ sym (name_at-number a.work.now a.node a.w)) _ c.unbound.ensures
 
-returns-2 : tie.Need-returns-2
+returns-2 : tie.Need-returns-then-b-eq1
 returns-2 c =
-    let a = c.before.before.before.before.before.args in
-    let binding-of = c.before.before.binding-of in
-    let if1 = c.before.if1 in
-    lookup-variable a.operations.now (name_at a.work.now a.node a.w) _ binding-of.ensures if1.false c.if2.true
+    let a = c.args in
+    lookup-variable a.operations.now (name_at a.work.now a.node a.w) _ c.binding_of-b.ensures c.if-b-eq0.false c.if-b-eq1.true
 
-returns-3 : tie.Need-returns-3
+returns-3 : tie.Need-returns
 returns-3 c =
-    let a = c.before.before.before.before.before.args in
-    let binding-of = c.before.before.binding-of in
-    let if1 = c.before.if1 in
-    lookup-macro a.operations.now (name_at a.work.now a.node a.w) _ binding-of.ensures if1.false c.if2.false
+    let a = c.args in
+    lookup-macro a.operations.now (name_at a.work.now a.node a.w) _ c.binding_of-b.ensures c.if-b-eq0.false c.if-b-eq1.false
 
-pub lookup-spec : {M : Type 1} → statement M
-lookup-spec =
+pub lookup_spec : {M : Type 1} → statement M
+lookup_spec =
     tie.close
     (tie.spec
     (λ c κs. search rules)  -- binding-of-requires

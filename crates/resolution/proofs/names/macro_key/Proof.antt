@@ -5,10 +5,10 @@ use Rattle.resolution.proofs.names.macro_key.Tie as tie
 use Rattle.recipe.specs.Name.{binding_key}
 use native.Mathlib.Omega.{arith}
 
-mul-result : tie.Need-overflow-mul-result
+mul-result : tie.Need-overflow_mul-result
 mul-result c = search rules
 
-add-result : tie.Need-overflow-add-result
+add-result : tie.Need-overflow_add-result
 add-result c = search rules
 
 returns : tie.Need-returns
@@ -16,5 +16,5 @@ unfolding binding_key
 returns c =
     omega arith
 
-pub macro-key-spec : {M : Type 1} → statement M
-macro-key-spec = tie.close (tie.spec mul-result add-result returns)
+pub macro_key_spec : {M : Type 1} → statement M
+macro_key_spec = tie.close (tie.spec mul-result add-result returns)

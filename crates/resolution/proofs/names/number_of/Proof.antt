@@ -9,11 +9,10 @@ use Prim.Native.Nat.{ℕ}
 returns : tie.Need-returns
 unfolding number_of node_name
 returns c =
-    let word = c.before.word in
-    c.number.ensures ∙ ap (λ (o : ℕ). (origin_name o).number) word.ensures
+    c.number.ensures ∙ ap (λ (o : ℕ). (origin_name o).number) c.word.ensures
 
-pub number-of-spec : {M : Type 1} → statement M
-number-of-spec =
+pub number_of_spec : {M : Type 1} → statement M
+number_of_spec =
     tie.close
     (tie.spec
     (λ c κs. search rules)  -- word-requires

@@ -7,37 +7,28 @@ use Rattle.resolution.specs.HandLaws.{fits_on, fits-then, hand-none}
 use Rattle.resolution.specs.WalkLaws.{stands-none, stands_after, stands-outside}
 use Rattle.resolution.specs.NameLaws.{resolved}
 
-walked-requires : tie.Need-walked-requires
+walked-requires : tie.Need-walked-x-requires
 walked-requires c κs =
-    let at-args = c.before.before.before.before.before in
-    (hand-none at-args.args.table.now at-args.args.start at-args.requires, stands-none at-args.args.work.now at-args.args.table.now at-args.args.start)
+    (hand-none c.args.table.now c.args.start c.requires, stands-none c.args.work.now c.args.table.now c.args.start)
 
-returns : tie.Need-returns
-returns c = fits_on c.if1.true c.before.before.before.before.walked.ensures
+returns : tie.Need-returns-then-table-x
+returns c = fits_on c.if-table-x.true c.walked-x.ensures
 
 walk-requires : tie.Need-walk-requires
 unfolding base_outside
 walk-requires c κs =
-    let at-if1 = c.before in
-    let at-walked = at-if1.before.before.before.before in
-    let at-reference = at-walked.before.before in
-    let args' = at-reference.before.before.before.before.args in
-    let after = at-walked.walked.ensures.within at-if1.if1.false in
-    let stands = stands_after args'.work.now 0 at-reference.reference.result args'.table.now _ args'.start _ 0 0 _ _ after (stands-none args'.work.now args'.table.now args'.start) in
-    (after.hand, stands-outside args'.work.now 0 at-reference.reference.result _ args'.start _ stands)
+    let args' = c.args in
+    let after = c.walked-x.ensures.within c.if-table-x.false in
+    let stands = stands_after args'.work.now 0 c.reference-own.result args'.table.now _ args'.start _ 0 0 _ _ after (stands-none args'.work.now args'.table.now args'.start) in
+    (after.hand, stands-outside args'.work.now 0 c.reference-own.result _ args'.start _ stands)
 
-returns-2 : tie.Need-returns-2
+returns-2 : tie.Need-returns
 returns-2 c =
-    let at-walk = c.before.before in
-    let at-if1 = at-walk.before.before in
-    let at-walked = at-if1.before.before.before.before in
-    let at-reference = at-walked.before.before in
-    let at-number-of = at-reference.before in
-    let args' = at-number-of.before.before.before.args in
-    fits-then at-walk.walk.ensures (resolved args'.work.now args'.node args'.w _ _ at-reference.reference.ensures at-number-of.number_of_lem.ensures args'.table.now _ _ args'.start _ _ _ _ (at-walked.walked.ensures.within at-if1.if1.false))
+    let args' = c.args in
+    fits-then c.walk.ensures (resolved args'.work.now args'.node args'.w _ _ c.reference-own.ensures c.number_of-number.ensures args'.table.now _ _ args'.start _ _ _ _ (c.walked-x.ensures.within c.if-table-x.false))
 
-pub resolve-spec : {M : Type 1} → statement M
-resolve-spec =
+pub resolve_spec : {M : Type 1} → statement M
+resolve_spec =
     tie.close
     (tie.spec
     (λ c κs. search rules)  -- number-of-requires

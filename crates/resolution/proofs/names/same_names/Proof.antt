@@ -5,21 +5,21 @@ use Rattle.resolution.proofs.names.same_names.Tie as tie
 use mathlib.Core.Path.{◌∙◌}
 use Rattle.resolution.specs.NameLaws.{whole_same, differ-numbers}
 
-returns : tie.Need-returns
+returns : tie.Need-returns-then-number_of
 returns c =
-    let a = c.before.before.before.before.args in
-    differ-numbers a.work.now a.a a.v a.b a.w _ _ c.before.before.number_of_lem.ensures c.before.number-of2.ensures c.if1.true
+    let a = c.args in
+    differ-numbers a.work.now a.a a.v a.b a.w _ _ c.number_of.ensures c.number_of-2.ensures c.if-number_of.true
 
-returns-2 : tie.Need-returns-2
-returns-2 c = c.before.are-copies.ensures c.if2.true
+returns-2 : tie.Need-returns-then-are_copies
+returns-2 c = c.are_copies.ensures c.if-are_copies.true
 
-returns-3 : tie.Need-returns-3
+returns-3 : tie.Need-returns
 returns-3 c =
-    let a = c.before.before.before.before.before.before.before.before.args in
-    c.same-walked.ensures ∙ whole_same a.work.now a.a a.v a.b a.w
+    let a = c.args in
+    c.same_walked.ensures ∙ whole_same a.work.now a.a a.v a.b a.w
 
-pub same-names-spec : {M : Type 1} → statement M
-same-names-spec =
+pub same_names_spec : {M : Type 1} → statement M
+same_names_spec =
     tie.close
     (tie.spec
     (λ c κs. search rules)  -- number-of-requires

@@ -4,20 +4,20 @@ use Rattle.resolution.proofs.names.same_walked.Statement.{statement}
 use Rattle.resolution.proofs.names.same_walked.Tie as tie
 use Rattle.resolution.specs.HandLaws.{told_same, told-other}
 
-returns : tie.Need-returns
+returns : tie.Need-returns-in-Same
 returns c =
-    told_same c.before.before.before.compare.ensures c.enum_told.given.1
+    told_same c.compare.ensures c.in-Same.is
 
-returns-2 : tie.Need-returns-2
+returns-2 : tie.Need-returns-in-Other
 returns-2 c =
-    told-other c.before.before.before.compare.ensures c.enum-told2.given.1
+    told-other c.compare.ensures c.in-Other.is
 
-returns-3 : tie.Need-returns-3
+returns-3 : tie.Need-returns-in-Full
 returns-3 c =
-    c.before.same-grown.ensures
+    c.same_grown.ensures
 
-pub same-walked-spec : {M : Type 1} → statement M
-same-walked-spec =
+pub same_walked_spec : {M : Type 1} → statement M
+same_walked_spec =
     tie.close
     (tie.spec
     (λ c. search rules)  -- slice-aggregate-compare

@@ -5,22 +5,18 @@ use Rattle.resolution.proofs.names.summary_of.Tie as tie
 use Rattle.resolution.specs.NameLaws.{whole-summed}
 use Rattle.resolution.specs.DirectLaws.{marked-summed}
 
-returns : tie.Need-returns
+returns : tie.Need-returns-then-mark-lt-STEP_LIMIT
 returns c =
-    let at-if1 = c.before in
-    let at-only-mark = at-if1.before in
-    let at-reference = at-only-mark.before in
-    let at-number-of = at-reference.before in
-    let a = at-number-of.before.before.args in
-    marked-summed a.work.now a.node a.w _ _ _ _ at-number-of.number_of_lem.ensures at-reference.reference.ensures at-only-mark.only-mark.ensures at-if1.if1.true c.count_of.ensures
+    let a = c.args in
+    marked-summed a.work.now a.node a.w _ _ _ _ c.number_of-number.ensures c.reference-own.ensures c.only_mark-mark.ensures c.if-mark-lt-STEP_LIMIT.true c.count_of.ensures
 
-returns-2 : tie.Need-returns-2
+returns-2 : tie.Need-returns
 returns-2 c =
-    let a = c.before.before.before.before.before.before.before.args in
-    whole-summed a.work.now a.node a.w _ _ _ c.summary-walked.ensures
+    let a = c.args in
+    whole-summed a.work.now a.node a.w _ _ _ c.summary_walked.ensures
 
-pub summary-of-spec : {M : Type 1} → statement M
-summary-of-spec =
+pub summary_of_spec : {M : Type 1} → statement M
+summary_of_spec =
     tie.close
     (tie.spec
     (λ c κs. search rules)  -- number-of-requires

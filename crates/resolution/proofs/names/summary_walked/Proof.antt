@@ -4,16 +4,16 @@ use Rattle.resolution.proofs.names.summary_walked.Statement.{statement}
 use Rattle.resolution.proofs.names.summary_walked.Tie as tie
 use native.Mathlib.Omega.{arith}
 
-returns : tie.Need-returns
+returns : tie.Need-returns-then-s-le-FEW_WORDS
 returns c =
-    c.before.before.before.summary-in.ensures.within (omega (arith, c.if1.true, c.before.before.before.summary-in.auto.1.0))
+    c.summary_in-s.ensures.within (omega (arith, c.if-s-le-FEW_WORDS.true, c.summary_in-s.auto.table))
 
-returns-2 : tie.Need-returns-2
+returns-2 : tie.Need-returns
 returns-2 c =
-    c.before.summary-grown.ensures
+    c.summary_grown.ensures
 
-pub summary-walked-spec : {M : Type 1} → statement M
-summary-walked-spec =
+pub summary_walked_spec : {M : Type 1} → statement M
+summary_walked_spec =
     tie.close
     (tie.spec
     (λ c. search rules)  -- slice-aggregate-summary-in

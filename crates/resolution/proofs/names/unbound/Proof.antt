@@ -5,31 +5,31 @@ use Rattle.resolution.proofs.names.unbound.Tie as tie
 use Rattle.resolution.specs.NameLaws.{unbound-form, unbound-out, unbound-none, unbound-some}
 use native.Mathlib.Omega.{arith}
 
-returns : tie.Need-returns
+returns : tie.Need-returns-then-number-lt-BASE_NAMES
 returns c =
-    let a = c.before.args in
-    unbound-form a.operations.now a.number c.if1.true
+    let a = c.args in
+    unbound-form a.operations.now a.number c.if-number-lt-BASE_NAMES.true
 
-returns-2 : tie.Need-returns-2
+returns-2 : tie.Need-returns-then-operations-i
 returns-2 c =
-    let a = c.before.before.args in
-    unbound-out a.operations.now a.number (omega arith) c.if2.true
+    let a = c.args in
+    unbound-out a.operations.now a.number (omega arith) c.if-operations-i.true
 
-cast-place : tie.Need-overflow-cast-place
-cast-place c = omega (arith, c.shared-slice-known.given c.before.before.before.args.number)
+cast-place : tie.Need-overflow_cast-place
+cast-place c = omega (arith, c.shared_slice_known-1.given c.args.number)
 
-returns-3 : tie.Need-returns-3
+returns-3 : tie.Need-returns-then-place-eq0
 returns-3 c =
-    let a = c.before.before.before.before.args in
-    unbound-none a.operations.now a.number (omega arith) c.if3.true
+    let a = c.args in
+    unbound-none a.operations.now a.number (omega arith) c.if-place-eq0.true
 
-returns-4 : tie.Need-returns-4
+returns-4 : tie.Need-returns
 returns-4 c =
-    let a = c.before.before.before.before.args in
-    unbound-some a.operations.now a.number (omega arith) c.if3.false
+    let a = c.args in
+    unbound-some a.operations.now a.number (omega arith) c.if-place-eq0.false
 
-pub unbound-spec : {M : Type 1} → statement M
-unbound-spec =
+pub unbound_spec : {M : Type 1} → statement M
+unbound_spec =
     tie.close
     (tie.spec
     returns

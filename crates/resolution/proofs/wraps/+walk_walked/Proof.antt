@@ -47,113 +47,71 @@ abbrev walk-claims : ℕ → walk-lts.Claims
 walk-claims t =
     (word-reads.Asked, word-reads.Learnt, reference-reads.Asked, reference-reads.Learnt, walked-below t, walked.Post, mark-reads.Asked, mark-reads.Learnt, base-outside-reads.Asked, base-outside-reads.Learnt, rebind-reads.Asked, rebind-reads.Learnt)
 
-walk-returns : (t : ℕ) → walk-lts.Need-returns (walk-claims t) (walk_at t) walk.Post
+walk-returns : (t : ℕ) → walk-lts.Need-returns-then-tag-eq0 (walk-claims t) (walk_at t) walk.Post
 walk-returns t c =
-    let at-word = c.before in
-    let at-args = at-word.before.before.before in
-    fits-within at-args.args.table.now (at-args.args.start + step_limit + step_limit) at-args.args.x.count (omega (arith, at-args.requires.1.0.room)) (name-idle _ at-args.args.table.now at-args.args.start at-args.args.number at-args.args.x.count at-args.args.x.binding at-args.requires.1.0 (wrap-idle at-args.args.work.now at-args.args.w _ at-word.word.ensures (λ z. omega arith) (λ z. omega arith) (λ z. omega arith)))
+    fits-within c.args.table.now (c.args.start + step_limit + step_limit) c.args.x.count (omega (arith, c.requires.1.0.room)) (name-idle _ c.args.table.now c.args.start c.args.number c.args.x.count c.args.x.binding c.requires.1.0 (wrap-idle c.args.work.now c.args.w _ c.word-tag.ensures (λ z. omega arith) (λ z. omega arith) (λ z. omega arith)))
 
-walk-returns-2 : (t : ℕ) → walk-lts.Need-returns-2 (walk-claims t) (walk_at t) walk.Post
+walk-returns-2 : (t : ℕ) → walk-lts.Need-returns-then-tag-gt-BINDER (walk-claims t) (walk_at t) walk.Post
 walk-returns-2 t c =
-    let at-word = c.before.before in
-    let at-args = at-word.before.before.before in
-    fits-within at-args.args.table.now (at-args.args.start + step_limit + step_limit) at-args.args.x.count (omega (arith, at-args.requires.1.0.room)) (name-idle _ at-args.args.table.now at-args.args.start at-args.args.number at-args.args.x.count at-args.args.x.binding at-args.requires.1.0 (wrap-idle at-args.args.work.now at-args.args.w _ at-word.word.ensures (λ z. omega arith) (λ z. omega arith) (λ z. omega arith)))
+    fits-within c.args.table.now (c.args.start + step_limit + step_limit) c.args.x.count (omega (arith, c.requires.1.0.room)) (name-idle _ c.args.table.now c.args.start c.args.number c.args.x.count c.args.x.binding c.requires.1.0 (wrap-idle c.args.work.now c.args.w _ c.word-tag.ensures (λ z. omega arith) (λ z. omega arith) (λ z. omega arith)))
 
-walk-walked-requires : (t : ℕ) → walk-lts.Need-walked-requires (walk-claims t) (walk_at t) walk.Post
+walk-walked-requires : (t : ℕ) → walk-lts.Need-walked-y-requires (walk-claims t) (walk_at t) walk.Post
 walk-walked-requires t c κs =
-    let at-reference = c.before in
-    let at-if1 = at-reference.before.before in
-    let at-word = at-if1.before in
-    let at-args = at-word.before.before.before in
-    (omega (arith, wrap-falls at-args.args.work.now at-args.args.w _ at-word.word.ensures 2 _ at-if1.if1.false at-reference.reference.ensures, at-args.requires.0), at-args.requires.1)
+    (omega (arith, wrap-falls c.args.work.now c.args.w _ c.word-tag.ensures 2 _ c.if-tag-eq0.false c.reference-inner.ensures, c.requires.0), c.requires.1)
 
-walk-returns-3 : (t : ℕ) → walk-lts.Need-returns-3 (walk-claims t) (walk_at t) walk.Post
+walk-returns-3 : (t : ℕ) → walk-lts.Need-returns-then-table-y (walk-claims t) (walk_at t) walk.Post
 walk-returns-3 t c =
-    fits_on c.if3.true c.before.before.before.before.walked.ensures
+    fits_on c.if-table-y.true c.walked-y.ensures
 
-walk-mark-requires : (t : ℕ) → walk-lts.Need-mark-requires (walk-claims t) (walk_at t) walk.Post
+walk-mark-requires : (t : ℕ) → walk-lts.Need-mark-k-requires (walk-claims t) (walk_at t) walk.Post
 walk-mark-requires t c κs =
-    (c.before.before.before.before.before.before.before.walked.ensures.within c.before.before.before.if3.false).hand
+    (c.walked-y.ensures.within c.if-table-y.false).hand
 
-walk-returns-4 : (t : ℕ) → walk-lts.Need-returns-4 (walk-claims t) (walk_at t) walk.Post
+walk-returns-4 : (t : ℕ) → walk-lts.Need-returns-then-tag-eq-MARK (walk-claims t) (walk_at t) walk.Post
 walk-returns-4 t c =
-    let at_mark = c.before.before in
-    let at-word2 = at_mark.before.before in
-    let at-if4 = at-word2.before in
-    let at-if3 = at-if4.before in
-    let at-walked = at-if3.before.before.before.before in
-    let at-reference = at-walked.before.before in
-    let at-word = at-reference.before.before.before in
-    let args' = at-word.before.before.before.args in
-    fits_wider at_mark.mark.new.0 (args'.start + step_limit) (args'.start + step_limit + step_limit) at_mark.mark.result (omega arith) (fits-then at_mark.mark.ensures (walk-mark args'.work.now args'.w _ at-word.word.ensures _ at-reference.reference.ensures args'.table.now _ args'.start args'.number args'.x.count args'.x.binding _ _ (at-walked.walked.ensures.within at-if3.if3.false) _ at-if4.if4.true at-word2.word2.ensures _ _))
+    let args' = c.args in
+    fits_wider c.mark-k.new.marks (args'.start + step_limit) (args'.start + step_limit + step_limit) c.mark-k.result (omega arith) (fits-then c.mark-k.ensures (walk-mark args'.work.now args'.w _ c.word-tag.ensures _ c.reference-inner.ensures args'.table.now _ args'.start args'.number args'.x.count args'.x.binding _ _ (c.walked-y.ensures.within c.if-table-y.false) _ c.if-tag-eq-MARK.true c.word-m.ensures _ _))
 
-walk-walked-requires-2 : (t : ℕ) → walk-lts.Need-walked-requires-2 (walk-claims t) (walk_at t) walk.Post
+walk-walked-requires-2 : (t : ℕ) → walk-lts.Need-walked-requires (walk-claims t) (walk_at t) walk.Post
 walk-walked-requires-2 t c κs =
-    let at-reference2 = c.before.before in
-    let at-if3 = at-reference2.before.before.before in
-    let at-walked = at-if3.before.before.before.before in
-    let at-if1 = at-walked.before.before.before.before in
-    let at-word = at-if1.before in
-    let at-args = at-word.before.before.before in
-    let stands = stands_after at-args.args.work.now at-args.args.base _ at-args.args.table.now _ at-args.args.start at-args.args.number at-args.args.x.count at-args.args.x.binding _ _ (at-walked.walked.ensures.within at-if3.if3.false) at-args.requires.1.1 in
-    let outside = stands-outside at-args.args.work.now at-args.args.base _ _ at-args.args.start _ stands in (
-      omega (arith, wrap-falls at-args.args.work.now at-args.args.w _ at-word.word.ensures 3 _ at-if1.if1.false at-reference2.reference2.ensures, at-args.requires.0),
-      ((at-walked.walked.ensures.within at-if3.if3.false).hand, rw c.base-outside.ensures outside),
+    let stands = stands_after c.args.work.now c.args.base _ c.args.table.now _ c.args.start c.args.number c.args.x.count c.args.x.binding _ _ (c.walked-y.ensures.within c.if-table-y.false) c.requires.1.1 in
+    let outside = stands-outside c.args.work.now c.args.base _ _ c.args.start _ stands in (
+      omega (arith, wrap-falls c.args.work.now c.args.w _ c.word-tag.ensures 3 _ c.if-tag-eq0.false c.reference-outer.ensures, c.requires.0),
+      ((c.walked-y.ensures.within c.if-table-y.false).hand, rw c.base_outside.ensures outside),
     )
 
-walk-returns-5 : (t : ℕ) → walk-lts.Need-returns-5 (walk-claims t) (walk_at t) walk.Post
+walk-returns-5 : (t : ℕ) → walk-lts.Need-returns-then-tag-eq-JOIN (walk-claims t) (walk_at t) walk.Post
 walk-returns-5 t c =
-    let at-walked2 = c.before.before in
-    let at-reference2 = at-walked2.before.before.before in
-    let at-if5 = at-reference2.before in
-    let at-if3 = at-if5.before.before in
-    let at-walked = at-if3.before.before.before.before in
-    let at-reference = at-walked.before.before in
-    let at-word = at-reference.before.before.before in
-    let args' = at-word.before.before.before.args in
-    fits-then at-walked2.walked2.ensures (walk-join args'.work.now args'.w _ at-word.word.ensures _ at-reference.reference.ensures args'.table.now _ args'.start args'.number args'.x.count args'.x.binding _ _ (at-walked.walked.ensures.within at-if3.if3.false) _ at-if5.if5.true at-reference2.reference2.ensures _ _ _)
+    let args' = c.args in
+    fits-then c.walked.ensures (walk-join args'.work.now args'.w _ c.word-tag.ensures _ c.reference-inner.ensures args'.table.now _ args'.start args'.number args'.x.count args'.x.binding _ _ (c.walked-y.ensures.within c.if-table-y.false) _ c.if-tag-eq-JOIN.true c.reference-outer.ensures _ _ _)
 
 walk-rebind-requires : (t : ℕ) → walk-lts.Need-rebind-requires (walk-claims t) (walk_at t) walk.Post
 walk-rebind-requires t c κs =
-    let at-if3 = c.before.before.before in
-    let at-walked = at-if3.before.before.before.before in
-    let at-reference = at-walked.before.before in
-    let at-args = at-reference.before.before.before.before.before.before in
-    let stands = stands_after at-args.args.work.now at-args.args.base _ at-args.args.table.now _ at-args.args.start at-args.args.number at-args.args.x.count at-args.args.x.binding _ _ (at-walked.walked.ensures.within at-if3.if3.false) at-args.requires.1.1 in
-    ((at-walked.walked.ensures.within at-if3.if3.false).hand, rw (← at-reference.reference.ensures) stands)
+    let stands = stands_after c.args.work.now c.args.base _ c.args.table.now _ c.args.start c.args.number c.args.x.count c.args.x.binding _ _ (c.walked-y.ensures.within c.if-table-y.false) c.requires.1.1 in
+    ((c.walked-y.ensures.within c.if-table-y.false).hand, rw (← c.reference-inner.ensures) stands)
 
-walk-returns-6 : (t : ℕ) → walk-lts.Need-returns-6 (walk-claims t) (walk_at t) walk.Post
+walk-returns-6 : (t : ℕ) → walk-lts.Need-returns (walk-claims t) (walk_at t) walk.Post
 walk-returns-6 t c =
-    let at-rebind = c.before.before in
-    let at-if5 = at-rebind.before.before in
-    let at-if4 = at-if5.before in
-    let at-if3 = at-if4.before in
-    let at-walked = at-if3.before.before.before.before in
-    let at-reference = at-walked.before.before in
-    let at-if2 = at-reference.before in
-    let at-if1 = at-if2.before in
-    let at-word = at-if1.before in
-    let args' = at-word.before.before.before.args in
-    fits-then at-rebind.rebind.ensures (walk-binder args'.work.now args'.w _ at-word.word.ensures _ at-reference.reference.ensures args'.table.now _ args'.start args'.number args'.x.count args'.x.binding _ _ (at-walked.walked.ensures.within at-if3.if3.false) (omega (arith, at-if1.if1.false, at-if2.if2.false, at-if4.if4.false, at-if5.if5.false)) _ _ _)
+    let args' = c.args in
+    fits-then c.rebind.ensures (walk-binder args'.work.now args'.w _ c.word-tag.ensures _ c.reference-inner.ensures args'.table.now _ args'.start args'.number args'.x.count args'.x.binding _ _ (c.walked-y.ensures.within c.if-table-y.false) (omega (arith, c.if-tag-eq0.false, c.if-tag-gt-BINDER.false, c.if-tag-eq-MARK.false, c.if-tag-eq-JOIN.false)) _ _ _)
 
 abbrev walked-claims : ℕ → walked-lts.Claims
 walked-claims t = (walk-below t, walk.Post)
 
-walked-returns : (t : ℕ) → walked-lts.Need-returns (walked-claims t) (walked_at t) walked.Post
+walked-returns : (t : ℕ) → walked-lts.Need-returns-then-w-eq0 (walked-claims t) (walked_at t) walked.Post
 walked-returns t c =
-    let at-args = c.before.before.before in
-    fits-within at-args.args.table.now (at-args.args.start + step_limit + step_limit) at-args.args.x.count (omega (arith, at-args.requires.1.0.room)) (name-idle _ at-args.args.table.now at-args.args.start at-args.args.number at-args.args.x.count at-args.args.x.binding at-args.requires.1.0 (wrap-none at-args.args.work.now at-args.args.w c.if1.true))
+    fits-within c.args.table.now (c.args.start + step_limit + step_limit) c.args.x.count (omega (arith, c.requires.1.0.room)) (name-idle _ c.args.table.now c.args.start c.args.number c.args.x.count c.args.x.binding c.requires.1.0 (wrap-none c.args.work.now c.args.w c.if-w-eq0.true))
 
 walked-walk-requires : (t : ℕ) → walked-lts.Need-walk-requires (walked-claims t) (walked_at t) walked.Post
 walked-walk-requires t c κs =
-    (omega (arith, c.before.before.before.before.requires.0), c.before.before.before.before.requires.1)
+    (omega (arith, c.requires.0), c.requires.1)
 
-walked-returns-2 : (t : ℕ) → walked-lts.Need-returns-2 (walked-claims t) (walked_at t) walked.Post
+walked-returns-2 : (t : ℕ) → walked-lts.Need-returns (walked-claims t) (walked_at t) walked.Post
 walked-returns-2 t c =
-    c.before.before.walk.ensures
+    c.walk.ensures
 
-pub +walk-walked-spec : {M : Type 1} → statement M
-+walk-walked-spec = close μ-walk μ-walked (λ t. walk-lts.spec (walk-claims t) (walk_at t)
+pub +walk_walked_spec : {M : Type 1} → statement M
++walk_walked_spec = close μ-walk μ-walked (λ t. walk-lts.spec (walk-claims t) (walk_at t)
     walk.Post
     (λ c κs. search rules)  -- walk-word-requires
     (walk-returns t)

@@ -5,13 +5,13 @@ use Rattle.resolution.proofs.wraps.base_outside.Tie as tie
 use borrow.Author.Tests.{eq-eqb, ne_eqb}
 use Rattle.resolution.specs.Alike.{base_outside}
 
-returns : tie.Need-returns
+returns : tie.Need-returns-then-base-eq0
 unfolding base_outside
-returns c = rw (eq-eqb _ _ c.if1.true)
+returns c = rw (eq-eqb _ _ c.if-base-eq0.true)
 
-returns-2 : tie.Need-returns-2
+returns-2 : tie.Need-returns
 unfolding base_outside
-returns-2 c = rw (ne_eqb _ _ c.if1.false)
+returns-2 c = rw (ne_eqb _ _ c.if-base-eq0.false)
 
-pub base-outside-spec : {M : Type 1} → statement M
-base-outside-spec = tie.close (tie.spec returns returns-2)
+pub base_outside_spec : {M : Type 1} → statement M
+base_outside_spec = tie.close (tie.spec returns returns-2)

@@ -9,49 +9,34 @@ use Rattle.resolution.specs.HandLaws.{count_most}
 use Rattle.resolution.specs.BinderLaws.{own-length, own-equal}
 use mathlib.Core.Bool.{true, false}
 
-own-marks-requires : tie.Need-own-marks-requires
-own-marks-requires c κs = c.before.before.before.requires.room
+own-marks-requires : tie.Need-own_marks-own-requires
+own-marks-requires c κs = c.requires.room
 
-returns : tie.Need-returns
+returns : tie.Need-returns-then-table-own
 returns c =
-    let at-own-marks = c.before.before.before in
-    let at-args = at-own-marks.before.before.before.before in
-    is-full (omega (arith, at-own-marks.own-marks.ensures.full c.if1.true, count_most at-args.args.table.now at-args.args.start at-args.args.count at-args.requires.descends))
+    is-full (omega (arith, c.own_marks-own.ensures.full c.if-table-own.true, count_most c.args.table.now c.args.start c.args.count c.requires.descends))
 
-returns-2 : tie.Need-returns-2
+returns-2 : tie.Need-returns-then-own-count
 returns-2 c =
-    let at-if1 = c.before in
-    let at-own-marks = at-if1.before.before.before in
-    let args' = at-own-marks.before.before.before.before.args in
-    is-other (own-length args'.work.now args'.w args'.table.now args'.start args'.count _ _ (at-own-marks.own-marks.ensures.within at-if1.if1.false) c.if2.true)
+    let args' = c.args in
+    is-other (own-length args'.work.now args'.w args'.table.now args'.start args'.count _ _ (c.own_marks-own.ensures.within c.if-table-own.false) c.if-own-count.true)
 
-equal-marks-requires : tie.Need-equal-marks-requires
+equal-marks-requires : tie.Need-equal_marks-requires
 equal-marks-requires c κs =
-    let at-if2 = c.before in
-    let at-if1 = at-if2.before in
-    let at-own-marks = at-if1.before.before.before in
-    (omega (arith, (at-own-marks.own-marks.ensures.within at-if1.if1.false).room, at-if2.if2.false), omega (arith, at-own-marks.before.before.before.before.requires.room, at-own-marks.own-marks.auto.1.0))
+    (omega (arith, (c.own_marks-own.ensures.within c.if-table-own.false).room, c.if-own-count.false), omega (arith, c.requires.room, c.own_marks-own.auto.table))
 
-returns-3 : tie.Need-returns-3
+returns-3 : tie.Need-returns-then-equal_marks
 returns-3 c =
-    let at-equal-marks = c.before in
-    let at-if2 = at-equal-marks.before.before in
-    let at-if1 = at-if2.before in
-    let at-own-marks = at-if1.before.before.before in
-    let args' = at-own-marks.before.before.before.before.args in
-    is_same (own-equal args'.work.now args'.w args'.table.now args'.start args'.count _ _ (at-own-marks.own-marks.ensures.within at-if1.if1.false) at-if2.if2.false true (sym c.if3.true ∙ at-equal-marks.equal-marks.ensures))
+    let args' = c.args in
+    is_same (own-equal args'.work.now args'.w args'.table.now args'.start args'.count _ _ (c.own_marks-own.ensures.within c.if-table-own.false) c.if-own-count.false true (sym c.if-equal_marks.true ∙ c.equal_marks.ensures))
 
-returns-4 : tie.Need-returns-4
+returns-4 : tie.Need-returns
 returns-4 c =
-    let at-equal-marks = c.before in
-    let at-if2 = at-equal-marks.before.before in
-    let at-if1 = at-if2.before in
-    let at-own-marks = at-if1.before.before.before in
-    let args' = at-own-marks.before.before.before.before.args in
-    is-other (own-equal args'.work.now args'.w args'.table.now args'.start args'.count _ _ (at-own-marks.own-marks.ensures.within at-if1.if1.false) at-if2.if2.false false (sym c.if3.false ∙ at-equal-marks.equal-marks.ensures))
+    let args' = c.args in
+    is-other (own-equal args'.work.now args'.w args'.table.now args'.start args'.count _ _ (c.own_marks-own.ensures.within c.if-table-own.false) c.if-own-count.false false (sym c.if-equal_marks.false ∙ c.equal_marks.ensures))
 
-pub has-own-marks-spec : {M : Type 1} → statement M
-has-own-marks-spec =
+pub has_own_marks_spec : {M : Type 1} → statement M
+has_own_marks_spec =
     tie.close
     (tie.spec
     (λ c. search rules)  -- add-behind

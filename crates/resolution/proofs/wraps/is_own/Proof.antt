@@ -9,49 +9,33 @@ use Rattle.resolution.specs.Marks.{is_same, is-other}
 use Rattle.resolution.specs.HandLaws.{tells-then}
 use Rattle.resolution.specs.BinderLaws.{other-words, same-few, same-told, by-marks}
 
-newest-of-requires : tie.Need-newest-of-requires
-newest-of-requires c κs = c.before.before.before.requires.0.room
+newest-of-requires : tie.Need-newest_of-newest-requires
+newest-of-requires c κs = c.requires.0.room
 
-returns : tie.Need-returns
+returns : tie.Need-returns-then-not-says
 returns c =
-    let at-says = c.before in
-    let at-newest-of = at-says.before in
-    let args' = at-newest-of.before.before.before.before.args in
-    is-other (other-words args'.work.now args'.w args'.table.now args'.start args'.number args'.x.count args'.x.binding _ at-newest-of.newest-of.ensures _ at-says.says.ensures (not-true _ c.if1.true))
+    let args' = c.args in
+    is-other (other-words args'.work.now args'.w args'.table.now args'.start args'.number args'.x.count args'.x.binding _ c.newest_of-newest.ensures _ c.says.ensures (not-true _ c.if-not-says.true-raw))
 
-returns-2 : tie.Need-returns-2
+returns-2 : tie.Need-returns-then-x-lt2
 returns-2 c =
-    let at-if1 = c.before.before in
-    let at-says = at-if1.before in
-    let at-newest-of = at-says.before in
-    let args' = at-newest-of.before.before.before.before.args in
-    is_same (same-few args'.work.now args'.w args'.table.now args'.start args'.number args'.x.count args'.x.binding _ at-newest-of.newest-of.ensures _ at-says.says.ensures (not-false _ at-if1.if1.false) c.if2.true)
+    let args' = c.args in
+    is_same (same-few args'.work.now args'.w args'.table.now args'.start args'.number args'.x.count args'.x.binding _ c.newest_of-newest.ensures _ c.says.ensures (not-false _ c.if-not-says.false-raw) c.if-x-lt2.true)
 
-returns-3 : tie.Need-returns-3
+returns-3 : tie.Need-returns-then-is_told
 returns-3 c =
-    let at-is-told = c.before in
-    let at-if2 = at-is-told.before in
-    let at-if1 = at-if2.before.before in
-    let at-says = at-if1.before in
-    let at-newest-of = at-says.before in
-    let at-args = at-newest-of.before.before.before.before in
-    is_same (same-told at-args.args.work.now at-args.args.w at-args.args.table.now at-args.args.start at-args.args.number at-args.args.x.count at-args.args.x.binding _ at-newest-of.newest-of.ensures _ at-says.says.ensures (not-false _ at-if1.if1.false) (omega (arith, at-if2.if2.false)) at-args.args.base at-args.requires.1 (at-is-told.is-told.ensures c.if3.true))
+    is_same (same-told c.args.work.now c.args.w c.args.table.now c.args.start c.args.number c.args.x.count c.args.x.binding _ c.newest_of-newest.ensures _ c.says.ensures (not-false _ c.if-not-says.false-raw) (omega (arith, c.if-x-lt2.false)) c.args.base c.requires.1 (c.is_told.ensures c.if-is_told.true))
 
-has-own-marks-requires : tie.Need-has-own-marks-requires
-has-own-marks-requires c κs = c.before.before.before.before.before.before.before.before.before.before.before.requires.0
+has-own-marks-requires : tie.Need-has_own_marks-requires
+has-own-marks-requires c κs = c.requires.0
 
-returns-4 : tie.Need-returns-4
+returns-4 : tie.Need-returns
 returns-4 c =
-    let at-has-own-marks = c.before.before in
-    let at-if2 = at-has-own-marks.before.before.before.before in
-    let at-if1 = at-if2.before.before in
-    let at-says = at-if1.before in
-    let at-newest-of = at-says.before in
-    let args' = at-newest-of.before.before.before.before.args in
-    tells-then (by-marks args'.work.now args'.w args'.table.now args'.start args'.number args'.x.count args'.x.binding _ at-newest-of.newest-of.ensures _ at-says.says.ensures (not-false _ at-if1.if1.false) (omega (arith, at-if2.if2.false)) _) at-has-own-marks.has-own-marks.ensures
+    let args' = c.args in
+    tells-then (by-marks args'.work.now args'.w args'.table.now args'.start args'.number args'.x.count args'.x.binding _ c.newest_of-newest.ensures _ c.says.ensures (not-false _ c.if-not-says.false-raw) (omega (arith, c.if-x-lt2.false)) _) c.has_own_marks.ensures
 
-pub is-own-spec : {M : Type 1} → statement M
-is-own-spec =
+pub is_own_spec : {M : Type 1} → statement M
+is_own_spec =
     tie.close
     (tie.spec
     newest-of-requires

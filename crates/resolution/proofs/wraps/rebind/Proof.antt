@@ -9,26 +9,20 @@ use Rattle.arena.specs.Arena.{step_limit}
 use Rattle.resolution.specs.HandLaws.{fits-within, fits_not, told_same, told-other, told-full}
 use Rattle.resolution.specs.BinderLaws.{left-given, left_alone}
 
-returns : tie.Need-returns
+returns : tie.Need-returns-in-Same
 returns c =
-    let at-enum-told = c.before in
-    let at-is-own = at-enum-told.before.before.before.before in
-    let at-args = at-is-own.before.before.before.before in
-    fits-within at-is-own.is-own.new.1.0 (at-args.args.start + step_limit + step_limit) at-args.args.x.count (omega (arith, at-args.requires.0.room, at-is-own.is-own.auto.1.0)) (left-given at-args.args.work.now at-args.args.w at-args.args.table.now _ at-args.args.start at-args.args.number at-args.args.x.count at-args.args.x.binding at-args.requires.0 at-is-own.is-own.auto.1.0 (told_same at-is-own.is-own.ensures at-enum-told.enum_told.given.1) _ c.word.ensures)
+    fits-within c.is_own.new.table (c.args.start + step_limit + step_limit) c.args.x.count (omega (arith, c.requires.0.room, c.is_own.auto.table)) (left-given c.args.work.now c.args.w c.args.table.now _ c.args.start c.args.number c.args.x.count c.args.x.binding c.requires.0 c.is_own.auto.table (told_same c.is_own.ensures c.in-Same.is) _ c.word-key.ensures)
 
-returns-2 : tie.Need-returns-2
+returns-2 : tie.Need-returns-in-Other
 returns-2 c =
-    let at-is-own = c.before.before.before.before in
-    let at-args = at-is-own.before.before.before.before in
-    fits-within at-is-own.is-own.new.1.0 (at-args.args.start + step_limit + step_limit) at-args.args.x.count (omega (arith, at-args.requires.0.room, at-is-own.is-own.auto.1.0)) (left_alone at-args.args.work.now at-args.args.w at-args.args.table.now _ at-args.args.start at-args.args.number at-args.args.x.count at-args.args.x.binding at-args.requires.0 at-is-own.is-own.auto.1.0 (told-other at-is-own.is-own.ensures c.enum-told2.given.1))
+    fits-within c.is_own.new.table (c.args.start + step_limit + step_limit) c.args.x.count (omega (arith, c.requires.0.room, c.is_own.auto.table)) (left_alone c.args.work.now c.args.w c.args.table.now _ c.args.start c.args.number c.args.x.count c.args.x.binding c.requires.0 c.is_own.auto.table (told-other c.is_own.ensures c.in-Other.is))
 
-returns-3 : tie.Need-returns-3
+returns-3 : tie.Need-returns-in-Full
 returns-3 c =
-    let at-is-own = c.before.before.before.before in
-    fits_not at-is-own.is-own.new.1.0 (at-is-own.before.before.before.before.args.start + step_limit + step_limit) (length at-is-own.is-own.new.1.0 + 1) (omega arith) (told-full at-is-own.is-own.ensures c.enum-told3.given.1)
+    fits_not c.is_own.new.table (c.args.start + step_limit + step_limit) (length c.is_own.new.table + 1) (omega arith) (told-full c.is_own.ensures c.in-Full.is)
 
-pub rebind-spec : {M : Type 1} → statement M
-rebind-spec =
+pub rebind_spec : {M : Type 1} → statement M
+rebind_spec =
     tie.close
     (tie.spec
     (λ c κs. search rules)  -- is-own-requires

@@ -5,35 +5,26 @@ use Rattle.resolution.proofs.wraps.says.Tie as tie
 use borrow.Author.Tests.{eq-eqb, ne_eqb}
 use Rattle.resolution.specs.Marks.{says}
 
-returns : tie.Need-returns
+returns : tie.Need-returns-then-word-number
 unfolding says
-returns c = rw (← c.before.word.ensures, ne_eqb _ _ c.if1.true)
+returns c = rw (← c.word.ensures, ne_eqb _ _ c.if-word-number.true)
 
-returns-2 : tie.Need-returns-2
+returns-2 : tie.Need-returns-then-word-binding
 unfolding says
-returns-2 c = rw (← c.before.before.before.word.ensures, ← c.before.word2.ensures, eq-eqb _ _ c.before.before.if1.false, ne_eqb _ _ c.if2.true)
+returns-2 c = rw (← c.word.ensures, ← c.word-2.ensures, eq-eqb _ _ c.if-word-number.false, ne_eqb _ _ c.if-word-binding.true)
 
-returns-3 : tie.Need-returns-3
+returns-3 : tie.Need-returns-then-word-count
 unfolding says
 returns-3 c =
-    let at-word3 = c.before in
-    let at-if2 = at-word3.before in
-    let at-word2 = at-if2.before in
-    let at-if1 = at-word2.before in
-    rw (← at-if1.before.word.ensures, ← at-word2.word2.ensures, ← at-word3.word3.ensures, eq-eqb _ _ at-if1.if1.false, eq-eqb _ _ at-if2.if2.false, ne_eqb _ _ c.if3.true)
+    rw (← c.word.ensures, ← c.word-2.ensures, ← c.word-3.ensures, eq-eqb _ _ c.if-word-number.false, eq-eqb _ _ c.if-word-binding.false, ne_eqb _ _ c.if-word-count.true)
 
-returns-4 : tie.Need-returns-4
+returns-4 : tie.Need-returns
 unfolding says
 returns-4 c =
-    let at-if3 = c.before in
-    let at-word3 = at-if3.before in
-    let at-if2 = at-word3.before in
-    let at-word2 = at-if2.before in
-    let at-if1 = at-word2.before in
-    rw (← at-if1.before.word.ensures, ← at-word2.word2.ensures, ← at-word3.word3.ensures, ← c.word4.ensures, eq-eqb _ _ at-if1.if1.false, eq-eqb _ _ at-if2.if2.false, eq-eqb _ _ at-if3.if3.false)
+    rw (← c.word.ensures, ← c.word-2.ensures, ← c.word-3.ensures, ← c.word-4.ensures, eq-eqb _ _ c.if-word-number.false, eq-eqb _ _ c.if-word-binding.false, eq-eqb _ _ c.if-word-count.false)
 
-pub says-spec : {M : Type 1} → statement M
-says-spec =
+pub says_spec : {M : Type 1} → statement M
+says_spec =
     tie.close
     (tie.spec
     (λ c κs. search rules)  -- word-requires

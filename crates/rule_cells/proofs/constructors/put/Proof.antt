@@ -6,23 +6,23 @@ use Rattle.rule_cells.specs.MadeLaws.{five-stored}
 use native.Mathlib.Omega.{arith}
 use lib.ListN.{length-set}
 
-slice-write-work-2 : tie.Need-slice-write-work-2
+slice-write-work-2 : tie.Need-bounds-work-at-2
 slice-write-work-2 c =
     simp length-set (omega arith)
 
-slice-write-work-3 : tie.Need-slice-write-work-3
+slice-write-work-3 : tie.Need-bounds-work-at-3
 slice-write-work-3 c =
     simp length-set (omega arith)
 
-slice-write-work-4 : tie.Need-slice-write-work-4
+slice-write-work-4 : tie.Need-bounds-work-at-4
 slice-write-work-4 c =
     simp length-set (omega arith)
 
-slice-write-work-5 : tie.Need-slice-write-work-5
+slice-write-work-5 : tie.Need-bounds-work-at-5
 slice-write-work-5 c =
     simp length-set (omega arith)
 
-same_length : tie.Need-same-length
+same_length : tie.Need-shape_of-work
 same_length c =
     simp length-set
 

@@ -7,12 +7,12 @@ use Rattle.rule_cells.specs.MadeLaws.{made-constant}
 put-requires : tie.Need-put-requires
 put-requires c κs = search rules
 
-same_length : tie.Need-same-length
+same_length : tie.Need-shape_of-work
 same_length c = search rules
 
 returns : tie.Need-returns
 returns c =
-    let a = c.before.before.before.before.before.args in made-constant a.work.now _ a.top _ a.kind a.first a.second c.before.before.put.ensures
+    let a = c.args in made-constant a.work.now _ a.top _ a.kind a.first a.second c.put.ensures
 
-pub put-constant-spec : {M : Type 1} → statement M
-put-constant-spec = tie.close (tie.spec put-requires same_length returns)
+pub put_constant_spec : {M : Type 1} → statement M
+put_constant_spec = tie.close (tie.spec put-requires same_length returns)

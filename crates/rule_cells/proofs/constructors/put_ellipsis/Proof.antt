@@ -11,15 +11,13 @@ put-requires : tie.Need-put-requires
 put-requires c κs =
     search rules
 
-same_length : tie.Need-same-length
+same_length : tie.Need-shape_of-work
 same_length c =
     search rules
 
 returns : tie.Need-returns
 returns c =
-    let at-put = c.before.before in
-    let at-args = at-put.before.before.before in
-    let a = at-args.args in made-ellipsis a.work.now _ a.top _ a.element a.n a.rest at-args.requires.1 at-args.requires.2 at-put.put.ensures
+    let a = c.args in made-ellipsis a.work.now _ a.top _ a.element a.n a.rest c.requires.1 c.requires.2 c.put.ensures
 
-pub put-ellipsis-spec : {M : Type 1} → statement M
-put-ellipsis-spec = tie.close (tie.spec put-requires same_length returns)
+pub put_ellipsis_spec : {M : Type 1} → statement M
+put_ellipsis_spec = tie.close (tie.spec put-requires same_length returns)

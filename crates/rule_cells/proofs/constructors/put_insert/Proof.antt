@@ -7,14 +7,12 @@ use Rattle.rule_cells.specs.MadeLaws.{made-insert}
 put-requires : tie.Need-put-requires
 put-requires c κs = search rules
 
-same_length : tie.Need-same-length
+same_length : tie.Need-shape_of-work
 same_length c = search rules
 
 returns : tie.Need-returns
 returns c =
-    let at-put = c.before.before in
-    let at-args = at-put.before.before.before in
-    let a = at-args.args in made-insert a.work.now _ a.top _ a.node a.w at-args.requires.1 at-args.requires.2 at-put.put.ensures
+    let a = c.args in made-insert a.work.now _ a.top _ a.node a.w c.requires.1 c.requires.2 c.put.ensures
 
-pub put-insert-spec : {M : Type 1} → statement M
-put-insert-spec = tie.close (tie.spec put-requires same_length returns)
+pub put_insert_spec : {M : Type 1} → statement M
+put_insert_spec = tie.close (tie.spec put-requires same_length returns)

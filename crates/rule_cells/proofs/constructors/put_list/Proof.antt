@@ -4,22 +4,18 @@ use Rattle.rule_cells.proofs.constructors.put_list.Statement.{statement}
 use Rattle.rule_cells.proofs.constructors.put_list.Tie as tie
 use Rattle.rule_cells.specs.MadeLaws.{list-ellipsis, list-pair}
 
-returns : tie.Need-returns
+returns : tie.Need-returns-then-followed
 returns c =
-    let at-put-ellipsis = c.before.before in
-    let at-if1 = at-put-ellipsis.before.before in
-    let a = at-if1.before.before.args in
-    list-ellipsis a.work.now _ a.top _ a.followed a.element a.n a.rest at-if1.if1.true at-put-ellipsis.put-ellipsis.ensures
+    let a = c.args in
+    list-ellipsis a.work.now _ a.top _ a.followed a.element a.n a.rest c.if-followed.true c.put_ellipsis.ensures
 
-returns-2 : tie.Need-returns-2
+returns-2 : tie.Need-returns
 returns-2 c =
-    let at-put-pair = c.before.before in
-    let at-if1 = at-put-pair.before.before in
-    let a = at-if1.before.before.args in
-    list-pair a.work.now _ a.top _ a.followed a.element a.n a.rest at-if1.if1.false at-put-pair.put-pair.ensures
+    let a = c.args in
+    list-pair a.work.now _ a.top _ a.followed a.element a.n a.rest c.if-followed.false c.put_pair.ensures
 
-pub put-list-spec : {M : Type 1} → statement M
-put-list-spec =
+pub put_list_spec : {M : Type 1} → statement M
+put_list_spec =
     tie.close
     (tie.spec
     (λ c κs. search rules)  -- put-ellipsis-requires

@@ -7,14 +7,12 @@ use Rattle.rule_cells.specs.MadeLaws.{made_pair}
 put-requires : tie.Need-put-requires
 put-requires c κs = search rules
 
-same_length : tie.Need-same-length
+same_length : tie.Need-shape_of-work
 same_length c = search rules
 
 returns : tie.Need-returns
 returns c =
-    let at-put = c.before.before in
-    let at-args = at-put.before.before.before in
-    let a = at-args.args in made_pair a.work.now _ a.top _ a.head a.tail at-args.requires.1 at-args.requires.2 at-put.put.ensures
+    let a = c.args in made_pair a.work.now _ a.top _ a.head a.tail c.requires.1 c.requires.2 c.put.ensures
 
-pub put-pair-spec : {M : Type 1} → statement M
-put-pair-spec = tie.close (tie.spec put-requires same_length returns)
+pub put_pair_spec : {M : Type 1} → statement M
+put_pair_spec = tie.close (tie.spec put-requires same_length returns)

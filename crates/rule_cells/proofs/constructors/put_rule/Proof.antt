@@ -7,14 +7,12 @@ use Rattle.rule_cells.specs.MadeLaws.{made-rule}
 put-requires : tie.Need-put-requires
 put-requires c κs = search rules
 
-same_length : tie.Need-same-length
+same_length : tie.Need-shape_of-work
 same_length c = search rules
 
 returns : tie.Need-returns
 returns c =
-    let at-put = c.before.before in
-    let at-args = at-put.before.before.before in
-    let a = at-args.args in made-rule a.work.now _ a.top _ a.pattern a.template a.next at-args.requires.1 at-args.requires.2 at-args.requires.3 at-put.put.ensures
+    let a = c.args in made-rule a.work.now _ a.top _ a.pattern a.template a.next c.requires.1 c.requires.2 c.requires.3 c.put.ensures
 
-pub put-rule-spec : {M : Type 1} → statement M
-put-rule-spec = tie.close (tie.spec put-requires same_length returns)
+pub put_rule_spec : {M : Type 1} → statement M
+put_rule_spec = tie.close (tie.spec put-requires same_length returns)

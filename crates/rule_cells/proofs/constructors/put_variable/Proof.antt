@@ -7,12 +7,12 @@ use Rattle.rule_cells.specs.MadeLaws.{made-variable}
 put-requires : tie.Need-put-requires
 put-requires c κs = search rules
 
-same_length : tie.Need-same-length
+same_length : tie.Need-shape_of-work
 same_length c = search rules
 
 returns : tie.Need-returns
 returns c =
-    let a = c.before.before.before.before.before.args in made-variable a.work.now _ a.top _ a.k c.before.before.put.ensures
+    let a = c.args in made-variable a.work.now _ a.top _ a.k c.put.ensures
 
-pub put-variable-spec : {M : Type 1} → statement M
-put-variable-spec = tie.close (tie.spec put-requires same_length returns)
+pub put_variable_spec : {M : Type 1} → statement M
+put_variable_spec = tie.close (tie.spec put-requires same_length returns)

@@ -14,57 +14,39 @@ use native.Mathlib.Omega.{arith}
 use Rattle.arena.specs.ListLaws.{pair-falls}
 use Rattle.rule_cells.specs.Dots.{dots_among, among-end, among-here, among-more}
 
-abbrev invariant-loop : tie.invariant-loop
+abbrev invariant-loop : tie.invariant-loop-first
 invariant-loop work dots list w node₀ node =
     (b : Bool) → b ≡ dots_among work dots w (tree_at work node w) → b ≡ dots_among work dots w (tree_at work list w)
 
-abbrev decreases-loop : tie.decreases-loop
+abbrev decreases-loop : tie.decreases-loop-first
 decreases-loop work dots list w node₀ node =
     node
 
-loop-holds : tie.Need-loop-init invariant-loop decreases-loop
+loop-holds : tie.Need-loop-first-init invariant-loop decreases-loop
 loop-holds c =
     λ b h. h
 
-returns : tie.Need-returns invariant-loop decreases-loop
+returns : tie.Need-returns-then-is_dots invariant-loop decreases-loop
 returns c =
-    let at-is-dots = c.before in
-    let at-reference = at-is-dots.before in
-    let at-if1 = at-reference.before in
-    let at-word = at-if1.before in
-    let at-loop = at-word.before in
-    let a = at-loop.before.before.args in
-    let l = at-loop.loop in
-    l.invariant true (among-here a.work.now a.dots a.w l.node _ (sym at-word.word.ensures ∙ at-if1.if1.true) at-reference.reference.ensures (sym c.if2.true ∙ at-is-dots.is-dots.ensures))
+    let a = c.args in
+    c.loop-first.invariant true (among-here a.work.now a.dots a.w c.loop-first.node _ (sym c.word.ensures ∙ c.loop-first-test.true) c.reference-first.ensures (sym c.if-is_dots.true ∙ c.is_dots.ensures))
 
-loop-less : tie.Need-loop-smaller invariant-loop decreases-loop
+loop-less : tie.Need-loop-first-smaller invariant-loop decreases-loop
 loop-less c =
-    let at-if1 = c.before.before.before.before in
-    let at-word = at-if1.before in
-    let at-loop = at-word.before in
-    let l = at-loop.loop in
-    omega (arith, c.reference2.ensures, pair-falls at-loop.before.before.args.work.now l.node 1 (sym at-word.word.ensures ∙ at-if1.if1.true))
+    omega (arith, c.reference-node.ensures, pair-falls c.args.work.now c.loop-first.node 1 (sym c.word.ensures ∙ c.loop-first-test.true))
 
-loop-again : tie.Need-loop-preserved invariant-loop decreases-loop
+loop-again : tie.Need-loop-first-preserved invariant-loop decreases-loop
 loop-again c =
-    let at-if2 = c.before in
-    let at-is-dots = at-if2.before in
-    let at-reference = at-is-dots.before in
-    let at-if1 = at-reference.before in
-    let at-word = at-if1.before in
-    let at-loop = at-word.before in
-    let a = at-loop.before.before.args in
-    let l = at-loop.loop in
-    λ b h. l.invariant b (among-more a.work.now a.dots a.w l.node _ (sym at-word.word.ensures ∙ at-if1.if1.true) at-reference.reference.ensures _ b c.reference2.ensures (sym at-if2.if2.false ∙ at-is-dots.is-dots.ensures) h)
+    let a = c.args in
+    λ b h. c.loop-first.invariant b (among-more a.work.now a.dots a.w c.loop-first.node _ (sym c.word.ensures ∙ c.loop-first-test.true) c.reference-first.ensures _ b c.reference-node.ensures (sym c.if-is_dots.false ∙ c.is_dots.ensures) h)
 
-returns-2 : tie.Need-returns-2 invariant-loop decreases-loop
+returns-2 : tie.Need-returns invariant-loop decreases-loop
 returns-2 c =
-    let a = c.before.before.before.before.args in
-    let l = c.before.before.loop in
-    l.invariant false (among-end a.work.now a.dots a.w l.node (λ z. c.if1.false (c.before.word.ensures ∙ z)))
+    let a = c.args in
+    c.loop-first.invariant false (among-end a.work.now a.dots a.w c.loop-first.node (λ z. c.loop-first-test.false (c.word.ensures ∙ z)))
 
-pub among-spec : {M : Type 1} → statement M
-among-spec =
+pub among_spec : {M : Type 1} → statement M
+among_spec =
     tie.close
     (tie.spec
     invariant-loop

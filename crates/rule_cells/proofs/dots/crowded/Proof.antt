@@ -9,7 +9,7 @@ use Rattle.rule_cells.proofs.dots.among.Reads as Among-Reads
 use mathlib.Core.Path.{refl, sym, ap, ◌∙◌}
 use Rattle.rule_cells.specs.Dots.{crowded-no, crowded-by}
 
-rest-requires : tie.Need-rest-requires
+rest-requires : tie.Need-rest-after-requires
 rest-requires c κs =
     search rules
 
@@ -17,13 +17,13 @@ among-requires : tie.Need-among-requires
 among-requires c κs =
     search rules
 
-returns : tie.Need-returns
+returns : tie.Need-returns-then-followed
 returns c =
-    let a = c.before.before.before.before.args in crowded-by a.work.now a.dots a.w a.rest _ a.followed _ c.before.before.if1.true c.before.rest.ensures c.among.ensures
+    let a = c.args in crowded-by a.work.now a.dots a.w a.rest _ a.followed _ c.if-followed.true c.rest-after.ensures c.among.ensures
 
-returns-2 : tie.Need-returns-2
+returns-2 : tie.Need-returns
 returns-2 c =
-    let a = c.before.before.args in crowded-no a.work.now a.dots a.w a.rest a.followed c.if1.false
+    let a = c.args in crowded-no a.work.now a.dots a.w a.rest a.followed c.if-followed.false
 
-pub crowded-spec : {M : Type 1} → statement M
-crowded-spec = tie.close (tie.spec rest-requires among-requires returns returns-2)
+pub crowded_spec : {M : Type 1} → statement M
+crowded_spec = tie.close (tie.spec rest-requires among-requires returns returns-2)

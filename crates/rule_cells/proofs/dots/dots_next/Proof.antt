@@ -14,22 +14,22 @@ word-requires : tie.Need-word-requires
 word-requires c κs =
     search rules
 
-returns : tie.Need-returns
+returns : tie.Need-returns-then-word-ne-PAIR
 returns c =
-    let a = c.before.before.before.args in next-other a.work.now a.dots a.w a.node (λ z. c.if1.true (c.before.word.ensures ∙ z))
+    let a = c.args in next-other a.work.now a.dots a.w a.node (λ z. c.if-word-ne-PAIR.true (c.word.ensures ∙ z))
 
-reference-requires : tie.Need-reference-requires
+reference-requires : tie.Need-reference-first-requires
 reference-requires c κs =
     search rules
 
-is-dots-requires : tie.Need-is-dots-requires
+is-dots-requires : tie.Need-is_dots-requires
 is-dots-requires c κs =
     search rules
 
-returns-2 : tie.Need-returns-2
+returns-2 : tie.Need-returns
 returns-2 c =
-    let a = c.before.before.before.before.before.args in next-pair a.work.now a.dots a.w a.node _ _ (sym c.before.before.before.word.ensures ∙ c.before.before.if1.false) c.before.reference.ensures c.is-dots.ensures
+    let a = c.args in next-pair a.work.now a.dots a.w a.node _ _ (sym c.word.ensures ∙ c.if-word-ne-PAIR.false) c.reference-first.ensures c.is_dots.ensures
 
-pub dots-next-spec : {M : Type 1} → statement M
-dots-next-spec =
+pub dots_next_spec : {M : Type 1} → statement M
+dots_next_spec =
     tie.close (tie.spec word-requires returns reference-requires is-dots-requires returns-2)

@@ -13,17 +13,17 @@ word-requires : tie.Need-word-requires
 word-requires c κs =
     search rules
 
-returns : tie.Need-returns
+returns : tie.Need-returns-then-word-ne-NAME
 returns c =
-    let a = c.before.before.before.args in dots-other a.work.now a.dots a.w a.node (λ z. c.if1.true (c.before.word.ensures ∙ z))
+    let a = c.args in dots-other a.work.now a.dots a.w a.node (λ z. c.if-word-ne-NAME.true (c.word.ensures ∙ z))
 
-is-ellipsis-requires : tie.Need-is-ellipsis-requires
+is-ellipsis-requires : tie.Need-is_ellipsis-requires
 is-ellipsis-requires c κs =
     search rules
 
-returns-2 : tie.Need-returns-2
+returns-2 : tie.Need-returns
 returns-2 c =
-    let a = c.before.before.before.before.args in dots-name a.work.now a.dots a.w a.node _ (sym c.before.before.word.ensures ∙ c.before.if1.false) c.is-ellipsis.ensures
+    let a = c.args in dots-name a.work.now a.dots a.w a.node _ (sym c.word.ensures ∙ c.if-word-ne-NAME.false) c.is_ellipsis.ensures
 
-pub is-dots-spec : {M : Type 1} → statement M
-is-dots-spec = tie.close (tie.spec word-requires returns is-ellipsis-requires returns-2)
+pub is_dots_spec : {M : Type 1} → statement M
+is_dots_spec = tie.close (tie.spec word-requires returns is-ellipsis-requires returns-2)

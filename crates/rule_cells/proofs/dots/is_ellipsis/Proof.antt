@@ -10,26 +10,26 @@ use mathlib.Core.Path.{refl, sym, ap, ◌∙◌}
 use Rattle.arena.specs.Arena.{word_at, name_at, tree_at}
 use Rattle.rule_cells.specs.Dots.{dots-by-number, dots-never, dots-chosen}
 
-number-of-requires : tie.Need-number-of-requires
+number-of-requires : tie.Need-number_of-requires
 number-of-requires c κs =
     search rules
 
-returns : tie.Need-returns
+returns : tie.Need-returns-then-dots-eq-DEFAULT
 returns c =
-    let a = c.before.before.before.args in dots-by-number a.work.now a.dots a.w a.node _ c.before.if1.true c.number_of_lem.ensures
+    let a = c.args in dots-by-number a.work.now a.dots a.w a.node _ c.if-dots-eq-DEFAULT.true c.number_of.ensures
 
-returns-2 : tie.Need-returns-2
+returns-2 : tie.Need-returns-then-dots-eq-NEVER
 returns-2 c =
-    let a = c.before.before.before.args in sym (dots-never a.work.now a.dots a.w (name_at a.work.now a.node a.w) c.if2.true)
+    let a = c.args in sym (dots-never a.work.now a.dots a.w (name_at a.work.now a.node a.w) c.if-dots-eq-NEVER.true)
 
-same-names-requires : tie.Need-same-names-requires
+same-names-requires : tie.Need-same_names-requires
 same-names-requires c κs =
     search rules
 
-returns-3 : tie.Need-returns-3
+returns-3 : tie.Need-returns
 returns-3 c =
-    let a = c.before.before.before.before.args in c.same_names.ensures ∙ sym (dots-chosen a.work.now a.dots a.w (name_at a.work.now a.node a.w) c.before.before.if1.false c.before.if2.false)
+    let a = c.args in c.same_names.ensures ∙ sym (dots-chosen a.work.now a.dots a.w (name_at a.work.now a.node a.w) c.if-dots-eq-DEFAULT.false c.if-dots-eq-NEVER.false)
 
-pub is-ellipsis-spec : {M : Type 1} → statement M
-is-ellipsis-spec =
+pub is_ellipsis_spec : {M : Type 1} → statement M
+is_ellipsis_spec =
     tie.close (tie.spec number-of-requires returns returns-2 same-names-requires returns-3)

@@ -37,183 +37,113 @@ pattern-below t = and 1 pattern-kinds.ps (falls 1 pattern-kinds.ps ◌<◌ μ-pa
 abbrev pattern-claims : ℕ → pattern-lts.Claims
 pattern-claims t = (word-reads.Asked, word-reads.Learnt, pattern-leaf-reads.Asked, pattern-leaf-reads.Learnt, reference-reads.Asked, reference-reads.Learnt, pattern-below t, pattern.Post, dots-next-reads.Asked, dots-next-reads.Learnt, crowded-reads.Asked, crowded-reads.Learnt, following-reads.Asked, following-reads.Learnt, put-list-reads.Asked, put-list-reads.Learnt)
 
-pattern-pattern-leaf-requires : (t : ℕ) → pattern-lts.Need-pattern-leaf-requires (pattern-claims t) (pattern-at t) pattern.Post
+pattern-pattern-leaf-requires : (t : ℕ) → pattern-lts.Need-pattern_leaf-requires (pattern-claims t) (pattern-at t) pattern.Post
 pattern-pattern-leaf-requires t c κs =
-    let at-if1 = c.before in
-    let at-word = at-if1.before in
-    let at-args = at-word.before.before.before in
-    let a = at-args.args in
-    let p = at-args.requires in
-    (p.1.0, omega (arith, p.1.3, size-positive (tree_at a.work.now a.node a.form.wrap)), λ z. at-if1.if1.true (at-word.word.ensures ∙ z))
+    let a = c.args in
+    let p = c.requires in
+    (p.1.0, omega (arith, p.1.3, size-positive (tree_at a.work.now a.node a.form.wrap)), λ z. c.if-word-ne-PAIR.true (c.word.ensures ∙ z))
 
-pattern-returns : (t : ℕ) → pattern-lts.Need-returns (pattern-claims t) (pattern-at t) pattern.Post
+pattern-returns : (t : ℕ) → pattern-lts.Need-returns-then-word-ne-PAIR (pattern-claims t) (pattern-at t) pattern.Post
 pattern-returns t c =
-    let at-pattern-leaf = c.before.before in
-    let at-if1 = at-pattern-leaf.before.before in
-    let at-word = at-if1.before in
-    let a = at-word.before.before.before.args in
-    let l = at-pattern-leaf.pattern-leaf in
-    left-leaf (dots_of a.work.now a.form) (literals_of a.work.now a.form) a.k a.taken a.work.now a.node a.form.wrap a.top l.new.0 l.result (λ z. at-if1.if1.true (at-word.word.ensures ∙ z)) l.ensures
-
--- the entry, from where the pair at hand is opened
-abbrev entry : (t : ℕ) → pattern-lts.After-reference2 (pattern-claims t) (pattern-at t) pattern.Post → pattern-lts.Start (pattern-claims t) (pattern-at t) pattern.Post
-entry t c = c.before.before.before.before.before.before.before.before
+    let a = c.args in
+    left-leaf (dots_of a.work.now a.form) (literals_of a.work.now a.form) a.k a.taken a.work.now a.node a.form.wrap a.top c.pattern_leaf.new.work c.pattern_leaf.result (λ z. c.if-word-ne-PAIR.true (c.word.ensures ∙ z)) c.pattern_leaf.ensures
 
 -- that pair
-abbrev Opened : (t : ℕ) → pattern-lts.After-reference2 (pattern-claims t) (pattern-at t) pattern.Post → Type 0
+abbrev Opened : (t : ℕ) (c : pattern-lts.After-reference-rest (pattern-claims t) (pattern-at t) pattern.Post) → Type 0
 Opened t c =
-    let a = (entry t c).args in
-    PairHere a.work.now a.form a.node a.top c.before.before.reference.result c.reference2.result
+    let a = c.args in
+    PairHere a.work.now a.form a.node a.top c.reference-head.result c.reference-rest.result
 
-opened : (t : ℕ) (c : pattern-lts.After-reference2 (pattern-claims t) (pattern-at t) pattern.Post) → Opened t c
+opened : (t : ℕ) (c : pattern-lts.After-reference-rest (pattern-claims t) (pattern-at t) pattern.Post) → Opened t c
 opened t c =
-    let at-reference = c.before.before in
-    let at-if1 = at-reference.before.before in
-    let at-word = at-if1.before in
-    let at-args = entry t c in
-    let a = at-args.args in
-    let p = at-args.pre in
-    pair-here a.work.now a.form a.node a.top p.1.0 p.1.1 p.1.2 (sym at-word.word.ensures ∙ at-if1.if1.false) at-reference.reference.ensures c.reference2.ensures
+    let a = c.args in
+    let p = c.requires in
+    pair-here a.work.now a.form a.node a.top p.1.0 p.1.1 p.1.2 (sym c.word.ensures ∙ c.if-word-ne-PAIR.false) c.reference-head.ensures c.reference-rest.ensures
 
 pattern-pattern-requires : (t : ℕ) → pattern-lts.Need-pattern-requires (pattern-claims t) (pattern-at t) pattern.Post
 pattern-pattern-requires t c κs =
-    let at-reference2 = c.before.before in
-    let at-args = entry t at-reference2 in
-    let a = at-args.args in
-    let p = at-args.pre in
-    let here = opened t at-reference2 in
+    let a = c.args in
+    let p = c.requires in
+    let here = opened t c.before.before in
     (omega (arith, p.0, rest_below a.work.now a.node a.form.wrap a.top here.asks _ _ here.is-pair here.head-is here.rest-is), (asks-tail a.work.now a.node a.form.wrap a.top here.asks _ _ here.is-pair here.head-is here.rest-is, p.1.1, p.1.2, small-tail here a.k p.1.3, λ z. absurd (false≢true z)))
 
-pattern-returns-2 : (t : ℕ) → pattern-lts.Need-returns-2 (pattern-claims t) (pattern-at t) pattern.Post
+pattern-returns-2 : (t : ℕ) → pattern-lts.Need-returns-then-taken (pattern-claims t) (pattern-at t) pattern.Post
 pattern-returns-2 t c =
-    let at-pattern = c.before.before in
-    let at-if2 = at-pattern.before.before in
-    let at-reference2 = at-if2.before in
-    let at-args = entry t at-reference2 in
-    let a = at-args.args in
-    let p = at-args.pre in
-    let here = opened t at-reference2 in
-    let l = at-pattern.pattern in
-    left-taken here a.k a.taken l.new.0 l.result at-if2.if2.true p.1.4 l.ensures
+    let a = c.args in
+    let p = c.requires in
+    let here = opened t c.before.before.before.before.before in
+    left-taken here a.k a.taken c.pattern.new.work c.pattern.result c.if-taken.true p.1.4 c.pattern.ensures
 
-pattern-returns-3 : (t : ℕ) → pattern-lts.Need-returns-3 (pattern-claims t) (pattern-at t) pattern.Post
+pattern-returns-3 : (t : ℕ) → pattern-lts.Need-returns-then-crowded (pattern-claims t) (pattern-at t) pattern.Post
 pattern-returns-3 t c =
-    let at-crowded = c.before in
-    let at-dots-next = at-crowded.before.before in
-    let at-if2 = at-dots-next.before.before in
-    let at-reference2 = at-if2.before in
-    let a = (entry t at-reference2).args in
-    let here = opened t at-reference2 in
-    let untaken = at-if2.if2.false in
-    let next = at-dots-next.dots-next.ensures in
-    left-crowded here a.k untaken next (sym c.if3.true ∙ at-crowded.crowded.ensures)
+    let a = c.args in
+    let here = opened t c.before.before.before.before in
+    let untaken = c.if-taken.false in
+    let next = c.dots_next-followed.ensures in
+    left-crowded here a.k untaken next (sym c.if-crowded.true ∙ c.crowded.ensures)
 
 pattern-pattern-requires-2 : (t : ℕ) → pattern-lts.Need-pattern-requires-2 (pattern-claims t) (pattern-at t) pattern.Post
 pattern-pattern-requires-2 t c κs =
-    let at-reference2 = c.before.before.before.before.before.before.before.before.before in
-    let at-args = entry t at-reference2 in
-    let a = at-args.args in
-    let p = at-args.pre in
-    let here = opened t at-reference2 in
+    let a = c.args in
+    let p = c.requires in
+    let here = opened t c.before.before.before.before.before.before in
     (omega (arith, p.0, head-below a.work.now a.node a.form.wrap a.top here.asks _ _ here.is-pair here.head-is here.rest-is), (asks-head a.work.now a.node a.form.wrap a.top here.asks _ _ here.is-pair here.head-is here.rest-is, p.1.1, p.1.2, small-head here a.k p.1.3, λ z. absurd (false≢true z)))
 
-pattern-returns-4 : (t : ℕ) → pattern-lts.Need-returns-4 (pattern-claims t) (pattern-at t) pattern.Post
+pattern-returns-4 : (t : ℕ) → pattern-lts.Need-returns-in_default (pattern-claims t) (pattern-at t) pattern.Post
 pattern-returns-4 t c =
-    let at-pattern2 = c.before.before.before.before in
-    let at-dots-next = at-pattern2.before.before.before.before.before.before.before in
-    let at-if2 = at-dots-next.before.before in
-    let at-reference2 = at-if2.before in
-    let a = (entry t at-reference2).args in
-    let here = opened t at-reference2 in
-    let untaken = at-if2.if2.false in
-    let next = at-dots-next.dots-next.ensures in
-    let first = at-pattern2.pattern2 in
-    left-bad here a.k untaken next first.new.0 _ c.enum_told.given.1 first.ensures
+    let a = c.args in
+    let here = opened t c.before.before.before.before.before.before.before.before.before.before in
+    let untaken = c.if-taken.false in
+    let next = c.dots_next-followed.ensures in
+    left-bad here a.k untaken next c.pattern-2.new.work _ c.in_default.is c.pattern-2.ensures
 
 pattern-pattern-requires-3 : (t : ℕ) → pattern-lts.Need-pattern-requires-3 (pattern-claims t) (pattern-at t) pattern.Post
 pattern-pattern-requires-3 t c κs =
-    let at_a = c.before.before in
-    let at-pattern2 = at_a.before.before.before.before in
-    let at-dots-next = at-pattern2.before.before.before.before.before.before.before in
-    let at-if2 = at-dots-next.before.before in
-    let at-reference2 = at-if2.before in
-    let at-args = entry t at-reference2 in
-    let a = at-args.args in
-    let p = at-args.pre in
-    let here = opened t at-reference2 in
-    let untaken = at-if2.if2.false in
-    let next = at-dots-next.dots-next.ensures in
-    let first = at-pattern2.pattern2 in
-    let head = made-head here a.k untaken next first.new.0 _ _ _ _ at_a.a.given.1 first.ensures in
+    let a = c.args in
+    let p = c.requires in
+    let here = opened t c.before.before.before.before.before.before.before.before.before.before.before in
+    let untaken = c.if-taken.false in
+    let next = c.dots_next-followed.ensures in
+    let head = made-head here a.k untaken next c.pattern-2.new.work _ _ _ _ c.in-Good.is c.pattern-2.ensures in
     let below = rest_below a.work.now a.node a.form.wrap a.top here.asks _ _ here.is-pair here.head-is here.rest-is in
-    let asks-next = asks_rest a.work.now a.node a.form.wrap a.top here.asks _ _ here.is-pair here.head-is here.rest-is _ _ _ first.auto.0 head.grows in
-    let dots-left = dots-still here a.k untaken next first.auto.0 head in
-    let literals-left = literals-still here a.k untaken next first.auto.0 head in
-    let small = small-rest here a.k untaken next first.auto.0 head p.1.3 in
-    let begins = begins-still here a.k untaken next first.auto.0 head in
+    let asks-next = asks_rest a.work.now a.node a.form.wrap a.top here.asks _ _ here.is-pair here.head-is here.rest-is _ _ _ c.pattern-2.auto.work head.grows in
+    let dots-left = dots-still here a.k untaken next c.pattern-2.auto.work head in
+    let literals-left = literals-still here a.k untaken next c.pattern-2.auto.work head in
+    let small = small-rest here a.k untaken next c.pattern-2.auto.work head p.1.3 in
+    let begins = begins-still here a.k untaken next c.pattern-2.auto.work head in
     (omega (arith, p.0, below), (asks-next, dots-left, literals-left, small, begins))
 
-pattern-returns-5 : (t : ℕ) → pattern-lts.Need-returns-5 (pattern-claims t) (pattern-at t) pattern.Post
+pattern-returns-5 : (t : ℕ) → pattern-lts.Need-returns-in_default-pattern (pattern-claims t) (pattern-at t) pattern.Post
 pattern-returns-5 t c =
-    let at-pattern3 = c.before.before.before.before in
-    let at_a = at-pattern3.before.before.before in
-    let at-pattern2 = at_a.before.before.before.before in
-    let at-dots-next = at-pattern2.before.before.before.before.before.before.before in
-    let at-if2 = at-dots-next.before.before in
-    let at-reference2 = at-if2.before in
-    let a = (entry t at-reference2).args in
-    let here = opened t at-reference2 in
-    let untaken = at-if2.if2.false in
-    let next = at-dots-next.dots-next.ensures in
-    let first = at-pattern2.pattern2 in
-    let head = made-head here a.k untaken next first.new.0 _ _ _ _ at_a.a.given.1 first.ensures in
-    let second = at-pattern3.pattern3 in
-    left-bad-rest here a.k untaken next first.auto.0 head second.new.0 _ c.enum-told2.given.1 second.ensures
+    let a = c.args in
+    let here = opened t c.before.before.before.before.before.before.before.before.before.before.before.before.before.before.before in
+    let untaken = c.if-taken.false in
+    let next = c.dots_next-followed.ensures in
+    let head = made-head here a.k untaken next c.pattern-2.new.work _ _ _ _ c.in-Good.is c.pattern-2.ensures in
+    left-bad-rest here a.k untaken next c.pattern-2.auto.work head c.pattern-3.new.work _ c.in_default-pattern.is c.pattern-3.ensures
 
-pattern-put-list-requires : (t : ℕ) → pattern-lts.Need-put-list-requires (pattern-claims t) (pattern-at t) pattern.Post
+pattern-put-list-requires : (t : ℕ) → pattern-lts.Need-put_list-r-requires (pattern-claims t) (pattern-at t) pattern.Post
 pattern-put-list-requires t c κs =
-    let at_b = c.before.before in
-    let at-pattern3 = at_b.before.before.before.before in
-    let at_a = at-pattern3.before.before.before in
-    let at-pattern2 = at_a.before.before.before.before in
-    let at-dots-next = at-pattern2.before.before.before.before.before.before.before in
-    let at-if2 = at-dots-next.before.before in
-    let at-reference2 = at-if2.before in
-    let a = (entry t at-reference2).args in
-    let here = opened t at-reference2 in
-    let untaken = at-if2.if2.false in
-    let next = at-dots-next.dots-next.ensures in
-    let first = at-pattern2.pattern2 in
-    let head = made-head here a.k untaken next first.new.0 _ _ _ _ at_a.a.given.1 first.ensures in
-    let second = at-pattern3.pattern3 in
-    let later = made-rest here a.k untaken next first.auto.0 head second.new.0 _ _ _ _ at_b.b.given.1 second.ensures in
-    (room-pair a.work.now a.node a.form.wrap a.top here.asks _ _ here.is-pair here.head-is here.rest-is _ _ _ first.auto.0 head.grows _ _ _ second.auto.0 later.grows, omega (arith, head.grows.at_most, later.grows.up), later.grows.at_most)
+    let a = c.args in
+    let here = opened t c.before.before.before.before.before.before.before.before.before.before.before.before.before.before.before.before in
+    let untaken = c.if-taken.false in
+    let next = c.dots_next-followed.ensures in
+    let head = made-head here a.k untaken next c.pattern-2.new.work _ _ _ _ c.in-Good.is c.pattern-2.ensures in
+    let later = made-rest here a.k untaken next c.pattern-2.auto.work head c.pattern-3.new.work _ _ _ _ c.in-Good-pattern.is c.pattern-3.ensures in
+    (room-pair a.work.now a.node a.form.wrap a.top here.asks _ _ here.is-pair here.head-is here.rest-is _ _ _ c.pattern-2.auto.work head.grows _ _ _ c.pattern-3.auto.work later.grows, omega (arith, head.grows.at_most, later.grows.up), later.grows.at_most)
 
-pattern-returns-6 : (t : ℕ) → pattern-lts.Need-returns-6 (pattern-claims t) (pattern-at t) pattern.Post
+pattern-returns-6 : (t : ℕ) → pattern-lts.Need-returns (pattern-claims t) (pattern-at t) pattern.Post
 pattern-returns-6 t c =
-    let at-put-list = c.before.before in
-    let at_b = at-put-list.before.before.before in
-    let at-pattern3 = at_b.before.before.before.before in
-    let at_a = at-pattern3.before.before.before in
-    let at-pattern2 = at_a.before.before.before.before in
-    let at-following = at-pattern2.before.before in
-    let at-if3 = at-following.before.before in
-    let at-crowded = at-if3.before in
-    let at-dots-next = at-crowded.before.before in
-    let at-if2 = at-dots-next.before.before in
-    let at-reference2 = at-if2.before in
-    let a = (entry t at-reference2).args in
-    let here = opened t at-reference2 in
-    let untaken = at-if2.if2.false in
-    let next = at-dots-next.dots-next.ensures in
-    let first = at-pattern2.pattern2 in
-    let head = made-head here a.k untaken next first.new.0 _ _ _ _ at_a.a.given.1 first.ensures in
-    let second = at-pattern3.pattern3 in
-    let later = made-rest here a.k untaken next first.auto.0 head second.new.0 _ _ _ _ at_b.b.given.1 second.ensures in
-    left-list here a.k untaken next first.auto.0 head _ _ _ _ _ _ _ (sym at-if3.if3.false ∙ at-crowded.crowded.ensures) (at-following.following.ensures a.form.wrap) later at-put-list.put-list.ensures.0
+    let a = c.args in
+    let here = opened t c.before.before.before.before.before.before.before.before.before.before.before.before.before.before.before.before.before.before.before in
+    let untaken = c.if-taken.false in
+    let next = c.dots_next-followed.ensures in
+    let head = made-head here a.k untaken next c.pattern-2.new.work _ _ _ _ c.in-Good.is c.pattern-2.ensures in
+    let later = made-rest here a.k untaken next c.pattern-2.auto.work head c.pattern-3.new.work _ _ _ _ c.in-Good-pattern.is c.pattern-3.ensures in
+    left-list here a.k untaken next c.pattern-2.auto.work head _ _ _ _ _ _ _ (sym c.if-crowded.false ∙ c.crowded.ensures) (c.following-count.ensures a.form.wrap) later c.put_list-r.ensures.0
 
-pub +pattern-spec : {M : Type 1} → statement M
-+pattern-spec = close μ-pattern λ t. pattern-lts.spec (pattern-claims t)
+pub +pattern_spec : {M : Type 1} → statement M
++pattern_spec = close μ-pattern λ t. pattern-lts.spec (pattern-claims t)
     (pattern-at t)
     pattern.Post
     (λ c κs. search rules)  -- pattern-word-requires

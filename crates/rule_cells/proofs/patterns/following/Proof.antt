@@ -9,7 +9,7 @@ use Rattle.arena.proofs.lists.rest.Reads as rest-reads
 use mathlib.Core.Path.{refl, sym, ap, ◌∙◌}
 use Rattle.rule_cells.specs.PatternLaws.{behind-count, behind-none}
 
-rest-requires : tie.Need-rest-requires
+rest-requires : tie.Need-rest-after-requires
 rest-requires c κs =
     search rules
 
@@ -17,13 +17,13 @@ count-requires : tie.Need-count-requires
 count-requires c κs =
     search rules
 
-returns : tie.Need-returns
+returns : tie.Need-returns-then-followed
 returns c =
-    let a = c.before.before.before.before.args in behind-count a.work.now a.rest _ _ a.followed c.before.rest.ensures c.count.ensures
+    let a = c.args in behind-count a.work.now a.rest _ _ a.followed c.rest-after.ensures c.count.ensures
 
-returns-2 : tie.Need-returns-2
+returns-2 : tie.Need-returns
 returns-2 c =
-    let a = c.before.before.args in behind-none a.work.now a.rest a.followed c.if1.false
+    let a = c.args in behind-none a.work.now a.rest a.followed c.if-followed.false
 
-pub following-spec : {M : Type 1} → statement M
-following-spec = tie.close (tie.spec rest-requires count-requires returns returns-2)
+pub following_spec : {M : Type 1} → statement M
+following_spec = tie.close (tie.spec rest-requires count-requires returns returns-2)

@@ -17,48 +17,28 @@ use Rattle.rule_cells.specs.PatternLaws.{left-dots, left-wildcard, left-literal,
 use Rattle.arena.specs.NodeLaws.{name_at-number}
 use Rattle.rule_cells.specs.Scopes.{dots_of, literals_of}
 
-returns : tie.Need-returns
+returns : tie.Need-returns-then-is_ellipsis
 returns c =
-    let a = c.before.before.before.before.args in left-dots (dots_of a.work.now a.form) (literals_of a.work.now a.form) a.k (name_at a.work.now a.node a.form.wrap) a.work.now a.top (sym c.before.is-ellipsis.ensures ∙ c.if1.true)
+    let a = c.args in left-dots (dots_of a.work.now a.form) (literals_of a.work.now a.form) a.k (name_at a.work.now a.node a.form.wrap) a.work.now a.top (sym c.is_ellipsis.ensures ∙ c.if-is_ellipsis.true)
 
-returns-2 : tie.Need-returns-2
+returns-2 : tie.Need-returns-then-is_variable
 returns-2 c =
-    let at-put-variable = c.before.before in
-    let at-if2 = at-put-variable.before.before in
-    let at-is-variable = at-if2.before in
-    let at-if1 = at-is-variable.before.before.before.before in
-    let at-is-ellipsis = at-if1.before in
-    let a = at-is-ellipsis.before.before.before.args in left-variable (dots_of a.work.now a.form) (literals_of a.work.now a.form) a.k (name_at a.work.now a.node a.form.wrap) a.work.now a.top _ _ (sym at-is-ellipsis.is-ellipsis.ensures ∙ at-if1.if1.false) (sym at-is-variable.is-variable.ensures ∙ at-if2.if2.true) at-put-variable.put-variable.ensures
+    let a = c.args in left-variable (dots_of a.work.now a.form) (literals_of a.work.now a.form) a.k (name_at a.work.now a.node a.form.wrap) a.work.now a.top _ _ (sym c.is_ellipsis.ensures ∙ c.if-is_ellipsis.false) (sym c.is_variable.ensures ∙ c.if-is_variable.true) c.put_variable-r.ensures
 
-returns-3 : tie.Need-returns-3
+returns-3 : tie.Need-returns-then-number-eq-WILDCARD
 returns-3 c =
-    let at-put-wildcard = c.before.before in
-    let at-if3 = at-put-wildcard.before.before in
-    let at-if2 = at-if3.before in
-    let at-is-variable = at-if2.before in
-    let at-number-of = at-is-variable.before.before in
-    let at-if1 = at-number-of.before.before in
-    let at-is-ellipsis = at-if1.before in
-    let a = at-is-ellipsis.before.before.before.args in
-    let number_is = name_at-number a.work.now a.node a.form.wrap ∙ sym at-number-of.number_of_lem.ensures in
-    left-wildcard (dots_of a.work.now a.form) (literals_of a.work.now a.form) a.k (name_at a.work.now a.node a.form.wrap) a.work.now a.top _ _ (sym at-is-ellipsis.is-ellipsis.ensures ∙ at-if1.if1.false) (number_is ∙ at-if3.if3.true) (sym at-is-variable.is-variable.ensures ∙ at-if2.if2.false) at-put-wildcard.put-wildcard.ensures
+    let a = c.args in
+    let number_is = name_at-number a.work.now a.node a.form.wrap ∙ sym c.number_of-number.ensures in
+    left-wildcard (dots_of a.work.now a.form) (literals_of a.work.now a.form) a.k (name_at a.work.now a.node a.form.wrap) a.work.now a.top _ _ (sym c.is_ellipsis.ensures ∙ c.if-is_ellipsis.false) (number_is ∙ c.if-number-eq-WILDCARD.true) (sym c.is_variable.ensures ∙ c.if-is_variable.false) c.put_wildcard-r.ensures
 
-returns-4 : tie.Need-returns-4
+returns-4 : tie.Need-returns
 returns-4 c =
-    let at-put-literal = c.before.before in
-    let at-binding-of = at-put-literal.before.before in
-    let at-if3 = at-binding-of.before.before in
-    let at-if2 = at-if3.before in
-    let at-is-variable = at-if2.before in
-    let at-number-of = at-is-variable.before.before in
-    let at-if1 = at-number-of.before.before in
-    let at-is-ellipsis = at-if1.before in
-    let a = at-is-ellipsis.before.before.before.args in
-    let number_is = name_at-number a.work.now a.node a.form.wrap ∙ sym at-number-of.number_of_lem.ensures in
-    left-literal (dots_of a.work.now a.form) (literals_of a.work.now a.form) a.k (name_at a.work.now a.node a.form.wrap) a.work.now a.top a.node a.form.wrap _ _ _ _ refl (sym at-is-ellipsis.is-ellipsis.ensures ∙ at-if1.if1.false) (λ z. at-if3.if3.false (sym number_is ∙ z)) (sym at-is-variable.is-variable.ensures ∙ at-if2.if2.false) (sym number_is) at-binding-of.binding-of.ensures at-put-literal.put-literal.ensures
+    let a = c.args in
+    let number_is = name_at-number a.work.now a.node a.form.wrap ∙ sym c.number_of-number.ensures in
+    left-literal (dots_of a.work.now a.form) (literals_of a.work.now a.form) a.k (name_at a.work.now a.node a.form.wrap) a.work.now a.top a.node a.form.wrap _ _ _ _ refl (sym c.is_ellipsis.ensures ∙ c.if-is_ellipsis.false) (λ z. c.if-number-eq-WILDCARD.false (sym number_is ∙ z)) (sym c.is_variable.ensures ∙ c.if-is_variable.false) (sym number_is) c.binding_of-key.ensures c.put_literal-r.ensures
 
-pub pattern-name-spec : {M : Type 1} → statement M
-pattern-name-spec =
+pub pattern_name_spec : {M : Type 1} → statement M
+pattern_name_spec =
     tie.close
     (tie.spec
     (λ c κs. search rules)  -- is-ellipsis-requires

@@ -35,83 +35,55 @@ rule-list-below t =
 abbrev rule-list-claims : ℕ → rule-list-lts.Claims
 rule-list-claims t = (word-reads.Asked, word-reads.Learnt, Pair-reads.Asked, Pair-reads.Learnt, reference-reads.Asked, reference-reads.Learnt, rule-list-below t, rule-list.Post, parts-reads.Asked, parts-reads.Learnt, rule-reads.Asked, rule-reads.Learnt)
 
-rule-list-returns : (t : ℕ) → rule-list-lts.Need-returns (rule-list-claims t) (rule-list-at t) rule-list.Post
+rule-list-returns : (t : ℕ) → rule-list-lts.Need-returns-then-word-ne-PAIR (rule-list-claims t) (rule-list-at t) rule-list.Post
 rule-list-returns t c =
-    let at-if1 = c.before in
-    let at-word = at-if1.before in
-    let at-args = at-word.before.before.before in
-    let a = at-args.args in
-    let p = at-args.requires in
-    let left = left_end a.work.now a.form a.node a.top (λ z. at-if1.if1.true (at-word.word.ensures ∙ z)) in
+    let a = c.args in
+    let p = c.requires in
+    let left = left_end a.work.now a.form a.node a.top (λ z. c.if-word-ne-PAIR.true (c.word.ensures ∙ z)) in
     packs-at (RulesLeft _ _ _ _ _) _ _ _ _ (packs a.work.now a.node a.form.wrap a.top p.1.0) c.pair.ensures left.words left
 
--- the entry, from where the pair at hand is opened
-abbrev entry : (t : ℕ) → rule-list-lts.After-reference2 (rule-list-claims t) (rule-list-at t) rule-list.Post → rule-list-lts.Start (rule-list-claims t) (rule-list-at t) rule-list.Post
-entry t c = c.before.before.before.before.before.before.before.before
-
 -- that pair
-abbrev Opened : (t : ℕ) → rule-list-lts.After-reference2 (rule-list-claims t) (rule-list-at t) rule-list.Post → Type 0
+abbrev Opened : (t : ℕ) (c : rule-list-lts.After-reference-rest (rule-list-claims t) (rule-list-at t) rule-list.Post) → Type 0
 Opened t c =
-    let a = (entry t c).args in
-    PairHere a.work.now a.form a.node a.top c.before.before.reference.result c.reference2.result
+    let a = c.args in
+    PairHere a.work.now a.form a.node a.top c.reference-head.result c.reference-rest.result
 
-opened : (t : ℕ) (c : rule-list-lts.After-reference2 (rule-list-claims t) (rule-list-at t) rule-list.Post) → Opened t c
+opened : (t : ℕ) (c : rule-list-lts.After-reference-rest (rule-list-claims t) (rule-list-at t) rule-list.Post) → Opened t c
 opened t c =
-    let at-reference = c.before.before in
-    let at-if1 = at-reference.before.before in
-    let at-word = at-if1.before in
-    let at-args = entry t c in
-    let a = at-args.args in
-    let p = at-args.pre in
-    pair-here a.work.now a.form a.node a.top p.1.0 p.1.1 p.1.2 (sym at-word.word.ensures ∙ at-if1.if1.false) at-reference.reference.ensures c.reference2.ensures
+    let a = c.args in
+    let p = c.requires in
+    pair-here a.work.now a.form a.node a.top p.1.0 p.1.1 p.1.2 (sym c.word.ensures ∙ c.if-word-ne-PAIR.false) c.reference-head.ensures c.reference-rest.ensures
 
-rule-list-rule-list-requires : (t : ℕ) → rule-list-lts.Need-rule-list-requires (rule-list-claims t) (rule-list-at t) rule-list.Post
+rule-list-rule-list-requires : (t : ℕ) → rule-list-lts.Need-rule_list-word-requires (rule-list-claims t) (rule-list-at t) rule-list.Post
 rule-list-rule-list-requires t c κs =
-    let at-reference2 = c.before in
-    let at-args = entry t at-reference2 in
-    let a = at-args.args in
-    let p = at-args.pre in
-    let here = opened t at-reference2 in
+    let a = c.args in
+    let p = c.requires in
+    let here = opened t c.before in
     (omega (arith, p.0, rest_below a.work.now a.node a.form.wrap a.top here.asks _ _ here.is-pair here.head-is here.rest-is), (asks-tail a.work.now a.node a.form.wrap a.top here.asks _ _ here.is-pair here.head-is here.rest-is, p.1.1, p.1.2))
 
-rule-list-returns-2 : (t : ℕ) → rule-list-lts.Need-returns-2 (rule-list-claims t) (rule-list-at t) rule-list.Post
+rule-list-returns-2 : (t : ℕ) → rule-list-lts.Need-returns-in_default (rule-list-claims t) (rule-list-at t) rule-list.Post
 unfolding built_of
 rule-list-returns-2 t c =
-    let at-parts = c.before.before in
-    let at-rule-list = at-parts.before.before.before in
-    let at-reference2 = at-rule-list.before.before in
-    let a = (entry t at-reference2).args in
-    let here = opened t at-reference2 in
-    let l = at-rule-list.rule-list in
-    left-later here l.new.0 (built_of l.result) (sym at-parts.parts.ensures ∙ c.enum_told.given.1) l.ensures
+    let a = c.args in
+    let here = opened t c.before.before.before.before.before.before in
+    left-later here c.rule_list-word.new.work (built_of c.rule_list-word.result) (sym c.parts.ensures ∙ c.in_default.is) c.rule_list-word.ensures
 
 rule-list-rule-requires : (t : ℕ) → rule-list-lts.Need-rule-requires (rule-list-claims t) (rule-list-at t) rule-list.Post
 rule-list-rule-requires t c κs =
-    let at_next = c.before.before in
-    let at-parts = at_next.before.before in
-    let at-rule-list = at-parts.before.before.before in
-    let at-reference2 = at-rule-list.before.before in
-    let a = (entry t at-reference2).args in
-    let here = opened t at-reference2 in
-    let l = at-rule-list.rule-list in
-    let later = made-later here l.new.0 (built_of l.result) _ _ (sym at-parts.parts.ensures ∙ at_next.next.given.1) l.ensures in
-    (asks-first here l.auto.0 later, dots-still here l.auto.0 later, literals-still here l.auto.0 later, later.at_most)
+    let a = c.args in
+    let here = opened t c.before.before.before.before.before.before.before in
+    let later = made-later here c.rule_list-word.new.work (built_of c.rule_list-word.result) _ _ (sym c.parts.ensures ∙ c.in-At.is) c.rule_list-word.ensures in
+    (asks-first here c.rule_list-word.auto.work later, dots-still here c.rule_list-word.auto.work later, literals-still here c.rule_list-word.auto.work later, later.at_most)
 
-rule-list-returns-3 : (t : ℕ) → rule-list-lts.Need-returns-3 (rule-list-claims t) (rule-list-at t) rule-list.Post
+rule-list-returns-3 : (t : ℕ) → rule-list-lts.Need-returns (rule-list-claims t) (rule-list-at t) rule-list.Post
 rule-list-returns-3 t c =
-    let at-rule = c.before.before in
-    let at_next = at-rule.before.before.before in
-    let at-parts = at_next.before.before in
-    let at-rule-list = at-parts.before.before.before in
-    let at-reference2 = at-rule-list.before.before in
-    let a = (entry t at-reference2).args in
-    let here = opened t at-reference2 in
-    let l = at-rule-list.rule-list in
-    let later = made-later here l.new.0 (built_of l.result) _ _ (sym at-parts.parts.ensures ∙ at_next.next.given.1) l.ensures in
-    left_both here l.auto.0 later at-rule.rule.new.0 (built_of at-rule.rule.result) at-rule.rule.ensures
+    let a = c.args in
+    let here = opened t c.before.before.before.before.before.before.before.before.before.before in
+    let later = made-later here c.rule_list-word.new.work (built_of c.rule_list-word.result) _ _ (sym c.parts.ensures ∙ c.in-At.is) c.rule_list-word.ensures in
+    left_both here c.rule_list-word.auto.work later c.rule.new.work (built_of c.rule.result) c.rule.ensures
 
-pub +rule-list-spec : {M : Type 1} → statement M
-+rule-list-spec = close μ-rule-list λ t. rule-list-lts.spec (rule-list-claims t)
+pub +rule_list_spec : {M : Type 1} → statement M
++rule_list_spec = close μ-rule-list λ t. rule-list-lts.spec (rule-list-claims t)
     (rule-list-at t)
     rule-list.Post
     (λ c κs. search rules)  -- rule-list-word-requires

@@ -12,38 +12,21 @@ use Rattle.words.specs.Code.Packed.{built_of}
 use Rattle.rule_cells.specs.RuleListLaws.{left-shape, parts-ask, left-parts}
 use mathlib.Core.Path.{sym, ◌∙◌}
 
-rule-parts-requires : tie.Need-rule-parts-requires
+rule-parts-requires : tie.Need-rule_parts-requires
 rule-parts-requires c κs =
-    let at-first2 = c.before in
-    let at-rest2 = at-first2.before.before in
-    let at_rest = at-rest2.before.before in
-    let at_first = at_rest.before.before in
-    let at-if1 = at_first.before.before in
-    let at-rule-shape = at-if1.before in
-    let at-args = at-rule-shape.before.before.before in
-    let a = at-args.args in parts-ask a.work.now a.form a.node a.next a.top at-args.requires.0 at-args.requires.1 at-args.requires.2 at-args.requires.3 _ _ _ _ (sym at-if1.if1.true ∙ at-rule-shape.rule-shape.ensures) at_first.first.ensures at_rest.rest.ensures at-rest2.rest2.ensures at-first2.first2.ensures
+    let a = c.args in parts-ask a.work.now a.form a.node a.next a.top c.requires.0 c.requires.1 c.requires.2 c.requires.3 _ _ _ _ (sym c.if-rule_shape.true ∙ c.rule_shape.ensures) c.first-pattern.ensures c.rest-p.ensures c.rest-after.ensures c.first-q.ensures
 
-returns : tie.Need-returns
+returns : tie.Need-returns-then-rule_shape
 returns c =
-    let at-rule-parts = c.before.before in
-    let at-first2 = at-rule-parts.before.before in
-    let at-rest2 = at-first2.before.before in
-    let at_rest = at-rest2.before.before in
-    let at_first = at_rest.before.before in
-    let at-if1 = at_first.before.before in
-    let at-rule-shape = at-if1.before in
-    let at-args = at-rule-shape.before.before.before in
-    let a = at-args.args in left-parts a.work.now a.form a.node a.next a.top at-args.requires.0 at-args.requires.1 at-args.requires.2 at-args.requires.3 _ _ _ _ (sym at-if1.if1.true ∙ at-rule-shape.rule-shape.ensures) at_first.first.ensures at_rest.rest.ensures at-rest2.rest2.ensures at-first2.first2.ensures at-rule-parts.rule-parts.new.0 (built_of at-rule-parts.rule-parts.result) at-rule-parts.rule-parts.ensures
+    let a = c.args in left-parts a.work.now a.form a.node a.next a.top c.requires.0 c.requires.1 c.requires.2 c.requires.3 _ _ _ _ (sym c.if-rule_shape.true ∙ c.rule_shape.ensures) c.first-pattern.ensures c.rest-p.ensures c.rest-after.ensures c.first-q.ensures c.rule_parts.new.work (built_of c.rule_parts.result) c.rule_parts.ensures
 
-returns-2 : tie.Need-returns-2
+returns-2 : tie.Need-returns
 unfolding built_of
 returns-2 c =
-    let at-rule-shape = c.before in
-    let at-args = at-rule-shape.before.before.before in
-    let a = at-args.args in left-shape a.work.now a.form a.node a.next a.top at-args.requires.0 at-args.requires.1 at-args.requires.2 at-args.requires.3 (sym c.if1.false ∙ at-rule-shape.rule-shape.ensures)
+    let a = c.args in left-shape a.work.now a.form a.node a.next a.top c.requires.0 c.requires.1 c.requires.2 c.requires.3 (sym c.if-rule_shape.false ∙ c.rule_shape.ensures)
 
-pub rule-spec : {M : Type 1} → statement M
-rule-spec =
+pub rule_spec : {M : Type 1} → statement M
+rule_spec =
     tie.close
     (tie.spec
     (λ c κs. search rules)  -- rule-shape-requires

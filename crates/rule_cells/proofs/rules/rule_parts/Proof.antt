@@ -20,116 +20,70 @@ use mathlib.Core.Path.{sym, ◌∙◌}
 use native.Mathlib.Omega.{arith}
 use mathlib.Core.Bool.{false≢true}
 
-gather-requires : tie.Need-gather-requires
+gather-requires : tie.Need-gather-n-requires
 gather-requires c κs =
-    let a = c.before.before.before.args in
-    let ask = c.before.before.before.requires in
+    let a = c.args in
+    let ask = c.requires in
     (omega arith, held_none a.work.now a.form.wrap _, small-p ask)
 
-returns : tie.Need-returns
+returns : tie.Need-returns-then-n
 unfolding built_of
 returns c =
-    let at-gather = c.before.before in
-    let at-args = at-gather.before.before.before.before in
-    let a = at-args.args in
-    let ask = at-args.requires in
-    let g = at-gather.gather in
-    left-variables ask _ g.new.1.0 (kept_of g.result) (kept-bad g.result c.if1.true) g.ensures
+    let a = c.args in
+    let ask = c.requires in
+    left-variables ask _ c.gather-n.new.vars (kept_of c.gather-n.result) (kept-bad c.gather-n.result c.if-n.true) c.gather-n.ensures
 
 pattern-requires : tie.Need-pattern-requires
 pattern-requires c κs =
-    let at-args = c.before.before.before.before.before.before.before in
-    let a = at-args.args in
-    let ask = at-args.requires in
+    let a = c.args in
+    let ask = c.requires in
     (asks-p ask, ask.dots-below, ask.literals-below, small_size ask, λ z. absurd (false≢true z))
 
-returns-2 : tie.Need-returns-2
+returns-2 : tie.Need-returns-in_default
 unfolding built_of
 returns-2 c =
-    let at-pattern = c.before.before.before.before in
-    let at-args = at-pattern.before.before.before.before.before.before.before.before in
-    let a = at-args.args in
-    let ask = at-args.requires in
-    left-pattern ask at-pattern.pattern.new.0 _ c.enum_told.given.1 at-pattern.pattern.ensures
+    let a = c.args in
+    let ask = c.requires in
+    left-pattern ask c.pattern.new.work _ c.in_default.is c.pattern.ensures
 
-template-requires : tie.Need-template-requires
+template-requires : tie.Need-template-word-requires
 template-requires c κs =
-    let at_a = c.before.before.before in
-    let at-pattern = at_a.before.before.before.before in
-    let at-if1 = at-pattern.before.before in
-    let at-gather = at-if1.before.before in
-    let at-args = at-gather.before.before.before.before in
-    let a = at-args.args in
-    let ask = at-args.requires in
-    let g = at-gather.gather in
-    let stored = gathered-stored _ _ _ _ _ _ g.new.1.0 (kept_of g.result) _ (kept-count g.result at-if1.if1.false) g.ensures in
-    let p = at-pattern.pattern in
-    let pattern = made-pattern ask p.new.0 _ _ _ _ at_a.a.given.1 p.ensures in
-    (asks-q ask stored p.auto.0 pattern, stored.held.most, omega (arith, g.auto.1.0), under_top ask stored p.auto.0 pattern, dots-still ask stored p.auto.0 pattern, small-q ask stored p.auto.0 pattern)
+    let a = c.args in
+    let ask = c.requires in
+    let stored = gathered-stored _ _ _ _ _ _ c.gather-n.new.vars (kept_of c.gather-n.result) _ (kept-count c.gather-n.result c.if-n.false) c.gather-n.ensures in
+    let pattern = made-pattern ask c.pattern.new.work _ _ _ _ c.in-Good.is c.pattern.ensures in
+    (asks-q ask stored c.pattern.auto.work pattern, stored.held.most, omega (arith, c.gather-n.auto.vars), under_top ask stored c.pattern.auto.work pattern, dots-still ask stored c.pattern.auto.work pattern, small-q ask stored c.pattern.auto.work pattern)
 
-returns-3 : tie.Need-returns-3
+returns-3 : tie.Need-returns-in_default-parts
 unfolding built_of
 returns-3 c =
-    let at-parts = c.before.before in
-    let at-template = at-parts.before.before.before in
-    let at_a = at-template.before.before.before.before in
-    let at-pattern = at_a.before.before.before.before in
-    let at-if1 = at-pattern.before.before in
-    let at-gather = at-if1.before.before in
-    let at-args = at-gather.before.before.before.before in
-    let a = at-args.args in
-    let ask = at-args.requires in
-    let g = at-gather.gather in
-    let stored = gathered-stored _ _ _ _ _ _ g.new.1.0 (kept_of g.result) _ (kept-count g.result at-if1.if1.false) g.ensures in
-    let p = at-pattern.pattern in
-    let pattern = made-pattern ask p.new.0 _ _ _ _ at_a.a.given.1 p.ensures in
-    let q = at-template.template in
-    left-template ask stored p.auto.0 pattern q.new.0 (built_of q.result) (sym at-parts.parts.ensures ∙ c.enum-told2.given.1) q.ensures
+    let a = c.args in
+    let ask = c.requires in
+    let stored = gathered-stored _ _ _ _ _ _ c.gather-n.new.vars (kept_of c.gather-n.result) _ (kept-count c.gather-n.result c.if-n.false) c.gather-n.ensures in
+    let pattern = made-pattern ask c.pattern.new.work _ _ _ _ c.in-Good.is c.pattern.ensures in
+    left-template ask stored c.pattern.auto.work pattern c.template-word.new.work (built_of c.template-word.result) (sym c.parts.ensures ∙ c.in_default-parts.is) c.template-word.ensures
 
-put-rule-requires : tie.Need-put-rule-requires
+put-rule-requires : tie.Need-put_rule-r-requires
 put-rule-requires c κs =
-    let at_b = c.before.before in
-    let at-parts = at_b.before.before in
-    let at-template = at-parts.before.before.before in
-    let at_a = at-template.before.before.before.before in
-    let at-pattern = at_a.before.before.before.before in
-    let at-if1 = at-pattern.before.before in
-    let at-gather = at-if1.before.before in
-    let at-args = at-gather.before.before.before.before in
-    let a = at-args.args in
-    let ask = at-args.requires in
-    let g = at-gather.gather in
-    let stored = gathered-stored _ _ _ _ _ _ g.new.1.0 (kept_of g.result) _ (kept-count g.result at-if1.if1.false) g.ensures in
-    let p = at-pattern.pattern in
-    let pattern = made-pattern ask p.new.0 _ _ _ _ at_a.a.given.1 p.ensures in
-    let q = at-template.template in
-    let template = made-template ask stored p.auto.0 pattern q.new.0 (built_of q.result) _ _ (sym at-parts.parts.ensures ∙ at_b.b.given.1) q.ensures in
-    rule-asks ask stored p.auto.0 pattern q.auto.0 template
+    let a = c.args in
+    let ask = c.requires in
+    let stored = gathered-stored _ _ _ _ _ _ c.gather-n.new.vars (kept_of c.gather-n.result) _ (kept-count c.gather-n.result c.if-n.false) c.gather-n.ensures in
+    let pattern = made-pattern ask c.pattern.new.work _ _ _ _ c.in-Good.is c.pattern.ensures in
+    let template = made-template ask stored c.pattern.auto.work pattern c.template-word.new.work (built_of c.template-word.result) _ _ (sym c.parts.ensures ∙ c.in-At.is) c.template-word.ensures in
+    rule-asks ask stored c.pattern.auto.work pattern c.template-word.auto.work template
 
-returns-4 : tie.Need-returns-4
+returns-4 : tie.Need-returns
 returns-4 c =
-    let at-put-rule = c.before.before.before in
-    let at_b = at-put-rule.before.before.before in
-    let at-parts = at_b.before.before in
-    let at-template = at-parts.before.before.before in
-    let at_a = at-template.before.before.before.before in
-    let at-pattern = at_a.before.before.before.before in
-    let at-if1 = at-pattern.before.before in
-    let at-gather = at-if1.before.before in
-    let at-args = at-gather.before.before.before.before in
-    let a = at-args.args in
-    let ask = at-args.requires in
-    let g = at-gather.gather in
-    let stored = gathered-stored _ _ _ _ _ _ g.new.1.0 (kept_of g.result) _ (kept-count g.result at-if1.if1.false) g.ensures in
-    let p = at-pattern.pattern in
-    let pattern = made-pattern ask p.new.0 _ _ _ _ at_a.a.given.1 p.ensures in
-    let q = at-template.template in
-    let template = made-template ask stored p.auto.0 pattern q.new.0 (built_of q.result) _ _ (sym at-parts.parts.ensures ∙ at_b.b.given.1) q.ensures in
-    let left = left-rule ask stored p.auto.0 pattern q.auto.0 template _ _ at-put-rule.put-rule.ensures in
+    let a = c.args in
+    let ask = c.requires in
+    let stored = gathered-stored _ _ _ _ _ _ c.gather-n.new.vars (kept_of c.gather-n.result) _ (kept-count c.gather-n.result c.if-n.false) c.gather-n.ensures in
+    let pattern = made-pattern ask c.pattern.new.work _ _ _ _ c.in-Good.is c.pattern.ensures in
+    let template = made-template ask stored c.pattern.auto.work pattern c.template-word.new.work (built_of c.template-word.result) _ _ (sym c.parts.ensures ∙ c.in-At.is) c.template-word.ensures in
+    let left = left-rule ask stored c.pattern.auto.work pattern c.template-word.auto.work template _ _ c.put_rule-r.ensures in
     packs-at (RuleLeft _ _ _ _ _ _) _ _ _ _ (packs-rule ask) c.pair.ensures left.words left
 
-pub rule-parts-spec : {M : Type 1} → statement M
-rule-parts-spec =
+pub rule_parts_spec : {M : Type 1} → statement M
+rule_parts_spec =
     tie.close
     (tie.spec
     (λ c. search rules)  -- slice-aggregate-gather

@@ -11,31 +11,20 @@ use Rattle.rule_cells.proofs.dots.is_ellipsis.Reads as is-ellipsis-reads
 use mathlib.Core.Path.{refl, sym, ap, ◌∙◌}
 use Rattle.rule_cells.specs.RuleListLaws.{shape-no, shape-other, shape-by}
 
-returns : tie.Need-returns
+returns : tie.Need-returns-then-word-ne-NAME
 returns c =
-    let at-word = c.before in
-    let at-first2 = at-word.before in
-    let at_first = at-first2.before in
-    let at-if1 = at_first.before in
-    let at-is-list-of = at-if1.before in
-    let a = at-is-list-of.before.before.args in shape-other a.work.now a.dots a.node a.w _ _ (sym at-if1.if1.true ∙ at-is-list-of.is-list-of.ensures a.w) at_first.first.ensures at-first2.first2.ensures (λ z. c.if2.true (at-word.word.ensures ∙ z))
+    let a = c.args in shape-other a.work.now a.dots a.node a.w _ _ (sym c.if-is_list_of.true ∙ c.is_list_of.ensures a.w) c.first-pattern.ensures c.first-first.ensures (λ z. c.if-word-ne-NAME.true (c.word.ensures ∙ z))
 
-returns-2 : tie.Need-returns-2
+returns-2 : tie.Need-returns-then-is_list_of
 returns-2 c =
-    let at-if2 = c.before in
-    let at-word = at-if2.before in
-    let at-first2 = at-word.before in
-    let at_first = at-first2.before in
-    let at-if1 = at_first.before in
-    let at-is-list-of = at-if1.before in
-    let a = at-is-list-of.before.before.args in shape-by a.work.now a.dots a.node a.w _ _ (sym at-if1.if1.true ∙ at-is-list-of.is-list-of.ensures a.w) at_first.first.ensures at-first2.first2.ensures _ (sym at-word.word.ensures ∙ at-if2.if2.false) c.is-ellipsis.ensures
+    let a = c.args in shape-by a.work.now a.dots a.node a.w _ _ (sym c.if-is_list_of.true ∙ c.is_list_of.ensures a.w) c.first-pattern.ensures c.first-first.ensures _ (sym c.word.ensures ∙ c.if-word-ne-NAME.false) c.is_ellipsis.ensures
 
-returns-3 : tie.Need-returns-3
+returns-3 : tie.Need-returns
 returns-3 c =
-    let a = c.before.before.before.args in shape-no a.work.now a.dots a.node a.w (sym c.if1.false ∙ c.before.is-list-of.ensures a.w)
+    let a = c.args in shape-no a.work.now a.dots a.node a.w (sym c.if-is_list_of.false ∙ c.is_list_of.ensures a.w)
 
-pub rule-shape-spec : {M : Type 1} → statement M
-rule-shape-spec =
+pub rule_shape_spec : {M : Type 1} → statement M
+rule_shape_spec =
     tie.close
     (tie.spec
     (λ c κs. search rules)  -- is-list-of-requires

@@ -14,44 +14,31 @@ use Rattle.words.specs.Code.Packed.{built_of}
 use Rattle.rule_cells.specs.RuleListLaws.{dots-under, left-no-form, asks-list, literals-under, left-form}
 use mathlib.Core.Path.{sym, ◌∙◌}
 
-rule-list-requires : tie.Need-rule-list-requires
+rule-list-requires : tie.Need-rule_list-requires
 rule-list-requires c κs =
-    let at_rest = c.before in
-    let at_first = at_rest.before.before in
-    let at-after-chosen = at_first.before.before in
-    let at-ellipsis = at-after-chosen.before.before in
-    let at-args = at-ellipsis.before.before.before.before.before.before in
-    let a = at-args.args in
-    let dots = at-ellipsis.ellipsis.ensures in
-    let after = at-after-chosen.after-chosen.ensures in
-    let literals = at_first.first.ensures in
-    let list = at_rest.rest.ensures in
-    (asks-list a.work.now a.node a.w a.top at-args.requires dots after literals list, dots-under a.work.now a.node a.w a.top at-args.requires dots after literals list, literals-under a.work.now a.node a.w a.top at-args.requires dots after literals list)
+    let a = c.args in
+    let dots = c.ellipsis-dots.ensures in
+    let after = c.after_chosen-after.ensures in
+    let literals = c.first.ensures in
+    let list = c.rest-list.ensures in
+    (asks-list a.work.now a.node a.w a.top c.requires dots after literals list, dots-under a.work.now a.node a.w a.top c.requires dots after literals list, literals-under a.work.now a.node a.w a.top c.requires dots after literals list)
 
-returns : tie.Need-returns
+returns : tie.Need-returns-then-is_rules_form
 returns c =
-    let at-rule-list = c.before.before in
-    let at_rest = at-rule-list.before.before in
-    let at_first = at_rest.before.before in
-    let at-after-chosen = at_first.before.before in
-    let at-ellipsis = at-after-chosen.before.before in
-    let at-if1 = at-ellipsis.before.before in
-    let at-is-rules-form = at-if1.before in
-    let at-args = at-is-rules-form.before.before.before in
-    let a = at-args.args in
-    let dots = at-ellipsis.ellipsis.ensures in
-    let after = at-after-chosen.after-chosen.ensures in
-    let literals = at_first.first.ensures in
-    let list = at_rest.rest.ensures in
-    left-form a.work.now a.node a.w a.top at-args.requires dots after literals list at-rule-list.rule-list.new.0 (built_of at-rule-list.rule-list.result) (sym at-if1.if1.true ∙ at-is-rules-form.is-rules-form.ensures) at-rule-list.rule-list.ensures
+    let a = c.args in
+    let dots = c.ellipsis-dots.ensures in
+    let after = c.after_chosen-after.ensures in
+    let literals = c.first.ensures in
+    let list = c.rest-list.ensures in
+    left-form a.work.now a.node a.w a.top c.requires dots after literals list c.rule_list.new.work (built_of c.rule_list.result) (sym c.if-is_rules_form.true ∙ c.is_rules_form.ensures) c.rule_list.ensures
 
-returns-2 : tie.Need-returns-2
+returns-2 : tie.Need-returns
 unfolding built_of
 returns-2 c =
-    let a = c.before.before.before.before.args in left-no-form a.work.now a.node a.w a.top c.before.before.before.before.requires (sym c.if1.false ∙ c.before.is-rules-form.ensures)
+    let a = c.args in left-no-form a.work.now a.node a.w a.top c.requires (sym c.if-is_rules_form.false ∙ c.is_rules_form.ensures)
 
-pub rules-spec : {M : Type 1} → statement M
-rules-spec =
+pub rules_spec : {M : Type 1} → statement M
+rules_spec =
     tie.close
     (tie.spec
     (λ c κs. search rules)  -- is-rules-form-requires

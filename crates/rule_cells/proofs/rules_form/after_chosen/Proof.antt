@@ -10,11 +10,11 @@ use Rattle.arena.proofs.lists.rest.Reads as rest-reads
 use mathlib.Core.Path.{refl, sym, ap, ◌∙◌}
 use Rattle.rule_cells.specs.Forms.{after-chosen, after-plain}
 
-rest-requires : tie.Need-rest-requires
+rest-requires : tie.Need-rest-rest-requires
 rest-requires c κs =
     search rules
 
-first-requires : tie.Need-first-requires
+first-requires : tie.Need-first-second-requires
 first-requires c κs =
     search rules
 
@@ -22,23 +22,19 @@ word-requires : tie.Need-word-requires
 word-requires c κs =
     search rules
 
-rest-requires-2 : tie.Need-rest-requires-2
+rest-requires-2 : tie.Need-rest-requires
 rest-requires-2 c κs =
     search rules
 
-returns : tie.Need-returns
+returns : tie.Need-returns-then-word-eq-NAME
 returns c =
-    let at-if1 = c.before in
-    let at-word = at-if1.before in
-    let at_first = at-word.before in
-    let at_rest = at_first.before in
-    let a = at_rest.before.before.args in after-chosen a.work.now a.node _ _ at_rest.rest.ensures at_first.first.ensures _ (sym at-word.word.ensures ∙ at-if1.if1.true) c.rest2.ensures
+    let a = c.args in after-chosen a.work.now a.node _ _ c.rest-rest.ensures c.first-second.ensures _ (sym c.word.ensures ∙ c.if-word-eq-NAME.true) c.rest.ensures
 
-returns-2 : tie.Need-returns-2
+returns-2 : tie.Need-returns
 returns-2 c =
-    let a = c.before.before.before.before.before.args in after-plain a.work.now a.node _ _ c.before.before.before.rest.ensures c.before.before.first.ensures (λ z. c.if1.false (c.before.word.ensures ∙ z))
+    let a = c.args in after-plain a.work.now a.node _ _ c.rest-rest.ensures c.first-second.ensures (λ z. c.if-word-eq-NAME.false (c.word.ensures ∙ z))
 
-pub after-chosen-spec : {M : Type 1} → statement M
-after-chosen-spec =
+pub after_chosen_spec : {M : Type 1} → statement M
+after_chosen_spec =
     tie.close
     (tie.spec rest-requires first-requires word-requires rest-requires-2 returns returns-2)

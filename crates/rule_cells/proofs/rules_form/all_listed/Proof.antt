@@ -15,57 +15,39 @@ use Rattle.arena.specs.ListLaws.{pair-falls}
 use Rattle.rule_cells.specs.Dots.{dots_at}
 use Rattle.rule_cells.specs.Forms.{literals_all, all_end, all-no, all_more}
 
-abbrev invariant-loop : tie.invariant-loop
+abbrev invariant-loop : tie.invariant-loop-first
 invariant-loop work dots node w at₀ at =
     (r : Bool) → r ≡ literals_all (dots_at work dots w) (tree_at work at w) → r ≡ literals_all (dots_at work dots w) (tree_at work node w)
 
-abbrev decreases-loop : tie.decreases-loop
+abbrev decreases-loop : tie.decreases-loop-first
 decreases-loop work dots node w at₀ at =
     at
 
-loop-holds : tie.Need-loop-init invariant-loop decreases-loop
+loop-holds : tie.Need-loop-first-init invariant-loop decreases-loop
 loop-holds c =
     λ r h. h
 
-loop-less : tie.Need-loop-smaller invariant-loop decreases-loop
+loop-less : tie.Need-loop-first-smaller invariant-loop decreases-loop
 loop-less c =
-    let at-if1 = c.before.before.before.before in
-    let at-word = at-if1.before in
-    let at-loop = at-word.before in
-    let l = at-loop.loop in
-    omega (arith, c.reference2.ensures, pair-falls at-loop.before.before.args.work.now l.at 1 (sym at-word.word.ensures ∙ at-if1.if1.true))
+    omega (arith, c.reference-at.ensures, pair-falls c.args.work.now c.loop-first.at 1 (sym c.word.ensures ∙ c.loop-first-test.true))
 
-loop-again : tie.Need-loop-preserved invariant-loop decreases-loop
+loop-again : tie.Need-loop-first-preserved invariant-loop decreases-loop
 loop-again c =
-    let at-if2 = c.before in
-    let at-may-be-listed = at-if2.before in
-    let at-reference = at-may-be-listed.before in
-    let at-if1 = at-reference.before in
-    let at-word = at-if1.before in
-    let at-loop = at-word.before in
-    let a = at-loop.before.before.args in
-    let l = at-loop.loop in
-    λ r h. l.invariant r (all_more a.work.now a.dots a.w l.at _ (sym at-word.word.ensures ∙ at-if1.if1.true) at-reference.reference.ensures _ r c.reference2.ensures (sym at-if2.if2.true ∙ at-may-be-listed.may-be-listed.ensures) h)
+    let a = c.args in
+    λ r h. c.loop-first.invariant r (all_more a.work.now a.dots a.w c.loop-first.at _ (sym c.word.ensures ∙ c.loop-first-test.true) c.reference-first.ensures _ r c.reference-at.ensures (sym c.if-may_be_listed.true ∙ c.may_be_listed.ensures) h)
 
-returns : tie.Need-returns invariant-loop decreases-loop
+returns : tie.Need-returns-else-may_be_listed invariant-loop decreases-loop
 returns c =
-    let at-may-be-listed = c.before in
-    let at-reference = at-may-be-listed.before in
-    let at-if1 = at-reference.before in
-    let at-word = at-if1.before in
-    let at-loop = at-word.before in
-    let a = at-loop.before.before.args in
-    let l = at-loop.loop in
-    l.invariant false (all-no a.work.now a.dots a.w l.at _ (sym at-word.word.ensures ∙ at-if1.if1.true) at-reference.reference.ensures (sym c.if2.false ∙ at-may-be-listed.may-be-listed.ensures))
+    let a = c.args in
+    c.loop-first.invariant false (all-no a.work.now a.dots a.w c.loop-first.at _ (sym c.word.ensures ∙ c.loop-first-test.true) c.reference-first.ensures (sym c.if-may_be_listed.false ∙ c.may_be_listed.ensures))
 
-returns-2 : tie.Need-returns-2 invariant-loop decreases-loop
+returns-2 : tie.Need-returns invariant-loop decreases-loop
 returns-2 c =
-    let a = c.before.before.before.before.args in
-    let l = c.before.before.loop in
-    l.invariant true (all_end a.work.now a.dots a.w l.at (λ z. c.if1.false (c.before.word.ensures ∙ z)))
+    let a = c.args in
+    c.loop-first.invariant true (all_end a.work.now a.dots a.w c.loop-first.at (λ z. c.loop-first-test.false (c.word.ensures ∙ z)))
 
-pub all-listed-spec : {M : Type 1} → statement M
-all-listed-spec =
+pub all_listed_spec : {M : Type 1} → statement M
+all_listed_spec =
     tie.close
     (tie.spec
     invariant-loop

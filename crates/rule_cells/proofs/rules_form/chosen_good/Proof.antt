@@ -13,17 +13,17 @@ word-requires : tie.Need-word-requires
 word-requires c κs =
     search rules
 
-returns : tie.Need-returns
+returns : tie.Need-returns-then-word-ne-NAME
 returns c =
-    let a = c.before.before.before.args in chosen-other a.work.now a.second (λ z. c.if1.true (c.before.word.ensures ∙ z))
+    let a = c.args in chosen-other a.work.now a.second (λ z. c.if-word-ne-NAME.true (c.word.ensures ∙ z))
 
-is-ordinary-requires : tie.Need-is-ordinary-requires
+is-ordinary-requires : tie.Need-is_ordinary-requires
 is-ordinary-requires c κs =
     search rules
 
-returns-2 : tie.Need-returns-2
+returns-2 : tie.Need-returns
 returns-2 c =
-    let a = c.before.before.before.before.args in chosen-name a.work.now a.second _ (sym c.before.before.word.ensures ∙ c.before.if1.false) c.is-ordinary.ensures
+    let a = c.args in chosen-name a.work.now a.second _ (sym c.word.ensures ∙ c.if-word-ne-NAME.false) c.is_ordinary.ensures
 
-pub chosen-good-spec : {M : Type 1} → statement M
-chosen-good-spec = tie.close (tie.spec word-requires returns is-ordinary-requires returns-2)
+pub chosen_good_spec : {M : Type 1} → statement M
+chosen_good_spec = tie.close (tie.spec word-requires returns is-ordinary-requires returns-2)

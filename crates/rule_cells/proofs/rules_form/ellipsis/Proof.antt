@@ -9,7 +9,7 @@ use Rattle.arena.proofs.lists.element.Reads as element-reads
 use mathlib.Core.Path.{refl, sym, ap, ◌∙◌}
 use Rattle.rule_cells.specs.Forms.{ellipsis-chosen, ellipsis-default}
 
-element-requires : tie.Need-element-requires
+element-requires : tie.Need-element-second-requires
 element-requires c κs =
     search rules
 
@@ -17,13 +17,13 @@ word-requires : tie.Need-word-requires
 word-requires c κs =
     search rules
 
-returns : tie.Need-returns
+returns : tie.Need-returns-then-word-eq-NAME
 returns c =
-    let a = c.before.before.before.before.args in ellipsis-chosen a.work.now a.node _ c.before.before.element.ensures (sym c.before.word.ensures ∙ c.if1.true)
+    let a = c.args in ellipsis-chosen a.work.now a.node _ c.element-second.ensures (sym c.word.ensures ∙ c.if-word-eq-NAME.true)
 
-returns-2 : tie.Need-returns-2
+returns-2 : tie.Need-returns
 returns-2 c =
-    let a = c.before.before.before.before.args in ellipsis-default a.work.now a.node _ c.before.before.element.ensures (λ z. c.if1.false (c.before.word.ensures ∙ z))
+    let a = c.args in ellipsis-default a.work.now a.node _ c.element-second.ensures (λ z. c.if-word-eq-NAME.false (c.word.ensures ∙ z))
 
-pub ellipsis-spec : {M : Type 1} → statement M
-ellipsis-spec = tie.close (tie.spec element-requires word-requires returns returns-2)
+pub ellipsis_spec : {M : Type 1} → statement M
+ellipsis_spec = tie.close (tie.spec element-requires word-requires returns returns-2)

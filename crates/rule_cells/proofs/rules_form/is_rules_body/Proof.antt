@@ -13,38 +13,20 @@ use Rattle.rule_cells.proofs.rules_form.literals_good.Reads as literals-good-rea
 use mathlib.Core.Path.{refl, sym, ap, ◌∙◌}
 use Rattle.rule_cells.specs.Forms.{body-literals, body-none, body-some}
 
-returns : tie.Need-returns
+returns : tie.Need-returns-then-n-eq0
 returns c =
-    let at_count = c.before in
-    let at_rest = at_count.before in
-    let at-if1 = at_rest.before in
-    let at-literals-good = at-if1.before in
-    let at_first = at-literals-good.before in
-    let at-after-chosen = at_first.before in
-    let at-ellipsis = at-after-chosen.before in
-    let a = at-ellipsis.before.before.args in body-none a.work.now a.node a.w _ _ _ at-ellipsis.ellipsis.ensures at-after-chosen.after-chosen.ensures at_first.first.ensures (sym at-if1.if1.true ∙ at-literals-good.literals-good.ensures) _ _ at_rest.rest.ensures at_count.count.ensures c.if2.true
+    let a = c.args in body-none a.work.now a.node a.w _ _ _ c.ellipsis-dots.ensures c.after_chosen-after.ensures c.first-literals.ensures (sym c.if-literals_good.true ∙ c.literals_good.ensures) _ _ c.rest-list.ensures c.count-n.ensures c.if-n-eq0.true
 
-returns-2 : tie.Need-returns-2
+returns-2 : tie.Need-returns-then-literals_good
 returns-2 c =
-    let at_count = c.before in
-    let at_rest = at_count.before in
-    let at-if1 = at_rest.before in
-    let at-literals-good = at-if1.before in
-    let at_first = at-literals-good.before in
-    let at-after-chosen = at_first.before in
-    let at-ellipsis = at-after-chosen.before in
-    let a = at-ellipsis.before.before.args in body-some a.work.now a.node a.w _ _ _ at-ellipsis.ellipsis.ensures at-after-chosen.after-chosen.ensures at_first.first.ensures (sym at-if1.if1.true ∙ at-literals-good.literals-good.ensures) _ _ at_rest.rest.ensures at_count.count.ensures c.if2.false
+    let a = c.args in body-some a.work.now a.node a.w _ _ _ c.ellipsis-dots.ensures c.after_chosen-after.ensures c.first-literals.ensures (sym c.if-literals_good.true ∙ c.literals_good.ensures) _ _ c.rest-list.ensures c.count-n.ensures c.if-n-eq0.false
 
-returns-3 : tie.Need-returns-3
+returns-3 : tie.Need-returns
 returns-3 c =
-    let at-literals-good = c.before in
-    let at_first = at-literals-good.before in
-    let at-after-chosen = at_first.before in
-    let at-ellipsis = at-after-chosen.before in
-    let a = at-ellipsis.before.before.args in body-literals a.work.now a.node a.w _ _ _ at-ellipsis.ellipsis.ensures at-after-chosen.after-chosen.ensures at_first.first.ensures (sym c.if1.false ∙ at-literals-good.literals-good.ensures)
+    let a = c.args in body-literals a.work.now a.node a.w _ _ _ c.ellipsis-dots.ensures c.after_chosen-after.ensures c.first-literals.ensures (sym c.if-literals_good.false ∙ c.literals_good.ensures)
 
-pub is-rules-body-spec : {M : Type 1} → statement M
-is-rules-body-spec =
+pub is_rules_body_spec : {M : Type 1} → statement M
+is_rules_body_spec =
     tie.close
     (tie.spec
     (λ c κs. search rules)  -- ellipsis-requires

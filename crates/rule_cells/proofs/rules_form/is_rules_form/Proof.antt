@@ -12,31 +12,20 @@ use Rattle.rule_cells.proofs.rules_form.is_syntax_rules.Reads as is-syntax-rules
 use mathlib.Core.Path.{refl, sym, ap, ◌∙◌}
 use Rattle.rule_cells.specs.Forms.{form-no, form-unchosen, form-body}
 
-returns : tie.Need-returns
+returns : tie.Need-returns-then-chosen_good
 returns c =
-    let at-if2 = c.before in
-    let at-chosen-good = at-if2.before in
-    let at-element = at-chosen-good.before in
-    let at-if1 = at-element.before in
-    let at-is-syntax-rules = at-if1.before in
-    let at_first = at-is-syntax-rules.before in
-    let a = at_first.before.before.args in form-body a.work.now a.node a.w _ at_first.first.ensures (sym at-if1.if1.true ∙ at-is-syntax-rules.is-syntax-rules.ensures) _ at-element.element.ensures _ (λ w. sym at-if2.if2.true ∙ at-chosen-good.chosen-good.ensures w) c.is-rules-body.ensures
+    let a = c.args in form-body a.work.now a.node a.w _ c.first-first.ensures (sym c.if-is_syntax_rules.true ∙ c.is_syntax_rules.ensures) _ c.element-second.ensures _ (λ w. sym c.if-chosen_good.true ∙ c.chosen_good.ensures w) c.is_rules_body.ensures
 
-returns-2 : tie.Need-returns-2
+returns-2 : tie.Need-returns-then-is_syntax_rules
 returns-2 c =
-    let at-chosen-good = c.before in
-    let at-element = at-chosen-good.before in
-    let at-if1 = at-element.before in
-    let at-is-syntax-rules = at-if1.before in
-    let at_first = at-is-syntax-rules.before in
-    let a = at_first.before.before.args in form-unchosen a.work.now a.node a.w _ at_first.first.ensures (sym at-if1.if1.true ∙ at-is-syntax-rules.is-syntax-rules.ensures) _ at-element.element.ensures (λ w. sym c.if2.false ∙ at-chosen-good.chosen-good.ensures w)
+    let a = c.args in form-unchosen a.work.now a.node a.w _ c.first-first.ensures (sym c.if-is_syntax_rules.true ∙ c.is_syntax_rules.ensures) _ c.element-second.ensures (λ w. sym c.if-chosen_good.false ∙ c.chosen_good.ensures w)
 
-returns-3 : tie.Need-returns-3
+returns-3 : tie.Need-returns
 returns-3 c =
-    let a = c.before.before.before.before.args in form-no a.work.now a.node a.w _ c.before.before.first.ensures (sym c.if1.false ∙ c.before.is-syntax-rules.ensures)
+    let a = c.args in form-no a.work.now a.node a.w _ c.first-first.ensures (sym c.if-is_syntax_rules.false ∙ c.is_syntax_rules.ensures)
 
-pub is-rules-form-spec : {M : Type 1} → statement M
-is-rules-form-spec =
+pub is_rules_form_spec : {M : Type 1} → statement M
+is_rules_form_spec =
     tie.close
     (tie.spec
     (λ c κs. search rules)  -- first-requires

@@ -8,29 +8,25 @@ use mathlib.Core.Path.{sym, ◌∙◌}
 word-requires : tie.Need-word-requires
 word-requires c κs = search rules
 
-returns : tie.Need-returns
+returns : tie.Need-returns-then-word-ne-NAME
 returns c =
-    let a = c.before.before.before.args in head-no a.work.now a.node a.w (λ z. c.if1.true (c.before.word.ensures ∙ z))
+    let a = c.args in head-no a.work.now a.node a.w (λ z. c.if-word-ne-NAME.true (c.word.ensures ∙ z))
 
-number-of-requires : tie.Need-number-of-requires
+number-of-requires : tie.Need-number_of-requires
 number-of-requires c κs = search rules
 
-returns-2 : tie.Need-returns-2
+returns-2 : tie.Need-returns-then-number_of-ne-SYNTAX_RULES
 returns-2 c =
-    let a = c.before.before.before.before.before.args in head-other a.work.now a.node a.w _ (sym c.before.before.before.word.ensures ∙ c.before.before.if1.false) c.before.number_of_lem.ensures c.if2.true
+    let a = c.args in head-other a.work.now a.node a.w _ (sym c.word.ensures ∙ c.if-word-ne-NAME.false) c.number_of.ensures c.if-number_of-ne-SYNTAX_RULES.true
 
-binding-of-requires : tie.Need-binding-of-requires
+binding-of-requires : tie.Need-binding_of-requires
 binding-of-requires c κs = search rules
 
-returns-3 : tie.Need-returns-3
+returns-3 : tie.Need-returns
 returns-3 c =
-    let at-if2 = c.before in
-    let at-number-of = at-if2.before in
-    let at-if1 = at-number-of.before in
-    let at-word = at-if1.before in
-    let a = at-word.before.before.args in head-yes a.work.now a.node a.w _ (sym at-word.word.ensures ∙ at-if1.if1.false) at-number-of.number_of_lem.ensures _ at-if2.if2.false c.binding-of.ensures
+    let a = c.args in head-yes a.work.now a.node a.w _ (sym c.word.ensures ∙ c.if-word-ne-NAME.false) c.number_of.ensures _ c.if-number_of-ne-SYNTAX_RULES.false c.binding_of.ensures
 
-pub is-syntax-rules-spec : {M : Type 1} → statement M
-is-syntax-rules-spec =
+pub is_syntax_rules_spec : {M : Type 1} → statement M
+is_syntax_rules_spec =
     tie.close
     (tie.spec word-requires returns number-of-requires returns-2 binding-of-requires returns-3)

@@ -10,11 +10,11 @@ use Rattle.rule_cells.proofs.rules_form.all_listed.Reads as all-listed-reads
 use mathlib.Core.Path.{refl, sym, ap, ◌∙◌}
 use Rattle.rule_cells.specs.Forms.{literals-no, literals-other, literals-most}
 
-is-list-requires : tie.Need-is-list-requires
+is-list-requires : tie.Need-is_list-requires
 is-list-requires c κs =
     search rules
 
-all-listed-requires : tie.Need-all-listed-requires
+all-listed-requires : tie.Need-all_listed-requires
 all-listed-requires c κs =
     search rules
 
@@ -22,23 +22,19 @@ count-requires : tie.Need-count-requires
 count-requires c κs =
     search rules
 
-returns : tie.Need-returns
+returns : tie.Need-returns-then-all_listed
 returns c =
-    let at-if2 = c.before in
-    let at-all-listed = at-if2.before in
-    let at-if1 = at-all-listed.before in
-    let at-is-list = at-if1.before in
-    let a = at-is-list.before.before.args in literals-most a.work.now a.dots a.w a.node (sym at-if1.if1.true ∙ at-is-list.is-list.ensures a.w) _ (sym at-if2.if2.true ∙ at-all-listed.all_listed.ensures) c.count.ensures
+    let a = c.args in literals-most a.work.now a.dots a.w a.node (sym c.if-is_list.true ∙ c.is_list.ensures a.w) _ (sym c.if-all_listed.true ∙ c.all_listed.ensures) c.count.ensures
 
-returns-2 : tie.Need-returns-2
+returns-2 : tie.Need-returns-then-is_list
 returns-2 c =
-    let a = c.before.before.before.before.before.args in literals-other a.work.now a.dots a.w a.node (sym c.before.before.if1.true ∙ c.before.before.before.is-list.ensures a.w) (sym c.if2.false ∙ c.before.all_listed.ensures)
+    let a = c.args in literals-other a.work.now a.dots a.w a.node (sym c.if-is_list.true ∙ c.is_list.ensures a.w) (sym c.if-all_listed.false ∙ c.all_listed.ensures)
 
-returns-3 : tie.Need-returns-3
+returns-3 : tie.Need-returns
 returns-3 c =
-    let a = c.before.before.before.args in literals-no a.work.now a.dots a.w a.node (sym c.if1.false ∙ c.before.is-list.ensures a.w)
+    let a = c.args in literals-no a.work.now a.dots a.w a.node (sym c.if-is_list.false ∙ c.is_list.ensures a.w)
 
-pub literals-good-spec : {M : Type 1} → statement M
-literals-good-spec =
+pub literals_good_spec : {M : Type 1} → statement M
+literals_good_spec =
     tie.close
     (tie.spec is-list-requires all-listed-requires count-requires returns returns-2 returns-3)

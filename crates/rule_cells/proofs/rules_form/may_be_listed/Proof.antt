@@ -14,31 +14,27 @@ word-requires : tie.Need-word-requires
 word-requires c κs =
     search rules
 
-returns : tie.Need-returns
+returns : tie.Need-returns-then-word-ne-NAME
 returns c =
-    let a = c.before.before.before.args in listed-no a.work.now a.dots a.w a.node (λ z. c.if1.true (c.before.word.ensures ∙ z))
+    let a = c.args in listed-no a.work.now a.dots a.w a.node (λ z. c.if-word-ne-NAME.true (c.word.ensures ∙ z))
 
-is-ellipsis-requires : tie.Need-is-ellipsis-requires
+is-ellipsis-requires : tie.Need-is_ellipsis-requires
 is-ellipsis-requires c κs =
     search rules
 
-returns-2 : tie.Need-returns-2
+returns-2 : tie.Need-returns-then-is_ellipsis
 returns-2 c =
-    let a = c.before.before.before.before.before.args in listed-dots a.work.now a.dots a.w a.node (sym c.before.before.before.word.ensures ∙ c.before.before.if1.false) (sym c.if2.true ∙ c.before.is-ellipsis.ensures)
+    let a = c.args in listed-dots a.work.now a.dots a.w a.node (sym c.word.ensures ∙ c.if-word-ne-NAME.false) (sym c.if-is_ellipsis.true ∙ c.is_ellipsis.ensures)
 
-number-of-requires : tie.Need-number-of-requires
+number-of-requires : tie.Need-number_of-requires
 number-of-requires c κs =
     search rules
 
-returns-3 : tie.Need-returns-3
+returns-3 : tie.Need-returns
 returns-3 c =
-    let at-if2 = c.before in
-    let at-is-ellipsis = at-if2.before in
-    let at-if1 = at-is-ellipsis.before in
-    let at-word = at-if1.before in
-    let a = at-word.before.before.args in listed_by a.work.now a.dots a.w a.node (sym at-word.word.ensures ∙ at-if1.if1.false) _ (sym at-if2.if2.false ∙ at-is-ellipsis.is-ellipsis.ensures) c.number_of_lem.ensures
+    let a = c.args in listed_by a.work.now a.dots a.w a.node (sym c.word.ensures ∙ c.if-word-ne-NAME.false) _ (sym c.if-is_ellipsis.false ∙ c.is_ellipsis.ensures) c.number_of.ensures
 
-pub may-be-listed-spec : {M : Type 1} → statement M
-may-be-listed-spec =
+pub may_be_listed_spec : {M : Type 1} → statement M
+may_be_listed_spec =
     tie.close
     (tie.spec word-requires returns is-ellipsis-requires returns-2 number-of-requires returns-3)

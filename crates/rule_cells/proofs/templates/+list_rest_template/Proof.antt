@@ -61,297 +61,180 @@ list-rest-claims t = (word-reads.Asked, word-reads.Learnt, template-leaf-reads.A
 abbrev template-claims : ℕ → template-lts.Claims
 template-claims t = (word-reads.Asked, word-reads.Learnt, template-leaf-reads.Asked, template-leaf-reads.Learnt, dots-next-reads.Asked, dots-next-reads.Learnt, reference-reads.Asked, reference-reads.Learnt, is-list-of-reads.Asked, is-list-of-reads.Learnt, first_reads.Asked, first_reads.Learnt, template-below t, template.Post, list-rest-below t, list-rest.Post)
 
-list-rest-template-leaf-requires : (t : ℕ) → list-rest-lts.Need-template-leaf-requires (list-rest-claims t) (list-rest-at t) list-rest.Post
+list-rest-template-leaf-requires : (t : ℕ) → list-rest-lts.Need-template_leaf-requires (list-rest-claims t) (list-rest-at t) list-rest.Post
 list-rest-template-leaf-requires t c κs =
-    let p = c.before.before.before.before.before.before.requires in
-    (p.1.0, p.1.1, p.1.2, λ z. c.before.if1.true (c.before.before.word.ensures ∙ z))
+    let p = c.requires in
+    (p.1.0, p.1.1, p.1.2, λ z. c.if-word-ne-PAIR.true (c.word.ensures ∙ z))
 
-list-rest-returns : (t : ℕ) → list-rest-lts.Need-returns (list-rest-claims t) (list-rest-at t) list-rest.Post
+list-rest-returns : (t : ℕ) → list-rest-lts.Need-returns-then-word-ne-PAIR (list-rest-claims t) (list-rest-at t) list-rest.Post
 list-rest-returns t c =
-    let at-template-leaf = c.before.before in
-    let at-if1 = at-template-leaf.before.before in
-    let at-word = at-if1.before in
-    let a = at-word.before.before.before.before.args in
-    let l = at-template-leaf.template-leaf in
-    left-leaf (dots_under a.work.now a.scope) (variables_under a.work.now a.vars.now a.scope) a.scope.d (rest_place a.taken) a.work.now a.node a.scope.wrap a.top l.new.0 (built_of l.result) (λ z. at-if1.if1.true (at-word.word.ensures ∙ z)) l.ensures
-
--- the entry, from where the pair at hand is opened
-abbrev entry : (t : ℕ) → list-rest-lts.After-reference2 (list-rest-claims t) (list-rest-at t) list-rest.Post → list-rest-lts.Start (list-rest-claims t) (list-rest-at t) list-rest.Post
-entry t c = c.before.before.before.before.before.before.before.before.before
+    let a = c.args in
+    left-leaf (dots_under a.work.now a.scope) (variables_under a.work.now a.vars.now a.scope) a.scope.d (rest_place a.taken) a.work.now a.node a.scope.wrap a.top c.template_leaf.new.work (built_of c.template_leaf.result) (λ z. c.if-word-ne-PAIR.true (c.word.ensures ∙ z)) c.template_leaf.ensures
 
 -- that pair
-abbrev Opened : (t : ℕ) → list-rest-lts.After-reference2 (list-rest-claims t) (list-rest-at t) list-rest.Post → Type 0
+abbrev Opened : (t : ℕ) (c : list-rest-lts.After-reference-rest (list-rest-claims t) (list-rest-at t) list-rest.Post) → Type 0
 Opened t c =
-    let a = (entry t c).args in
-    TemplateHere a.work.now a.vars.now a.scope a.node a.top c.before.before.reference.result c.reference2.result
+    let a = c.args in
+    TemplateHere a.work.now a.vars.now a.scope a.node a.top c.reference-head.result c.reference-rest.result
 
-opened : (t : ℕ) (c : list-rest-lts.After-reference2 (list-rest-claims t) (list-rest-at t) list-rest.Post) → Opened t c
+opened : (t : ℕ) (c : list-rest-lts.After-reference-rest (list-rest-claims t) (list-rest-at t) list-rest.Post) → Opened t c
 opened t c =
-    let at-reference = c.before.before in
-    let at-if1 = at-reference.before.before in
-    let at-word = at-if1.before in
-    let at-args = entry t c in
-    let a = at-args.args in
-    let p = at-args.pre in
-    template-here a.work.now a.vars.now a.scope a.node a.top p.1.0 p.1.3 p.1.4 (sym at-word.word.ensures ∙ at-if1.if1.false) at-reference.reference.ensures c.reference2.ensures
+    let a = c.args in
+    let p = c.requires in
+    template-here a.work.now a.vars.now a.scope a.node a.top p.1.0 p.1.3 p.1.4 (sym c.word.ensures ∙ c.if-word-ne-PAIR.false) c.reference-head.ensures c.reference-rest.ensures
 
-list-rest-list-rest-requires : (t : ℕ) → list-rest-lts.Need-list-rest-requires (list-rest-claims t) (list-rest-at t) list-rest.Post
+list-rest-list-rest-requires : (t : ℕ) → list-rest-lts.Need-list_rest-requires (list-rest-claims t) (list-rest-at t) list-rest.Post
 list-rest-list-rest-requires t c κs =
-    let at-reference2 = c.before.before in
-    let at-args = entry t at-reference2 in
-    let a = at-args.args in
-    let p = at-args.pre in
-    let here = opened t at-reference2 in
+    let a = c.args in
+    let p = c.requires in
+    let here = opened t c.before.before in
     let below = rest_below a.work.now a.node a.scope.wrap a.top here.asks _ _ here.is-pair here.head-is here.rest-is in
     (omega (arith, p.0, below), (asks-tail a.work.now a.node a.scope.wrap a.top here.asks _ _ here.is-pair here.head-is here.rest-is, p.1.1, p.1.2, p.1.3, p.1.4, omega (arith, p.1.5, below)))
 
-list-rest-returns-2 : (t : ℕ) → list-rest-lts.Need-returns-2 (list-rest-claims t) (list-rest-at t) list-rest.Post
+list-rest-returns-2 : (t : ℕ) → list-rest-lts.Need-returns-then-taken (list-rest-claims t) (list-rest-at t) list-rest.Post
 list-rest-returns-2 t c =
-    let at-list-rest = c.before.before in
-    let at-if2 = at-list-rest.before.before in
-    let at-reference2 = at-if2.before in
-    let a = (entry t at-reference2).args in
-    let here = opened t at-reference2 in
-    let l = at-list-rest.list-rest in
-    left-taken here a.taken l.new.0 (built_of l.result) at-if2.if2.true l.ensures
+    let a = c.args in
+    let here = opened t c.before.before.before.before.before in
+    left-taken here a.taken c.list_rest.new.work (built_of c.list_rest.result) c.if-taken.true c.list_rest.ensures
 
-list-rest-element-depth-requires : (t : ℕ) → list-rest-lts.Need-element-depth-requires (list-rest-claims t) (list-rest-at t) list-rest.Post
+list-rest-element-depth-requires : (t : ℕ) → list-rest-lts.Need-element_depth-requires (list-rest-claims t) (list-rest-at t) list-rest.Post
 list-rest-element-depth-requires t c κs =
-    let at-reference2 = c.before.before.before in
-    let at-args = entry t at-reference2 in
-    let a = at-args.args in
-    let p = at-args.pre in
-    let here = opened t at-reference2 in
+    let a = c.args in
+    let p = c.requires in
+    let here = opened t c.before.before in
     omega (arith, p.1.5, head-below a.work.now a.node a.scope.wrap a.top here.asks _ _ here.is-pair here.head-is here.rest-is)
 
-list-rest-template-requires : (t : ℕ) → list-rest-lts.Need-template-requires (list-rest-claims t) (list-rest-at t) list-rest.Post
+list-rest-template-requires : (t : ℕ) → list-rest-lts.Need-template-head_word-requires (list-rest-claims t) (list-rest-at t) list-rest.Post
 list-rest-template-requires t c κs =
-    let at-element-depth = c.before in
-    let at-dots-next = at-element-depth.before in
-    let at-reference2 = at-dots-next.before.before.before in
-    let at-args = entry t at-reference2 in
-    let a = at-args.args in
-    let p = at-args.pre in
-    let here = opened t at-reference2 in
+    let a = c.args in
+    let p = c.requires in
+    let here = opened t c.before.before.before.before in
     let below = head-below a.work.now a.node a.scope.wrap a.top here.asks _ _ here.is-pair here.head-is here.rest-is in
-    let deeper = deeper-by (dots_under a.work.now a.scope) (tree_at a.work.now _ a.scope.wrap) a.scope.d _ _ at-element-depth.element-depth.ensures at-dots-next.dots-next.ensures in
+    let deeper = deeper-by (dots_under a.work.now a.scope) (tree_at a.work.now _ a.scope.wrap) a.scope.d _ _ c.element_depth.ensures c.dots_next-followed.ensures in
     (omega (arith, p.0, below), (asks-head a.work.now a.node a.scope.wrap a.top here.asks _ _ here.is-pair here.head-is here.rest-is, p.1.1, p.1.2, p.1.3, p.1.4, omega (arith, p.1.5, below, deeper-most _ _ _ _ deeper)))
 
-list-rest-returns-3 : (t : ℕ) → list-rest-lts.Need-returns-3 (list-rest-claims t) (list-rest-at t) list-rest.Post
+list-rest-returns-3 : (t : ℕ) → list-rest-lts.Need-returns-in_default (list-rest-claims t) (list-rest-at t) list-rest.Post
 unfolding built_of
 list-rest-returns-3 t c =
-    let at-parts = c.before.before in
-    let at-template = at-parts.before.before.before in
-    let at-element-depth = at-template.before.before in
-    let at-dots-next = at-element-depth.before in
-    let at-if2 = at-dots-next.before.before in
-    let at-reference2 = at-if2.before in
-    let a = (entry t at-reference2).args in
-    let here = opened t at-reference2 in
-    let untaken = at-if2.if2.false in
-    let next = at-dots-next.dots-next.ensures in
-    let deeper = deeper-by (dots_under a.work.now a.scope) (tree_at a.work.now _ a.scope.wrap) a.scope.d _ _ at-element-depth.element-depth.ensures next in
-    let first = at-template.template in
-    left-bad here untaken next deeper first.new.0 (built_of first.result) (sym at-parts.parts.ensures ∙ c.enum_told.given.1) first.ensures
+    let a = c.args in
+    let here = opened t c.before.before.before.before.before.before.before.before.before in
+    let untaken = c.if-taken.false in
+    let next = c.dots_next-followed.ensures in
+    let deeper = deeper-by (dots_under a.work.now a.scope) (tree_at a.work.now _ a.scope.wrap) a.scope.d _ _ c.element_depth.ensures next in
+    left-bad here untaken next deeper c.template-head_word.new.work (built_of c.template-head_word.result) (sym c.parts.ensures ∙ c.in_default.is) c.template-head_word.ensures
 
-list-rest-list-rest-requires-2 : (t : ℕ) → list-rest-lts.Need-list-rest-requires-2 (list-rest-claims t) (list-rest-at t) list-rest.Post
+list-rest-list-rest-requires-2 : (t : ℕ) → list-rest-lts.Need-list_rest-rest_word-requires (list-rest-claims t) (list-rest-at t) list-rest.Post
 list-rest-list-rest-requires-2 t c κs =
-    let at_a = c.before.before.before.before.before in
-    let at-parts = at_a.before.before in
-    let at-template = at-parts.before.before.before in
-    let at-element-depth = at-template.before.before in
-    let at-dots-next = at-element-depth.before in
-    let at-if2 = at-dots-next.before.before in
-    let at-reference2 = at-if2.before in
-    let at-args = entry t at-reference2 in
-    let a = at-args.args in
-    let p = at-args.pre in
-    let here = opened t at-reference2 in
-    let untaken = at-if2.if2.false in
-    let next = at-dots-next.dots-next.ensures in
-    let deeper = deeper-by (dots_under a.work.now a.scope) (tree_at a.work.now _ a.scope.wrap) a.scope.d _ _ at-element-depth.element-depth.ensures next in
-    let first = at-template.template in
-    let head = made-head here untaken next deeper first.new.0 (built_of first.result) _ _ (sym at-parts.parts.ensures ∙ at_a.a.given.1) first.ensures in
+    let a = c.args in
+    let p = c.requires in
+    let here = opened t c.before.before.before.before.before.before.before.before.before.before.before.before in
+    let untaken = c.if-taken.false in
+    let next = c.dots_next-followed.ensures in
+    let deeper = deeper-by (dots_under a.work.now a.scope) (tree_at a.work.now _ a.scope.wrap) a.scope.d _ _ c.element_depth.ensures next in
+    let head = made-head here untaken next deeper c.template-head_word.new.work (built_of c.template-head_word.result) _ _ (sym c.parts.ensures ∙ c.in-At.is) c.template-head_word.ensures in
     let below = rest_below a.work.now a.node a.scope.wrap a.top here.asks _ _ here.is-pair here.head-is here.rest-is in
-    (omega (arith, p.0, below), (asks_rest a.work.now a.node a.scope.wrap a.top here.asks _ _ here.is-pair here.head-is here.rest-is _ _ _ first.auto.0 head.grows, p.1.1, p.1.2, under-still here untaken next deeper first.auto.0 head, dots-still here untaken next deeper first.auto.0 head, omega (arith, p.1.5, below)))
+    (omega (arith, p.0, below), (asks_rest a.work.now a.node a.scope.wrap a.top here.asks _ _ here.is-pair here.head-is here.rest-is _ _ _ c.template-head_word.auto.work head.grows, p.1.1, p.1.2, under-still here untaken next deeper c.template-head_word.auto.work head, dots-still here untaken next deeper c.template-head_word.auto.work head, omega (arith, p.1.5, below)))
 
-list-rest-returns-4 : (t : ℕ) → list-rest-lts.Need-returns-4 (list-rest-claims t) (list-rest-at t) list-rest.Post
+list-rest-returns-4 : (t : ℕ) → list-rest-lts.Need-returns-in_default-parts (list-rest-claims t) (list-rest-at t) list-rest.Post
 unfolding built_of
 list-rest-returns-4 t c =
-    let at-parts2 = c.before.before in
-    let at-list-rest2 = at-parts2.before.before.before in
-    let at_a = at-list-rest2.before.before.before.before.before.before in
-    let at-parts = at_a.before.before in
-    let at-template = at-parts.before.before.before in
-    let at-element-depth = at-template.before.before in
-    let at-dots-next = at-element-depth.before in
-    let at-if2 = at-dots-next.before.before in
-    let at-reference2 = at-if2.before in
-    let a = (entry t at-reference2).args in
-    let here = opened t at-reference2 in
-    let untaken = at-if2.if2.false in
-    let next = at-dots-next.dots-next.ensures in
-    let deeper = deeper-by (dots_under a.work.now a.scope) (tree_at a.work.now _ a.scope.wrap) a.scope.d _ _ at-element-depth.element-depth.ensures next in
-    let first = at-template.template in
-    let head = made-head here untaken next deeper first.new.0 (built_of first.result) _ _ (sym at-parts.parts.ensures ∙ at_a.a.given.1) first.ensures in
-    let second = at-list-rest2.list-rest2 in
-    left-bad-rest here untaken next deeper first.auto.0 head second.new.0 (built_of second.result) (sym at-parts2.parts2.ensures ∙ c.enum-told2.given.1) second.ensures
+    let a = c.args in
+    let here = opened t c.before.before.before.before.before.before.before.before.before.before.before.before.before.before.before.before.before in
+    let untaken = c.if-taken.false in
+    let next = c.dots_next-followed.ensures in
+    let deeper = deeper-by (dots_under a.work.now a.scope) (tree_at a.work.now _ a.scope.wrap) a.scope.d _ _ c.element_depth.ensures next in
+    let head = made-head here untaken next deeper c.template-head_word.new.work (built_of c.template-head_word.result) _ _ (sym c.parts.ensures ∙ c.in-At.is) c.template-head_word.ensures in
+    left-bad-rest here untaken next deeper c.template-head_word.auto.work head c.list_rest-rest_word.new.work (built_of c.list_rest-rest_word.result) (sym c.parts-then-accepted.ensures ∙ c.in_default-parts.is) c.list_rest-rest_word.ensures
 
-list-rest-put-list-requires : (t : ℕ) → list-rest-lts.Need-put-list-requires (list-rest-claims t) (list-rest-at t) list-rest.Post
+list-rest-put-list-requires : (t : ℕ) → list-rest-lts.Need-put_list-r-requires (list-rest-claims t) (list-rest-at t) list-rest.Post
 list-rest-put-list-requires t c κs =
-    let at_b = c.before.before in
-    let at-parts2 = at_b.before.before in
-    let at-list-rest2 = at-parts2.before.before.before in
-    let at_a = at-list-rest2.before.before.before.before.before.before in
-    let at-parts = at_a.before.before in
-    let at-template = at-parts.before.before.before in
-    let at-element-depth = at-template.before.before in
-    let at-dots-next = at-element-depth.before in
-    let at-if2 = at-dots-next.before.before in
-    let at-reference2 = at-if2.before in
-    let a = (entry t at-reference2).args in
-    let here = opened t at-reference2 in
-    let untaken = at-if2.if2.false in
-    let next = at-dots-next.dots-next.ensures in
-    let deeper = deeper-by (dots_under a.work.now a.scope) (tree_at a.work.now _ a.scope.wrap) a.scope.d _ _ at-element-depth.element-depth.ensures next in
-    let first = at-template.template in
-    let head = made-head here untaken next deeper first.new.0 (built_of first.result) _ _ (sym at-parts.parts.ensures ∙ at_a.a.given.1) first.ensures in
-    let second = at-list-rest2.list-rest2 in
-    let later = made-rest here untaken next deeper first.auto.0 head second.new.0 (built_of second.result) _ _ (sym at-parts2.parts2.ensures ∙ at_b.b.given.1) second.ensures in
-    (room-pair a.work.now a.node a.scope.wrap a.top here.asks _ _ here.is-pair here.head-is here.rest-is _ _ _ first.auto.0 head.grows _ _ _ second.auto.0 later.grows, omega (arith, head.grows.at_most, later.grows.up), later.grows.at_most)
+    let a = c.args in
+    let here = opened t c.before.before.before.before.before.before.before.before.before.before.before.before.before.before.before.before.before.before in
+    let untaken = c.if-taken.false in
+    let next = c.dots_next-followed.ensures in
+    let deeper = deeper-by (dots_under a.work.now a.scope) (tree_at a.work.now _ a.scope.wrap) a.scope.d _ _ c.element_depth.ensures next in
+    let head = made-head here untaken next deeper c.template-head_word.new.work (built_of c.template-head_word.result) _ _ (sym c.parts.ensures ∙ c.in-At.is) c.template-head_word.ensures in
+    let later = made-rest here untaken next deeper c.template-head_word.auto.work head c.list_rest-rest_word.new.work (built_of c.list_rest-rest_word.result) _ _ (sym c.parts-then-accepted.ensures ∙ c.in-At-parts.is) c.list_rest-rest_word.ensures in
+    (room-pair a.work.now a.node a.scope.wrap a.top here.asks _ _ here.is-pair here.head-is here.rest-is _ _ _ c.template-head_word.auto.work head.grows _ _ _ c.list_rest-rest_word.auto.work later.grows, omega (arith, head.grows.at_most, later.grows.up), later.grows.at_most)
 
-list-rest-returns-5 : (t : ℕ) → list-rest-lts.Need-returns-5 (list-rest-claims t) (list-rest-at t) list-rest.Post
+list-rest-returns-5 : (t : ℕ) → list-rest-lts.Need-returns-then-accepted (list-rest-claims t) (list-rest-at t) list-rest.Post
 list-rest-returns-5 t c =
-    let at-put-list = c.before.before.before in
-    let at_b = at-put-list.before.before.before in
-    let at-parts2 = at_b.before.before in
-    let at-list-rest2 = at-parts2.before.before.before in
-    let at-if3 = at-list-rest2.before.before in
-    let at-accepted = at-if3.before in
-    let at_a = at-accepted.before.before.before in
-    let at-parts = at_a.before.before in
-    let at-template = at-parts.before.before.before in
-    let at-element-depth = at-template.before.before in
-    let at-dots-next = at-element-depth.before in
-    let at-if2 = at-dots-next.before.before in
-    let at-reference2 = at-if2.before in
-    let a = (entry t at-reference2).args in
-    let here = opened t at-reference2 in
-    let untaken = at-if2.if2.false in
-    let next = at-dots-next.dots-next.ensures in
-    let deeper = deeper-by (dots_under a.work.now a.scope) (tree_at a.work.now _ a.scope.wrap) a.scope.d _ _ at-element-depth.element-depth.ensures next in
-    let first = at-template.template in
-    let head = made-head here untaken next deeper first.new.0 (built_of first.result) _ _ (sym at-parts.parts.ensures ∙ at_a.a.given.1) first.ensures in
-    let second = at-list-rest2.list-rest2 in
-    let later = made-rest here untaken next deeper first.auto.0 head second.new.0 (built_of second.result) _ _ (sym at-parts2.parts2.ensures ∙ at_b.b.given.1) second.ensures in
-    let left = left-list here untaken next deeper first.auto.0 head _ _ _ _ _ (sym at-if3.if3.true ∙ at-accepted.accepted.ensures) later at-put-list.put-list.ensures.1 in
+    let a = c.args in
+    let here = opened t c.before.before.before.before.before.before.before.before.before.before.before.before.before.before.before.before.before.before.before.before.before.before in
+    let untaken = c.if-taken.false in
+    let next = c.dots_next-followed.ensures in
+    let deeper = deeper-by (dots_under a.work.now a.scope) (tree_at a.work.now _ a.scope.wrap) a.scope.d _ _ c.element_depth.ensures next in
+    let head = made-head here untaken next deeper c.template-head_word.new.work (built_of c.template-head_word.result) _ _ (sym c.parts.ensures ∙ c.in-At.is) c.template-head_word.ensures in
+    let later = made-rest here untaken next deeper c.template-head_word.auto.work head c.list_rest-rest_word.new.work (built_of c.list_rest-rest_word.result) _ _ (sym c.parts-then-accepted.ensures ∙ c.in-At-parts.is) c.list_rest-rest_word.ensures in
+    let left = left-list here untaken next deeper c.template-head_word.auto.work head _ _ _ _ _ (sym c.if-accepted.true ∙ c.accepted.ensures) later c.put_list-r.ensures.1 in
     packs-at (TemplateLeft _ _ _ _ _ _ _ _) _ _ _ _ (packs a.work.now a.node a.scope.wrap a.top here.asks) c.pair.ensures left.grows.words left
 
-list-rest-returns-6 : (t : ℕ) → list-rest-lts.Need-returns-6 (list-rest-claims t) (list-rest-at t) list-rest.Post
+list-rest-returns-6 : (t : ℕ) → list-rest-lts.Need-returns (list-rest-claims t) (list-rest-at t) list-rest.Post
 unfolding built_of
 list-rest-returns-6 t c =
-    let at-accepted = c.before in
-    let at_a = at-accepted.before.before.before in
-    let at-parts = at_a.before.before in
-    let at-template = at-parts.before.before.before in
-    let at-element-depth = at-template.before.before in
-    let at-dots-next = at-element-depth.before in
-    let at-if2 = at-dots-next.before.before in
-    let at-reference2 = at-if2.before in
-    let a = (entry t at-reference2).args in
-    let here = opened t at-reference2 in
-    let untaken = at-if2.if2.false in
-    let next = at-dots-next.dots-next.ensures in
-    let deeper = deeper-by (dots_under a.work.now a.scope) (tree_at a.work.now _ a.scope.wrap) a.scope.d _ _ at-element-depth.element-depth.ensures next in
-    let first = at-template.template in
-    let head = made-head here untaken next deeper first.new.0 (built_of first.result) _ _ (sym at-parts.parts.ensures ∙ at_a.a.given.1) first.ensures in
-    left-undriven here untaken next deeper first.auto.0 head (sym c.if3.false ∙ at-accepted.accepted.ensures)
+    let a = c.args in
+    let here = opened t c.before.before.before.before.before.before.before.before.before.before.before in
+    let untaken = c.if-taken.false in
+    let next = c.dots_next-followed.ensures in
+    let deeper = deeper-by (dots_under a.work.now a.scope) (tree_at a.work.now _ a.scope.wrap) a.scope.d _ _ c.element_depth.ensures next in
+    let head = made-head here untaken next deeper c.template-head_word.new.work (built_of c.template-head_word.result) _ _ (sym c.parts.ensures ∙ c.in-At.is) c.template-head_word.ensures in
+    left-undriven here untaken next deeper c.template-head_word.auto.work head (sym c.if-accepted.false ∙ c.accepted.ensures)
 
-template-template-leaf-requires : (t : ℕ) → template-lts.Need-template-leaf-requires (template-claims t) (template-at t) template.Post
+template-template-leaf-requires : (t : ℕ) → template-lts.Need-template_leaf-requires (template-claims t) (template-at t) template.Post
 template-template-leaf-requires t c κs =
-    let p = c.before.before.before.before.before.before.requires in
-    (p.1.0, p.1.1, p.1.2, λ z. c.before.if1.true (c.before.before.word.ensures ∙ z))
+    let p = c.requires in
+    (p.1.0, p.1.1, p.1.2, λ z. c.if-word-ne-PAIR.true (c.word.ensures ∙ z))
 
-template-returns : (t : ℕ) → template-lts.Need-returns (template-claims t) (template-at t) template.Post
+template-returns : (t : ℕ) → template-lts.Need-returns-then-word-ne-PAIR (template-claims t) (template-at t) template.Post
 template-returns t c =
-    c.before.before.template-leaf.ensures
+    c.template_leaf.ensures
 
 template-template-requires : (t : ℕ) → template-lts.Need-template-requires (template-claims t) (template-at t) template.Post
 template-template-requires t c κs =
-    let at_first = c.before in
-    let at-reference = at_first.before.before.before.before.before in
-    let at-if1 = at-reference.before.before.before.before.before in
-    let at-word = at-if1.before in
-    let at-args = at-word.before.before.before.before in
-    let a = at-args.args in
-    let p = at-args.requires in
+    let a = c.args in
+    let p = c.requires in
     let asks = p.1.0 in
-    let is-pair = sym at-word.word.ensures ∙ at-if1.if1.false in
-    let here = template-here a.work.now a.vars.now a.scope a.node a.top asks p.1.3 p.1.4 is-pair refl at-reference.reference.ensures in
-    let below = inside-below here at_first.first.ensures in
-    (omega (arith, p.0, below), (asks-inside here at_first.first.ensures, p.1.1, p.1.2, p.1.3, some-top here at_first.first.ensures, omega (arith, p.1.5, below)))
+    let is-pair = sym c.word.ensures ∙ c.if-word-ne-PAIR.false in
+    let here = template-here a.work.now a.vars.now a.scope a.node a.top asks p.1.3 p.1.4 is-pair refl c.reference-rest.ensures in
+    let below = inside-below here c.first-inside.ensures in
+    (omega (arith, p.0, below), (asks-inside here c.first-inside.ensures, p.1.1, p.1.2, p.1.3, some-top here c.first-inside.ensures, omega (arith, p.1.5, below)))
 
-template-returns-2 : (t : ℕ) → template-lts.Need-returns-2 (template-claims t) (template-at t) template.Post
+template-returns-2 : (t : ℕ) → template-lts.Need-returns-then-is_list_of (template-claims t) (template-at t) template.Post
 template-returns-2 t c =
-    let at-template = c.before.before in
-    let at_first = at-template.before.before in
-    let at-if3 = at_first.before.before in
-    let at-is-list-of = at-if3.before in
-    let at-reference = at-is-list-of.before.before in
-    let at-if2 = at-reference.before.before in
-    let at-dots-next = at-if2.before in
-    let at-if1 = at-dots-next.before.before in
-    let at-word = at-if1.before in
-    let at-args = at-word.before.before.before.before in
-    let a = at-args.args in
-    let p = at-args.requires in
+    let a = c.args in
+    let p = c.requires in
     let asks = p.1.0 in
-    let is-pair = sym at-word.word.ensures ∙ at-if1.if1.false in
-    let here = template-here a.work.now a.vars.now a.scope a.node a.top asks p.1.3 p.1.4 is-pair refl at-reference.reference.ensures in
-    let l = at-template.template in
-    left-escape here at_first.first.ensures l.new.0 (built_of l.result) (sym at-if2.if2.true ∙ at-dots-next.dots-next.ensures) (sym at-if3.if3.true ∙ at-is-list-of.is-list-of.ensures a.scope.wrap) l.ensures
+    let is-pair = sym c.word.ensures ∙ c.if-word-ne-PAIR.false in
+    let here = template-here a.work.now a.vars.now a.scope a.node a.top asks p.1.3 p.1.4 is-pair refl c.reference-rest.ensures in
+    left-escape here c.first-inside.ensures c.template.new.work (built_of c.template.result) (sym c.if-dots_next.true ∙ c.dots_next.ensures) (sym c.if-is_list_of.true ∙ c.is_list_of.ensures a.scope.wrap) c.template.ensures
 
-template-returns-3 : (t : ℕ) → template-lts.Need-returns-3 (template-claims t) (template-at t) template.Post
+template-returns-3 : (t : ℕ) → template-lts.Need-returns-then-dots_next (template-claims t) (template-at t) template.Post
 unfolding built_of
 template-returns-3 t c =
-    let at-is-list-of = c.before in
-    let at-reference = at-is-list-of.before.before in
-    let at-if2 = at-reference.before.before in
-    let at-dots-next = at-if2.before in
-    let at-if1 = at-dots-next.before.before in
-    let at-word = at-if1.before in
-    let at-args = at-word.before.before.before.before in
-    let a = at-args.args in
-    let p = at-args.requires in
+    let a = c.args in
+    let p = c.requires in
     let asks = p.1.0 in
-    let is-pair = sym at-word.word.ensures ∙ at-if1.if1.false in
-    let here = template-here a.work.now a.vars.now a.scope a.node a.top asks p.1.3 p.1.4 is-pair refl at-reference.reference.ensures in
-    left-unescaped here (sym at-if2.if2.true ∙ at-dots-next.dots-next.ensures) (sym c.if3.false ∙ at-is-list-of.is-list-of.ensures a.scope.wrap)
+    let is-pair = sym c.word.ensures ∙ c.if-word-ne-PAIR.false in
+    let here = template-here a.work.now a.vars.now a.scope a.node a.top asks p.1.3 p.1.4 is-pair refl c.reference-rest.ensures in
+    left-unescaped here (sym c.if-dots_next.true ∙ c.dots_next.ensures) (sym c.if-is_list_of.false ∙ c.is_list_of.ensures a.scope.wrap)
 
-template-list-rest-requires : (t : ℕ) → template-lts.Need-list-rest-requires (template-claims t) (template-at t) template.Post
+template-list-rest-requires : (t : ℕ) → template-lts.Need-list_rest-requires (template-claims t) (template-at t) template.Post
 template-list-rest-requires t c κs =
-    let p = c.before.before.before.before.before.before.before.before.before.requires in
+    let p = c.requires in
     (omega (arith, p.0), p.1)
 
-template-returns-4 : (t : ℕ) → template-lts.Need-returns-4 (template-claims t) (template-at t) template.Post
+template-returns-4 : (t : ℕ) → template-lts.Need-returns (template-claims t) (template-at t) template.Post
 unfolding rest_place
 template-returns-4 t c =
-    let at-list-rest = c.before.before in
-    let at-if2 = at-list-rest.before.before in
-    let at-dots-next = at-if2.before in
-    let at-if1 = at-dots-next.before.before in
-    let at-word = at-if1.before in
-    let at-args = at-word.before.before.before.before in
-    let a = at-args.args in
-    let p = at-args.requires in
+    let a = c.args in
+    let p = c.requires in
     let asks = p.1.0 in
-    let is-pair = sym at-word.word.ensures ∙ at-if1.if1.false in
+    let is-pair = sym c.word.ensures ∙ c.if-word-ne-PAIR.false in
     let here = template-here a.work.now a.vars.now a.scope a.node a.top asks p.1.3 p.1.4 is-pair refl refl in
-    let l = at-list-rest.list-rest in
-    left-plain here l.new.0 (built_of l.result) (sym at-if2.if2.false ∙ at-dots-next.dots-next.ensures) l.ensures
+    left-plain here c.list_rest.new.work (built_of c.list_rest.result) (sym c.if-dots_next.false ∙ c.dots_next.ensures) c.list_rest.ensures
 
-pub +list-rest-template-spec : {M : Type 1} → statement M
-+list-rest-template-spec = close μ-list-rest μ-template (λ t. list-rest-lts.spec (list-rest-claims t)
+pub +list_rest_template_spec : {M : Type 1} → statement M
++list_rest_template_spec = close μ-list-rest μ-template (λ t. list-rest-lts.spec (list-rest-claims t)
     (list-rest-at t)
     list-rest.Post
     (λ c κs. search rules)  -- list-rest-word-requires

@@ -7,13 +7,13 @@ use Rattle.rule_cells.specs.Drive.{accepted-dots, accepted-plain}
 driven-requires : tie.Need-driven-requires
 driven-requires c κs = search rules
 
-returns : tie.Need-returns
+returns : tie.Need-returns-then-dots
 returns c =
-    let a = c.before.before.before.args in accepted-dots a.work.now a.at a.dots _ c.before.if1.true c.driven.ensures
+    let a = c.args in accepted-dots a.work.now a.at a.dots _ c.if-dots.true c.driven.ensures
 
-returns-2 : tie.Need-returns-2
+returns-2 : tie.Need-returns
 returns-2 c =
-    let a = c.before.before.args in accepted-plain a.work.now a.at a.dots c.if1.false
+    let a = c.args in accepted-plain a.work.now a.at a.dots c.if-dots.false
 
-pub accepted-spec : {M : Type 1} → statement M
-accepted-spec = tie.close (tie.spec driven-requires returns returns-2)
+pub accepted_spec : {M : Type 1} → statement M
+accepted_spec = tie.close (tie.spec driven-requires returns returns-2)

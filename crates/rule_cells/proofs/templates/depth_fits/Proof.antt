@@ -7,5 +7,5 @@ returns : tie.Need-returns
 returns c =
     let a = c.args in depth-fits a.d a.here
 
-pub depth-fits-spec : {M : Type 1} → statement M
-depth-fits-spec = tie.close (tie.spec returns)
+pub depth_fits_spec : {M : Type 1} → statement M
+depth_fits_spec = tie.close (tie.spec returns)

@@ -15,49 +15,34 @@ use Rattle.rule_cells.specs.TemplateLaws.{left-name, left-empty, left-constant}
 use mathlib.Core.Path.{sym, ◌∙◌}
 use Rattle.rule_cells.specs.Scopes.{dots_under, variables_under}
 
-template-name-requires : tie.Need-template-name-requires
+template-name-requires : tie.Need-template_name-requires
 template-name-requires c κs =
-    let at-args = c.before.before.before.before.before.before in
-    let a = at-args.args in
-    (room-leaf a.work.now a.node a.scope.wrap a.top at-args.requires.0, leaf-packs a.work.now a.node a.scope.wrap a.top at-args.requires.0, at-args.requires.0.node-below, at-args.requires.0.wrap-below, at-args.requires.1, at-args.requires.2)
+    let a = c.args in
+    (room-leaf a.work.now a.node a.scope.wrap a.top c.requires.0, leaf-packs a.work.now a.node a.scope.wrap a.top c.requires.0, c.requires.0.node-below, c.requires.0.wrap-below, c.requires.1, c.requires.2)
 
-returns : tie.Need-returns
+returns : tie.Need-returns-then-kind-eq-NAME
 returns c =
-    let at-template-name = c.before.before in
-    let at-if1 = at-template-name.before.before in
-    let at-word = at-if1.before in
-    let a = at-word.before.before.before.before.args in
-    left-name (dots_under a.work.now a.scope) (variables_under a.work.now a.vars.now a.scope) a.scope.d a.work.now a.node a.scope.wrap a.top at-template-name.template-name.new.0 (built_of at-template-name.template-name.result) (sym at-word.word.ensures ∙ at-if1.if1.true) at-template-name.template-name.ensures
+    let a = c.args in
+    left-name (dots_under a.work.now a.scope) (variables_under a.work.now a.vars.now a.scope) a.scope.d a.work.now a.node a.scope.wrap a.top c.template_name.new.work (built_of c.template_name.result) (sym c.word-kind.ensures ∙ c.if-kind-eq-NAME.true) c.template_name.ensures
 
-returns-2 : tie.Need-returns-2
+returns-2 : tie.Need-returns-then-kind-eq-EMPTY
 returns-2 c =
-    let at-if2 = c.before in
-    let at-word = at-if2.before.before in
-    let at-args = at-word.before.before.before.before in
-    let a = at-args.args in
-    let left = left-empty (dots_under a.work.now a.scope) (variables_under a.work.now a.vars.now a.scope) a.scope.d a.work.now a.node a.scope.wrap a.top (sym at-word.word.ensures ∙ at-if2.if2.true) in
-    packs-at (TemplateLeft _ _ _ _ _ _ _ _) _ _ _ _ (packs a.work.now a.node a.scope.wrap a.top at-args.requires.0) c.pair.ensures left.grows.words left
+    let a = c.args in
+    let left = left-empty (dots_under a.work.now a.scope) (variables_under a.work.now a.vars.now a.scope) a.scope.d a.work.now a.node a.scope.wrap a.top (sym c.word-kind.ensures ∙ c.if-kind-eq-EMPTY.true) in
+    packs-at (TemplateLeft _ _ _ _ _ _ _ _) _ _ _ _ (packs a.work.now a.node a.scope.wrap a.top c.requires.0) c.pair.ensures left.grows.words left
 
-put-constant-requires : tie.Need-put-constant-requires
+put-constant-requires : tie.Need-put_constant-r-requires
 put-constant-requires c κs =
-    let at-args = c.before.before.before.before.before.before.before.before.before.before.before in
-    let a = at-args.args in room-leaf a.work.now a.node a.scope.wrap a.top at-args.requires.0
+    let a = c.args in room-leaf a.work.now a.node a.scope.wrap a.top c.requires.0
 
-returns-3 : tie.Need-returns-3
+returns-3 : tie.Need-returns
 returns-3 c =
-    let at-put-constant = c.before.before.before in
-    let at-word3 = at-put-constant.before.before in
-    let at-word2 = at-word3.before.before in
-    let at-if2 = at-word2.before.before in
-    let at-if1 = at-if2.before in
-    let at-word = at-if1.before in
-    let at-args = at-word.before.before.before.before in
-    let a = at-args.args in
-    let left = left-constant (dots_under a.work.now a.scope) (variables_under a.work.now a.vars.now a.scope) a.scope.d a.work.now a.node a.scope.wrap a.top _ _ _ _ _ at-word.word.ensures at-word2.word2.ensures at-word3.word3.ensures (λ z. at-if2.if2.false (at-word.word.ensures ∙ z)) (λ z. at-if1.if1.false (at-word.word.ensures ∙ z)) at-args.requires.3 at-put-constant.put-constant.ensures.1 in
-    packs-at (TemplateLeft _ _ _ _ _ _ _ _) _ _ _ _ (packs a.work.now a.node a.scope.wrap a.top at-args.requires.0) c.pair2.ensures left.grows.words left
+    let a = c.args in
+    let left = left-constant (dots_under a.work.now a.scope) (variables_under a.work.now a.vars.now a.scope) a.scope.d a.work.now a.node a.scope.wrap a.top _ _ _ _ _ c.word-kind.ensures c.word-first.ensures c.word-second.ensures (λ z. c.if-kind-eq-EMPTY.false (c.word-kind.ensures ∙ z)) (λ z. c.if-kind-eq-NAME.false (c.word-kind.ensures ∙ z)) c.requires.3 c.put_constant-r.ensures.1 in
+    packs-at (TemplateLeft _ _ _ _ _ _ _ _) _ _ _ _ (packs a.work.now a.node a.scope.wrap a.top c.requires.0) c.pair-2.ensures left.grows.words left
 
-pub template-leaf-spec : {M : Type 1} → statement M
-template-leaf-spec =
+pub template_leaf_spec : {M : Type 1} → statement M
+template_leaf_spec =
     tie.close
     (tie.spec
     (λ c κs. search rules)  -- word-requires

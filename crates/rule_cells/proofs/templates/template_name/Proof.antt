@@ -21,53 +21,34 @@ use Rattle.arena.specs.Arena.{name_at}
 use mathlib.Core.Path.{refl, sym, ◌∙◌}
 use Rattle.rule_cells.specs.Scopes.{dots_under, variables_under}
 
-returns : tie.Need-returns
+returns : tie.Need-returns-then-is_ellipsis
 unfolding built_of
 returns c =
-    let a = c.before.before.before.before.before.args in
-    left-dots (dots_under a.work.now a.scope) (variables_under a.work.now a.vars.now a.scope) a.scope.d (name_at a.work.now a.node a.scope.wrap) a.work.now a.top (sym c.before.is-ellipsis.ensures ∙ c.if1.true)
+    let a = c.args in
+    left-dots (dots_under a.work.now a.scope) (variables_under a.work.now a.vars.now a.scope) a.scope.d (name_at a.work.now a.node a.scope.wrap) a.work.now a.top (sym c.is_ellipsis.ensures ∙ c.if-is_ellipsis.true)
 
-returns-2 : tie.Need-returns-2
+returns-2 : tie.Need-returns-then-depth_fits
 unfolding size
 returns-2 c =
-    let at-put-variable-template = c.before.before.before in
-    let at-if2 = at-put-variable-template.before.before in
-    let at-depth-fits = at-if2.before in
-    let at-k = at-depth-fits.before.before in
-    let at-find = at-k.before.before in
-    let at-if1 = at-find.before.before in
-    let at-is-ellipsis = at-if1.before in
-    let at-args = at-is-ellipsis.before.before.before.before in
-    let a = at-args.args in
-    let left = left-variable (dots_under a.work.now a.scope) (variables_under a.work.now a.vars.now a.scope) a.scope.d (name_at a.work.now a.node a.scope.wrap) a.work.now a.top _ _ _ _ (sym at-is-ellipsis.is-ellipsis.ensures ∙ at-if1.if1.false) (found_at _ _ _ _ at-k.k.given.1 at-find.find.ensures) (sym at-if2.if2.true ∙ at-depth-fits.depth-fits.ensures) at-put-variable-template.put-variable-template.ensures in
-    packs-at (TemplateLeft _ _ _ _ _ _ _ _) _ _ _ _ at-args.requires.1 c.pair.ensures left.grows.words left
+    let a = c.args in
+    let left = left-variable (dots_under a.work.now a.scope) (variables_under a.work.now a.vars.now a.scope) a.scope.d (name_at a.work.now a.node a.scope.wrap) a.work.now a.top _ _ _ _ (sym c.is_ellipsis.ensures ∙ c.if-is_ellipsis.false) (found_at _ _ _ _ c.in-At.is c.find.ensures) (sym c.if-depth_fits.true ∙ c.depth_fits.ensures) c.put_variable_template-r.ensures in
+    packs-at (TemplateLeft _ _ _ _ _ _ _ _) _ _ _ _ c.requires.1 c.pair.ensures left.grows.words left
 
-returns-3 : tie.Need-returns-3
+returns-3 : tie.Need-returns-in-At
 unfolding built_of
 returns-3 c =
-    let at-depth-fits = c.before in
-    let at-k = at-depth-fits.before.before in
-    let at-find = at-k.before.before in
-    let at-if1 = at-find.before.before in
-    let at-is-ellipsis = at-if1.before in
-    let a = at-is-ellipsis.before.before.before.before.args in
-    left-depth (dots_under a.work.now a.scope) (variables_under a.work.now a.vars.now a.scope) a.scope.d (name_at a.work.now a.node a.scope.wrap) a.work.now a.top _ _ (sym at-is-ellipsis.is-ellipsis.ensures ∙ at-if1.if1.false) (found_at _ _ _ _ at-k.k.given.1 at-find.find.ensures) (sym c.if2.false ∙ at-depth-fits.depth-fits.ensures)
+    let a = c.args in
+    left-depth (dots_under a.work.now a.scope) (variables_under a.work.now a.vars.now a.scope) a.scope.d (name_at a.work.now a.node a.scope.wrap) a.work.now a.top _ _ (sym c.is_ellipsis.ensures ∙ c.if-is_ellipsis.false) (found_at _ _ _ _ c.in-At.is c.find.ensures) (sym c.if-depth_fits.false ∙ c.depth_fits.ensures)
 
-returns-4 : tie.Need-returns-4
+returns-4 : tie.Need-returns
 unfolding size
 returns-4 c =
-    let at-put-insert = c.before.before.before in
-    let at-enum-told = at-put-insert.before.before in
-    let at-find = at-enum-told.before.before in
-    let at-if1 = at-find.before.before in
-    let at-is-ellipsis = at-if1.before in
-    let at-args = at-is-ellipsis.before.before.before.before in
-    let a = at-args.args in
-    let left = left-insert (dots_under a.work.now a.scope) (variables_under a.work.now a.vars.now a.scope) a.scope.d (name_at a.work.now a.node a.scope.wrap) a.work.now a.top a.node a.scope.wrap _ _ refl (sym at-is-ellipsis.is-ellipsis.ensures ∙ at-if1.if1.false) (found-not _ _ at-enum-told.enum_told.given.1 at-find.find.ensures) at-put-insert.put-insert.ensures in
-    packs-at (TemplateLeft _ _ _ _ _ _ _ _) _ _ _ _ at-args.requires.1 c.pair2.ensures left.grows.words left
+    let a = c.args in
+    let left = left-insert (dots_under a.work.now a.scope) (variables_under a.work.now a.vars.now a.scope) a.scope.d (name_at a.work.now a.node a.scope.wrap) a.work.now a.top a.node a.scope.wrap _ _ refl (sym c.is_ellipsis.ensures ∙ c.if-is_ellipsis.false) (found-not _ _ c.in-Not.is c.find.ensures) c.put_insert-r.ensures in
+    packs-at (TemplateLeft _ _ _ _ _ _ _ _) _ _ _ _ c.requires.1 c.pair-2.ensures left.grows.words left
 
-pub template-name-spec : {M : Type 1} → statement M
-template-name-spec =
+pub template_name_spec : {M : Type 1} → statement M
+template_name_spec =
     tie.close
     (tie.spec
     (λ c κs. search rules)  -- is-ellipsis-requires

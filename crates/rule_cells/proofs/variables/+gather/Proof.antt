@@ -34,122 +34,75 @@ gather-below t = and 2 gather-kinds.ps (falls 2 gather-kinds.ps ◌<◌ μ-gathe
 abbrev gather-claims : ℕ → gather-lts.Claims
 gather-claims t = (word-reads.Asked, word-reads.Learnt, reference-reads.Asked, reference-reads.Learnt, depth-before-reads.Asked, depth-before-reads.Learnt, gather-below t, gather.Post, gather-name-reads.Asked, gather-name-reads.Learnt)
 
-abbrev gather-Inv-loop : gather-lts.invariant-loop
+abbrev gather-Inv-loop : gather-lts.invariant-loop-head
 gather-Inv-loop work vars₀ form node d n at₀ m₀ vars at m =
     (length vars ≡ length vars₀) × Gathering (dots_of work form) (literals_of work form) d work form.wrap node n vars₀ at m vars
 
-abbrev gather-μ-loop : gather-lts.decreases-loop
+abbrev gather-μ-loop : gather-lts.decreases-loop-head
 gather-μ-loop work vars₀ form node d n at₀ m₀ vars at m =
     at
 
-gather-loop-holds : (t : ℕ) → gather-lts.Need-loop-init (gather-claims t) (gather-at t) gather.Post gather-Inv-loop gather-μ-loop
+gather-loop-holds : (t : ℕ) → gather-lts.Need-loop-head-init (gather-claims t) (gather-at t) gather.Post gather-Inv-loop gather-μ-loop
 gather-loop-holds t c =
-    let a = c.before.before.args in
-    (refl, gathering-begins a.work.now a.form.wrap a.node a.n a.vars.now (dots_of a.work.now a.form) (literals_of a.work.now a.form) a.d c.before.before.requires.1.1)
+    let a = c.args in
+    (refl, gathering-begins a.work.now a.form.wrap a.node a.n a.vars.now (dots_of a.work.now a.form) (literals_of a.work.now a.form) a.d c.requires.1.1)
 
-gather-depth-before-requires : (t : ℕ) → gather-lts.Need-depth-before-requires (gather-claims t) (gather-at t) gather.Post gather-Inv-loop gather-μ-loop
+gather-depth-before-requires : (t : ℕ) → gather-lts.Need-depth_before-inner-requires (gather-claims t) (gather-at t) gather.Post gather-Inv-loop gather-μ-loop
 gather-depth-before-requires t c κs =
-    let at-if1 = c.before.before in
-    let at-word = at-if1.before in
-    let at-loop = at-word.before in
-    let at-args = at-loop.before.before.before in
-    let l = at-loop.loop in
-    omega (arith, at-args.requires.1.2, l.invariant.1.low, pair-falls at-args.args.work.now l.at 1 (sym at-word.word.ensures ∙ at-if1.if1.true), c.reference2.ensures)
+    omega (arith, c.requires.1.2, c.loop-head.invariant.1.low, pair-falls c.args.work.now c.loop-head.at 1 (sym c.word.ensures ∙ c.loop-head-test.true), c.reference-rest.ensures)
 
-gather-gather-requires : (t : ℕ) → gather-lts.Need-gather-requires (gather-claims t) (gather-at t) gather.Post gather-Inv-loop gather-μ-loop
+gather-gather-requires : (t : ℕ) → gather-lts.Need-gather-k-requires (gather-claims t) (gather-at t) gather.Post gather-Inv-loop gather-μ-loop
 gather-gather-requires t c κs =
-    let at-depth-before = c.before in
-    let at-reference = at-depth-before.before.before in
-    let at-if1 = at-reference.before in
-    let at-word = at-if1.before in
-    let at-loop = at-word.before in
-    let at-args = at-loop.before.before.before in
-    let p = at-args.requires in
-    let l = at-loop.loop in
-    let h = pair-falls at-args.args.work.now l.at 2 (sym at-word.word.ensures ∙ at-if1.if1.true) in (
-      omega (arith, p.0, l.invariant.1.low, h, at-reference.reference.ensures),
+    let p = c.requires in
+    let h = pair-falls c.args.work.now c.loop-head.at 2 (sym c.word.ensures ∙ c.loop-head-test.true) in (
+      omega (arith, p.0, c.loop-head.invariant.1.low, h, c.reference-head.ensures),
       (
-        omega (arith, p.1.0, l.invariant.0),
-        l.invariant.1.held,
-        omega (arith, p.1.2, l.invariant.1.low, h, at-reference.reference.ensures, deeper-most _ _ _ _ at-depth-before.depth-before.ensures),
+        omega (arith, p.1.0, c.loop-head.invariant.0),
+        c.loop-head.invariant.1.held,
+        omega (arith, p.1.2, c.loop-head.invariant.1.low, h, c.reference-head.ensures, deeper-most _ _ _ _ c.depth_before-inner.ensures),
       ),
     )
 
-gather-returns : (t : ℕ) → gather-lts.Need-returns (gather-claims t) (gather-at t) gather.Post gather-Inv-loop gather-μ-loop
+gather-returns : (t : ℕ) → gather-lts.Need-returns-then-k (gather-claims t) (gather-at t) gather.Post gather-Inv-loop gather-μ-loop
 unfolding kept_of
 gather-returns t c =
-    let at-gather = c.before.before.before in
-    let at-depth-before = at-gather.before.before in
-    let at-reference2 = at-depth-before.before in
-    let at-reference = at-reference2.before in
-    let at-if1 = at-reference.before in
-    let at-word = at-if1.before in
-    let at-loop = at-word.before in
-    let a = at-loop.before.before.before.args in
-    let l = at-loop.loop in
-    let g = at-gather.gather in
-    l.invariant.1.all g.new.1.0 Bad
-    (gathered-bad a.work.now a.form.wrap l.at l.m l.vars (dots_of a.work.now a.form) (literals_of a.work.now a.form) a.d _ _ _ (sym at-word.word.ensures ∙ at-if1.if1.true) at-reference.reference.ensures at-reference2.reference2.ensures at-depth-before.depth-before.ensures _ (kept_of g.result) (kept-bad g.result c.if2.true) g.ensures)
+    let a = c.args in
+    c.loop-head.invariant.1.all c.gather-k.new.vars Bad
+    (gathered-bad a.work.now a.form.wrap c.loop-head.at c.loop-head.m c.loop-head.vars (dots_of a.work.now a.form) (literals_of a.work.now a.form) a.d _ _ _ (sym c.word.ensures ∙ c.loop-head-test.true) c.reference-head.ensures c.reference-rest.ensures c.depth_before-inner.ensures _ (kept_of c.gather-k.result) (kept-bad c.gather-k.result c.if-k.true) c.gather-k.ensures)
 
-gather-loop-less : (t : ℕ) → gather-lts.Need-loop-smaller (gather-claims t) (gather-at t) gather.Post gather-Inv-loop gather-μ-loop
+gather-loop-less : (t : ℕ) → gather-lts.Need-loop-head-smaller (gather-claims t) (gather-at t) gather.Post gather-Inv-loop gather-μ-loop
 gather-loop-less t c =
-    let at-reference2 = c.before.before.before.before.before.before in
-    let at-if1 = at-reference2.before.before in
-    let at-word = at-if1.before in
-    let at-loop = at-word.before in
-    omega (arith, pair-falls at-loop.before.before.before.args.work.now at-loop.loop.at 1 (sym at-word.word.ensures ∙ at-if1.if1.true), at-reference2.reference2.ensures)
+    omega (arith, pair-falls c.args.work.now c.loop-head.at 1 (sym c.word.ensures ∙ c.loop-head-test.true), c.reference-rest.ensures)
 
-gather-loop-again : (t : ℕ) → gather-lts.Need-loop-preserved (gather-claims t) (gather-at t) gather.Post gather-Inv-loop gather-μ-loop
+gather-loop-again : (t : ℕ) → gather-lts.Need-loop-head-preserved (gather-claims t) (gather-at t) gather.Post gather-Inv-loop gather-μ-loop
 gather-loop-again t c =
-    let at-gather = c.before.before.before in
-    let at-depth-before = at-gather.before.before in
-    let at-reference2 = at-depth-before.before in
-    let at-reference = at-reference2.before in
-    let at-if1 = at-reference.before in
-    let at-word = at-if1.before in
-    let at-loop = at-word.before in
-    let a = at-loop.before.before.before.args in
-    let l = at-loop.loop in
-    let g = at-gather.gather in (
-      g.auto.1.0 ∙ l.invariant.0,
-      gathering-more a.work.now a.form.wrap l.at l.m l.vars (dots_of a.work.now a.form) (literals_of a.work.now a.form) a.d _ _ _ (sym at-word.word.ensures ∙ at-if1.if1.true) at-reference.reference.ensures at-reference2.reference2.ensures at-depth-before.depth-before.ensures _ _ _ _ _
-          (gathered-stored _ _ _ _ _ _ _ (kept_of g.result) _ (kept-count g.result c.if2.false) g.ensures)
-          l.invariant.1,
+    let a = c.args in (
+      c.gather-k.auto.vars ∙ c.loop-head.invariant.0,
+      gathering-more a.work.now a.form.wrap c.loop-head.at c.loop-head.m c.loop-head.vars (dots_of a.work.now a.form) (literals_of a.work.now a.form) a.d _ _ _ (sym c.word.ensures ∙ c.loop-head-test.true) c.reference-head.ensures c.reference-rest.ensures c.depth_before-inner.ensures _ _ _ _ _
+          (gathered-stored _ _ _ _ _ _ _ (kept_of c.gather-k.result) _ (kept-count c.gather-k.result c.if-k.false) c.gather-k.ensures)
+          c.loop-head.invariant.1,
     )
 
-gather-gather-name-requires : (t : ℕ) → gather-lts.Need-gather-name-requires (gather-claims t) (gather-at t) gather.Post gather-Inv-loop gather-μ-loop
+gather-gather-name-requires : (t : ℕ) → gather-lts.Need-gather_name-requires (gather-claims t) (gather-at t) gather.Post gather-Inv-loop gather-μ-loop
 gather-gather-name-requires t c κs =
-    let at-loop = c.before.before.before.before.before in
-    let p = at-loop.before.before.before.requires in
-    let l = at-loop.loop in
-    (omega (arith, p.1.0, l.invariant.0), l.invariant.1.held)
+    let p = c.requires in
+    (omega (arith, p.1.0, c.loop-head.invariant.0), c.loop-head.invariant.1.held)
 
-gather-returns-2 : (t : ℕ) → gather-lts.Need-returns-2 (gather-claims t) (gather-at t) gather.Post gather-Inv-loop gather-μ-loop
+gather-returns-2 : (t : ℕ) → gather-lts.Need-returns-then-word-eq-NAME (gather-claims t) (gather-at t) gather.Post gather-Inv-loop gather-μ-loop
 gather-returns-2 t c =
-    let at-gather-name = c.before.before in
-    let at-if3 = at-gather-name.before.before in
-    let at-word2 = at-if3.before in
-    let at-loop = at-word2.before.before.before in
-    let a = at-loop.before.before.before.args in
-    let l = at-loop.loop in
-    let g = at-gather-name.gather-name in
-    l.invariant.1.all g.new.1.0 (kept_of g.result)
-    (gathered-name a.work.now a.form.wrap l.at l.m l.vars (dots_of a.work.now a.form) (literals_of a.work.now a.form) a.d g.new.1.0 (kept_of g.result) (sym at-word2.word2.ensures ∙ at-if3.if3.true) g.ensures)
+    let a = c.args in
+    c.loop-head.invariant.1.all c.gather_name.new.vars (kept_of c.gather_name.result)
+    (gathered-name a.work.now a.form.wrap c.loop-head.at c.loop-head.m c.loop-head.vars (dots_of a.work.now a.form) (literals_of a.work.now a.form) a.d c.gather_name.new.vars (kept_of c.gather_name.result) (sym c.word-2.ensures ∙ c.if-word-eq-NAME.true) c.gather_name.ensures)
 
-gather-returns-3 : (t : ℕ) → gather-lts.Need-returns-3 (gather-claims t) (gather-at t) gather.Post gather-Inv-loop gather-μ-loop
+gather-returns-3 : (t : ℕ) → gather-lts.Need-returns (gather-claims t) (gather-at t) gather.Post gather-Inv-loop gather-μ-loop
 gather-returns-3 t c =
-    let at-word2 = c.before in
-    let at-if1 = at-word2.before in
-    let at-word = at-if1.before in
-    let at-loop = at-word.before in
-    let a = at-loop.before.before.before.args in
-    let l = at-loop.loop in
+    let a = c.args in
     gathered-count _ _ _ _ _ _ _ _
-    (l.invariant.1.all l.vars (Count l.m)
-    (gathered-other a.work.now a.form.wrap l.at l.m l.vars (dots_of a.work.now a.form) (literals_of a.work.now a.form) a.d (λ z. c.if3.false (at-word2.word2.ensures ∙ z)) (λ z. at-if1.if1.false (at-word.word.ensures ∙ z)) l.invariant.1.held))
+    (c.loop-head.invariant.1.all c.loop-head.vars (Count c.loop-head.m)
+    (gathered-other a.work.now a.form.wrap c.loop-head.at c.loop-head.m c.loop-head.vars (dots_of a.work.now a.form) (literals_of a.work.now a.form) a.d (λ z. c.if-word-eq-NAME.false (c.word-2.ensures ∙ z)) (λ z. c.loop-head-test.false (c.word.ensures ∙ z)) c.loop-head.invariant.1.held))
 
-pub +gather-spec : {M : Type 1} → statement M
-+gather-spec = close μ-gather λ t. gather-lts.spec (gather-claims t)
+pub +gather_spec : {M : Type 1} → statement M
++gather_spec = close μ-gather λ t. gather-lts.spec (gather-claims t)
     (gather-at t)
     gather.Post
     gather-Inv-loop

@@ -8,37 +8,33 @@ use Rattle.rule_cells.specs.GatherLaws.{gathered-count}
 use native.Mathlib.Omega.{arith}
 use lib.ListN.{length-set}
 
-returns : tie.Need-returns
+returns : tie.Need-returns-then-d-gt-DEPTH
 unfolding kept_of
 returns c =
-    let a = c.before.before.before.args in add-deep a.work.now a.w a.vars.now a.n a.node a.d (omega (arith, c.if1.true))
+    let a = c.args in add-deep a.work.now a.w a.vars.now a.n a.node a.d (omega (arith, c.if-d-gt-DEPTH.true))
 
-returns-2 : tie.Need-returns-2
+returns-2 : tie.Need-returns-then-n-ge-VARIABLES
 unfolding kept_of
 returns-2 c =
-    let a = c.before.before.before.before.args in add-many a.work.now a.w a.vars.now a.n a.node a.d c.if2.true
+    let a = c.args in add-many a.work.now a.w a.vars.now a.n a.node a.d c.if-n-ge-VARIABLES.true
 
 find-requires : tie.Need-find-requires
 find-requires c κs =
-    (omega arith, c.before.before.before.before.before.requires.0)
+    (omega arith, c.requires.0)
 
-returns-3 : tie.Need-returns-3
+returns-3 : tie.Need-returns-in-At
 unfolding kept_of
 returns-3 c =
-    let at-k = c.before in
-    let at-find = at-k.before.before in
-    let a = at-find.before.before.before.before.before.before.args in add_twice a.work.now a.w a.vars.now a.n a.node a.d _ (found_at _ _ _ _ at-k.k.given.1 at-find.find.ensures)
+    let a = c.args in add_twice a.work.now a.w a.vars.now a.n a.node a.d _ (found_at _ _ _ _ c.in-At.is c.find.ensures)
 
-slice-write-vars-2 : tie.Need-slice-write-vars-2
+slice-write-vars-2 : tie.Need-bounds-vars-at-2
 slice-write-vars-2 c =
-    simp length-set (omega (arith, c.before.before.before.before.before.before.before.before.requires.0))
+    simp length-set (omega (arith, c.requires.0))
 
-returns-4 : tie.Need-returns-4
+returns-4 : tie.Need-returns
 returns-4 c =
-    let at-find = c.before.before in
-    let at-args = at-find.before.before.before.before.before.before in
-    let a = at-args.args in
-    gathered-count _ _ _ _ _ _ _ _ (add-one a.work.now a.w a.vars.now a.n a.node a.d (omega (arith, at-args.requires.0)) at-args.requires.1 (omega arith) (omega arith) (found-not _ _ c.enum_told.given.1 at-find.find.ensures))
+    let a = c.args in
+    gathered-count _ _ _ _ _ _ _ _ (add-one a.work.now a.w a.vars.now a.n a.node a.d (omega (arith, c.requires.0)) c.requires.1 (omega arith) (omega arith) (found-not _ _ c.in-Not.is c.find.ensures))
 
 pub add_spec : {M : Type 1} → statement M
 add_spec =

@@ -11,17 +11,17 @@ use Rattle.arena.specs.Arena.{word_at, name_at, tree_at}
 use Rattle.rule_cells.specs.Dots.{dots_at}
 use Rattle.rule_cells.specs.VariableLaws.{deeper-by}
 
-dots-next-requires : tie.Need-dots-next-requires
+dots-next-requires : tie.Need-dots_next-requires
 dots-next-requires c κs =
     search rules
 
-element-depth-requires : tie.Need-element-depth-requires
+element-depth-requires : tie.Need-element_depth-requires
 element-depth-requires c κs =
     search rules
 
 returns : tie.Need-returns
 returns c =
-    let a = c.before.before.before.args in deeper-by (dots_at a.work.now a.dots a.w) (tree_at a.work.now a.rest a.w) a.d _ _ c.element-depth.ensures c.before.dots-next.ensures
+    let a = c.args in deeper-by (dots_at a.work.now a.dots a.w) (tree_at a.work.now a.rest a.w) a.d _ _ c.element_depth.ensures c.dots_next.ensures
 
-pub depth-before-spec : {M : Type 1} → statement M
-depth-before-spec = tie.close (tie.spec dots-next-requires element-depth-requires returns)
+pub depth_before_spec : {M : Type 1} → statement M
+depth_before_spec = tie.close (tie.spec dots-next-requires element-depth-requires returns)

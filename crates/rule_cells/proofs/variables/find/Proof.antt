@@ -10,45 +10,35 @@ use Rattle.arena.specs.Arena.{name_at}
 use Rattle.rule_cells.specs.Variables.{variables_from, known_from}
 use Rattle.rule_cells.specs.VariableLaws.{known-all, known-none, known-here, known_more}
 
-abbrev invariant-loop : tie.invariant-loop
+abbrev invariant-loop : tie.invariant-loop-k
 invariant-loop work vars i left node w end k₀ k =
     (k ≤ end) × (known_from work w vars (name_at work node w) end k ≡ variable_from i (variables_from work w vars i left) (name_at work node w))
 
-abbrev decreases-loop : tie.decreases-loop
+abbrev decreases-loop : tie.decreases-loop-k
 decreases-loop work vars i left node w end k₀ k =
     end - k
 
-loop-holds : tie.Need-loop-init invariant-loop decreases-loop
+loop-holds : tie.Need-loop-k-init invariant-loop decreases-loop
 loop-holds c =
-    let a = c.before.before.args in
+    let a = c.args in
     (omega arith, known-all a.work.now a.w a.vars.now (name_at a.work.now a.node a.w) a.i a.left)
 
-returns : tie.Need-returns invariant-loop decreases-loop
+returns : tie.Need-returns-then-same_names invariant-loop decreases-loop
 returns c =
-    let at-if1 = c.before in
-    let at-same-names = at-if1.before in
-    let at-loop-test = at-same-names.before.before in
-    let at-loop = at-loop-test.before in
-    let a = at-loop.before.before.before.args in
-    let l = at-loop.loop in
-    known-here a.work.now a.w a.vars.now (name_at a.work.now a.node a.w) _ _ at-loop-test.loop-test.true (sym at-if1.if1.true ∙ at-same-names.same_names.ensures) ∙ l.invariant.1
+    let a = c.args in
+    known-here a.work.now a.w a.vars.now (name_at a.work.now a.node a.w) _ _ c.loop-k-test.true (sym c.if-same_names.true ∙ c.same_names.ensures) ∙ c.loop-k.invariant.1
 
-loop-again : tie.Need-loop-preserved invariant-loop decreases-loop
+loop-again : tie.Need-loop-k-preserved invariant-loop decreases-loop
 loop-again c =
-    let at-same-names = c.before in
-    let at-loop-test = at-same-names.before.before in
-    let at-loop = at-loop-test.before in
-    let a = at-loop.before.before.before.args in
-    let l = at-loop.loop in
-    let s = at-same-names.same_names in (
+    let a = c.args in (
       omega arith,
-      known_more a.work.now a.w a.vars.now (name_at a.work.now a.node a.w) _ _ at-loop-test.loop-test.true (sym c.if1.false ∙ s.ensures) ∙ l.invariant.1,
+      known_more a.work.now a.w a.vars.now (name_at a.work.now a.node a.w) _ _ c.loop-k-test.true (sym c.if-same_names.false ∙ c.same_names.ensures) ∙ c.loop-k.invariant.1,
     )
 
-returns-2 : tie.Need-returns-2 invariant-loop decreases-loop
+returns-2 : tie.Need-returns invariant-loop decreases-loop
 returns-2 c =
-    let a = c.before.before.before.before.args in
-    known-none a.work.now a.w a.vars.now (name_at a.work.now a.node a.w) _ _ (omega arith) ∙ c.before.loop.invariant.1
+    let a = c.args in
+    known-none a.work.now a.w a.vars.now (name_at a.work.now a.node a.w) _ _ (omega arith) ∙ c.loop-k.invariant.1
 
 pub find_spec : {M : Type 1} → statement M
 find_spec =

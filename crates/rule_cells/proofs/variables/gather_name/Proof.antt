@@ -13,33 +13,30 @@ use borrow.Author.Tests.{not-true, not-false}
 use mathlib.Core.Path.{sym, ◌∙◌}
 use Rattle.rule_cells.specs.Scopes.{dots_of, literals_of}
 
-is-variable-requires : tie.Need-is-variable-requires
+is-variable-requires : tie.Need-is_variable-requires
 is-variable-requires c κs =
     search rules
 
-returns : tie.Need-returns
+returns : tie.Need-returns-then-not-is_variable
 returns c =
-    let a = c.before.before.before.before.args in
-    let no = sym c.before.is-variable.ensures ∙ not-true _ c.if1.true in
-    gathered-count _ _ _ _ _ _ _ _ (gathered-no a.work.now a.form.wrap a.node a.n a.vars.now (dots_of a.work.now a.form) (literals_of a.work.now a.form) a.d (name_at a.work.now a.node a.form.wrap) no c.before.before.before.before.requires.1)
+    let a = c.args in
+    let no = sym c.is_variable.ensures ∙ not-true _ c.if-not-is_variable.true-raw in
+    gathered-count _ _ _ _ _ _ _ _ (gathered-no a.work.now a.form.wrap a.node a.n a.vars.now (dots_of a.work.now a.form) (literals_of a.work.now a.form) a.d (name_at a.work.now a.node a.form.wrap) no c.requires.1)
 
 add-requires : tie.Need-add-requires
 add-requires c κs =
-    (c.before.before.before.before.before.requires.0, c.before.before.before.before.before.requires.1)
+    (c.requires.0, c.requires.1)
 
-same_length : tie.Need-same-length
+same_length : tie.Need-shape_of-vars
 same_length c =
     search rules
 
-returns-2 : tie.Need-returns-2
+returns-2 : tie.Need-returns
 returns-2 c =
-    let at-add = c.before.before in
-    let at-if1 = at-add.before.before in
-    let at-is-variable = at-if1.before in
-    let a = at-is-variable.before.before.before.args in
-    let yes = sym at-is-variable.is-variable.ensures ∙ not-false _ at-if1.if1.false in
-    gathered-one a.work.now a.form.wrap a.node a.n a.vars.now (dots_of a.work.now a.form) (literals_of a.work.now a.form) a.d (name_at a.work.now a.node a.form.wrap) at-add.add.new.1.0 (kept_of at-add.add.result) yes at-add.add.ensures
+    let a = c.args in
+    let yes = sym c.is_variable.ensures ∙ not-false _ c.if-not-is_variable.false-raw in
+    gathered-one a.work.now a.form.wrap a.node a.n a.vars.now (dots_of a.work.now a.form) (literals_of a.work.now a.form) a.d (name_at a.work.now a.node a.form.wrap) c.add.new.vars (kept_of c.add.result) yes c.add.ensures
 
-pub gather-name-spec : {M : Type 1} → statement M
-gather-name-spec =
+pub gather_name_spec : {M : Type 1} → statement M
+gather_name_spec =
     tie.close (tie.spec is-variable-requires returns add-requires same_length returns-2)

@@ -12,48 +12,37 @@ use Rattle.arena.specs.Arena.{name_at, tree_at}
 use Rattle.arena.specs.ListLaws.{pair-falls}
 use Rattle.rule_cells.specs.VariableLaws.{any_head, any-tail}
 
-abbrev invariant-loop : tie.invariant-loop
+abbrev invariant-loop : tie.invariant-loop-first
 invariant-loop work list node w at₀ at =
     true ≡ any_of (same (name_at work node w)) (names (tree_at work at w)) → true ≡ any_of (same (name_at work node w)) (names (tree_at work list w))
 
-abbrev decreases-loop : tie.decreases-loop
+abbrev decreases-loop : tie.decreases-loop-first
 decreases-loop work list node w at₀ at = at
 
-loop-holds : tie.Need-loop-init invariant-loop decreases-loop
+loop-holds : tie.Need-loop-first-init invariant-loop decreases-loop
 loop-holds c = λ h. h
 
-returns : tie.Need-returns invariant-loop decreases-loop
+returns : tie.Need-returns-then-is_copy invariant-loop decreases-loop
 returns c =
-    let at-is-copy = c.before in
-    let at-reference = at-is-copy.before in
-    let at-if1 = at-reference.before in
-    let at-word = at-if1.before in
-    let at-loop = at-word.before in
-    let a = at-loop.before.before.args in
-    λ z. at-loop.loop.invariant
-    (any_head a.work.now at-loop.loop.at a.w (same (name_at a.work.now a.node a.w)) _ (sym at-word.word.ensures ∙ at-if1.if1.true) at-reference.reference.ensures (at-is-copy.is-copy.ensures c.if2.true))
+    let a = c.args in
+    λ z. c.loop-first.invariant
+    (any_head a.work.now c.loop-first.at a.w (same (name_at a.work.now a.node a.w)) _ (sym c.word.ensures ∙ c.loop-first-test.true) c.reference-first.ensures (c.is_copy.ensures c.if-is_copy.true))
 
-loop-less : tie.Need-loop-smaller invariant-loop decreases-loop
+loop-less : tie.Need-loop-first-smaller invariant-loop decreases-loop
 loop-less c =
-    let at-if1 = c.before.before.before.before in
-    let at-word = at-if1.before in
-    let at-loop = at-word.before in
-    omega (arith, pair-falls at-loop.before.before.args.work.now at-loop.loop.at 1 (sym at-word.word.ensures ∙ at-if1.if1.true), c.reference2.ensures)
+    omega (arith, pair-falls c.args.work.now c.loop-first.at 1 (sym c.word.ensures ∙ c.loop-first-test.true), c.reference-at.ensures)
 
-loop-again : tie.Need-loop-preserved invariant-loop decreases-loop
+loop-again : tie.Need-loop-first-preserved invariant-loop decreases-loop
 loop-again c =
-    let at-if1 = c.before.before.before.before in
-    let at-word = at-if1.before in
-    let at-loop = at-word.before in
-    let a = at-loop.before.before.args in
-    λ h. at-loop.loop.invariant
-    (any-tail a.work.now at-loop.loop.at a.w (same (name_at a.work.now a.node a.w)) _ (sym at-word.word.ensures ∙ at-if1.if1.true) c.reference2.ensures h)
+    let a = c.args in
+    λ h. c.loop-first.invariant
+    (any-tail a.work.now c.loop-first.at a.w (same (name_at a.work.now a.node a.w)) _ (sym c.word.ensures ∙ c.loop-first-test.true) c.reference-at.ensures h)
 
-returns-2 : tie.Need-returns-2 invariant-loop decreases-loop
+returns-2 : tie.Need-returns invariant-loop decreases-loop
 returns-2 c = λ z. absurd (false≢true z)
 
-pub is-copied-spec : {M : Type 1} → statement M
-is-copied-spec =
+pub is_copied_spec : {M : Type 1} → statement M
+is_copied_spec =
     tie.close
     (tie.spec
     invariant-loop

@@ -8,16 +8,16 @@ use Rattle.recipe.specs.Name.{same}
 use Rattle.arena.specs.Arena.{name_at}
 use Rattle.rule_cells.specs.VariableLaws.{any_name}
 
-returns : tie.Need-returns
+returns : tie.Need-returns-then-word-ne-NAME
 returns c = λ z. absurd (false≢true z)
 
-returns-2 : tie.Need-returns-2
+returns-2 : tie.Need-returns
 returns-2 c =
-    let a = c.before.before.before.before.args in
-    λ z. any_name a.work.now a.first a.w (same (name_at a.work.now a.node a.w)) true (sym c.before.before.word.ensures ∙ c.before.if1.false) (c.are-copies.ensures z)
+    let a = c.args in
+    λ z. any_name a.work.now a.first a.w (same (name_at a.work.now a.node a.w)) true (sym c.word.ensures ∙ c.if-word-ne-NAME.false) (c.are_copies.ensures z)
 
-pub is-copy-spec : {M : Type 1} → statement M
-is-copy-spec =
+pub is_copy_spec : {M : Type 1} → statement M
+is_copy_spec =
     tie.close
     (tie.spec
     (λ c κs. search rules)  -- word-requires

@@ -39,12 +39,11 @@ loop-less c =
 
 -- src/machine.rt:32:5
 loop-again : tie.Need-loop-turn-preserved-in-Begins invariant-loop decreases-loop
-loop-again c =
-    (
-      c.begin-turn.auto.table ∙ c.loop-turn.invariant.0,
-      c.loop-turn.invariant.1,
-      follows_then (follows-as c.loop-turn.invariant.2 c.in-Begins.is) _ _ (λ whole x. (c.begin-turn.ensures whole x).0),
-    )
+loop-again c = (
+  c.begin-turn.auto.table ∙ c.loop-turn.invariant.0,
+  c.loop-turn.invariant.1,
+  follows_then (follows-as c.loop-turn.invariant.2 c.in-Begins.is) _ _ (λ whole x. (c.begin-turn.ensures whole x).0),
+)
 
 -- src/machine.rt:37:25
 enum-known-turn-2 : tie.Need-enum_known-turn-in-Comes-1 invariant-loop decreases-loop
@@ -68,12 +67,11 @@ returns c =
 
 -- src/machine.rt:41:17
 come-requires : tie.Need-come-turn-requires invariant-loop decreases-loop
-come-requires c κs =
-    (
-      c.loop-turn.invariant.1,
-      omega (arith, c.if-s-eq0.false),
-      (c.args.budget, _, (follows-as c.loop-turn.invariant.2 c.in-Comes.is).stands.1),
-    )
+come-requires c κs = (
+  c.loop-turn.invariant.1,
+  omega (arith, c.if-s-eq0.false),
+  (c.args.budget, _, (follows-as c.loop-turn.invariant.2 c.in-Comes.is).stands.1),
+)
 
 -- src/machine.rt:32:5
 loop-less-2 : tie.Need-loop-turn-smaller invariant-loop decreases-loop
@@ -83,12 +81,11 @@ loop-less-2 c =
 
 -- src/machine.rt:32:5
 loop-again-2 : tie.Need-loop-turn-preserved invariant-loop decreases-loop
-loop-again-2 c =
-    (
-      c.come-turn.auto.table ∙ c.loop-turn.invariant.0,
-      c.loop-turn.invariant.1,
-      follows_then (follows-as c.loop-turn.invariant.2 c.in-Comes.is) _ _ (λ whole x. (c.come-turn.ensures _ whole x).0),
-    )
+loop-again-2 c = (
+  c.come-turn.auto.table ∙ c.loop-turn.invariant.0,
+  c.loop-turn.invariant.1,
+  follows_then (follows-as c.loop-turn.invariant.2 c.in-Comes.is) _ _ (λ whole x. (c.come-turn.ensures _ whole x).0),
+)
 
 -- src/machine.rt:43:25
 enum-known-turn-3 : tie.Need-enum_known-turn-in-Stops-1 invariant-loop decreases-loop

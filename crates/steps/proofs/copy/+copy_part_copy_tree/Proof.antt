@@ -100,8 +100,7 @@ copy-tree-returns-2 t c =
 copy-tree-copy-part-requires : (t : ℕ) → copy-tree-lts.Need-copy_part-requires (copy-tree-claims t) (copy-tree-at t) copy-tree.Post
 copy-tree-copy-part-requires t c κs =
     let a = c.args in
-    let pre = c.requires in
-    (
+    let pre = c.requires in (
       omega (arith, pre.0, c.reference-rest.ensures, pair-falls a.work.now a.node 1 (sym c.word.ensures ∙ c.if-word-ne-PAIR.false)),
       waiting-tail a.work.now a.top a.fuel a.node a.w _ c.if-fuel-eq0.false refl _ c.word.ensures _ _ c.if-word-ne-PAIR.false c.reference-first.ensures c.reference-rest.ensures pre.1,
     )

@@ -136,7 +136,7 @@ each-fits-fits-requires t c κs =
 each-fits-returns-3 : (t : ℕ) → each-fits-lts.Need-returns (each-fits-claims t) (each-fits-at t) each_fits.Post each-fits-Inv-loop each-fits-μ-loop
 each-fits-returns-3 t c =
     let a = c.args in
-    each-ends a.work.now a.p a.list a.w c.loop-first.node c.loop-first.ahead _ c.word.ensures c.loop-first.invariant _ _ c.loop-first-test.false c.reference-rest.ensures c.fits2.ensures
+    each-ends a.work.now a.p a.list a.w c.loop-first.node c.loop-first.ahead _ c.word.ensures c.loop-first.invariant _ _ c.loop-first-test.false c.reference-rest.ensures c.fits.ensures
 
 end-fits-returns : (t : ℕ) → end-fits-lts.Need-returns-then-tag-eq-VARIABLE (end-fits-claims t) (end-fits-at t) end_fits.Post
 end-fits-returns t c =
@@ -172,85 +172,52 @@ end-fits-returns-6 t c =
     let pre = c.requires in
     fits-empty a.work.now a.p _ c.word-tag.ensures a.u a.w _ c.word.ensures c.if-tag-eq-VARIABLE.false c.if-tag-eq-NAME.false c.if-tag-eq-WILDCARD.false c.if-tag-eq-CONSTANT.false pre.1 c.if-tag-eq-ELLIPSIS.false
 
-abbrev fits-Inv-loop : fits-lts.invariant-loop
+abbrev fits-Inv-loop : fits-lts.invariant-loop-p
 fits-Inv-loop work p u w at₀ node₀ at node =
     Along work p u w at node
 
-abbrev fits-μ-loop : fits-lts.decreases-loop
+abbrev fits-μ-loop : fits-lts.decreases-loop-p
 fits-μ-loop work p u w at₀ node₀ at node =
     at
 
-fits-loop-holds : (t : ℕ) → fits-lts.Need-loop-init (fits-claims t) (fits-at t) fits.Post fits-Inv-loop fits-μ-loop
+fits-loop-holds : (t : ℕ) → fits-lts.Need-loop-p-init (fits-claims t) (fits-at t) fits.Post fits-Inv-loop fits-μ-loop
 fits-loop-holds t c =
-    let a = c.before.args in
+    let a = c.args in
     along-begins a.work.now a.p a.u a.w
 
-fits-returns : (t : ℕ) → fits-lts.Need-returns (fits-claims t) (fits-at t) fits.Post fits-Inv-loop fits-μ-loop
+fits-returns : (t : ℕ) → fits-lts.Need-returns-then-word-ne-PAIR (fits-claims t) (fits-at t) fits.Post fits-Inv-loop fits-μ-loop
 fits-returns t c =
-    let a = c.before.before.before.before.before.before.args in
-    let loop = c.before.before.before.before.loop in
-    let word = c.before.before.before.word in
-    let if1 = c.before.before.if1 in
-    let word2 = c.before.word2 in
-    along-ends a.work.now a.p a.u a.w loop.at loop.node loop.invariant _ (fits-no-pair a.work.now loop.at _ word.ensures loop.node a.w _ word2.ensures if1.true c.if2.true)
+    let a = c.args in
+    along-ends a.work.now a.p a.u a.w c.loop-p.at c.loop-p.node c.loop-p.invariant _ (fits-no-pair a.work.now c.loop-p.at _ c.word.ensures c.loop-p.node a.w _ c.word-in-loop-p.ensures c.loop-p-test.true c.if-word-ne-PAIR.true)
 
-fits-part-fits-requires : (t : ℕ) → fits-lts.Need-part-fits-requires (fits-claims t) (fits-at t) fits.Post fits-Inv-loop fits-μ-loop
+fits-part-fits-requires : (t : ℕ) → fits-lts.Need-part_fits-requires (fits-claims t) (fits-at t) fits.Post fits-Inv-loop fits-μ-loop
 fits-part-fits-requires t c κs =
-    let a = c.before.before.before.before.before.before.before.before.args in
-    let loop = c.before.before.before.before.before.before.loop in
-    let word = c.before.before.before.before.before.word in
-    let reference = c.before.reference in
-    omega (arith, loop.invariant.low, tag-falls a.work.now loop.at _ word.ensures 3 _ (λ z. omega arith) reference.ensures)
+    let a = c.args in
+    omega (arith, c.loop-p.invariant.low, tag-falls a.work.now c.loop-p.at _ c.word.ensures 3 _ (λ z. omega arith) c.reference-head.ensures)
 
-fits-returns-2 : (t : ℕ) → fits-lts.Need-returns-2 (fits-claims t) (fits-at t) fits.Post fits-Inv-loop fits-μ-loop
+fits-returns-2 : (t : ℕ) → fits-lts.Need-returns-then-not-part_fits (fits-claims t) (fits-at t) fits.Post fits-Inv-loop fits-μ-loop
 fits-returns-2 t c =
-    let a = c.before.before.before.before.before.before.before.before.before.before.args in
-    let loop = c.before.before.before.before.before.before.before.before.loop in
-    let word = c.before.before.before.before.before.before.before.word in
-    let if1 = c.before.before.before.before.before.before.if1 in
-    let word2 = c.before.before.before.before.before.word2 in
-    let if2 = c.before.before.before.before.if2 in
-    let reference = c.before.before.before.reference in
-    let reference2 = c.before.before.reference2 in
-    let part-fits = c.before.part-fits in
-    along-ends a.work.now a.p a.u a.w loop.at loop.node loop.invariant _ (fits-head-no a.work.now loop.at _ word.ensures loop.node a.w _ word2.ensures _ _ _ if1.true if2.false reference.ensures reference2.ensures part-fits.ensures (not-true _ c.if3.true))
+    let a = c.args in
+    along-ends a.work.now a.p a.u a.w c.loop-p.at c.loop-p.node c.loop-p.invariant _ (fits-head-no a.work.now c.loop-p.at _ c.word.ensures c.loop-p.node a.w _ c.word-in-loop-p.ensures _ _ _ c.loop-p-test.true c.if-word-ne-PAIR.false c.reference-head.ensures c.reference-first.ensures c.part_fits.ensures (not-true _ c.if-not-part_fits.true-raw))
 
-fits-loop-less : (t : ℕ) → fits-lts.Need-loop-smaller (fits-claims t) (fits-at t) fits.Post fits-Inv-loop fits-μ-loop
+fits-loop-less : (t : ℕ) → fits-lts.Need-loop-p-smaller (fits-claims t) (fits-at t) fits.Post fits-Inv-loop fits-μ-loop
 fits-loop-less t c =
-    let a = c.before.before.before.before.before.before.before.before.before.before.before.before.args in
-    let loop = c.before.before.before.before.before.before.before.before.before.before.loop in
-    let word = c.before.before.before.before.before.before.before.before.before.word in
-    let reference3 = c.before.reference3 in
-    tag-falls a.work.now loop.at _ word.ensures 2 _ (λ z. omega arith) reference3.ensures
+    let a = c.args in
+    tag-falls a.work.now c.loop-p.at _ c.word.ensures 2 _ (λ z. omega arith) c.reference-at.ensures
 
-fits-loop-again : (t : ℕ) → fits-lts.Need-loop-preserved (fits-claims t) (fits-at t) fits.Post fits-Inv-loop fits-μ-loop
+fits-loop-again : (t : ℕ) → fits-lts.Need-loop-p-preserved (fits-claims t) (fits-at t) fits.Post fits-Inv-loop fits-μ-loop
 fits-loop-again t c =
-    let a = c.before.before.before.before.before.before.before.before.before.before.before.before.args in
-    let loop = c.before.before.before.before.before.before.before.before.before.before.loop in
-    let word = c.before.before.before.before.before.before.before.before.before.word in
-    let if1 = c.before.before.before.before.before.before.before.before.if1 in
-    let word2 = c.before.before.before.before.before.before.before.word2 in
-    let if2 = c.before.before.before.before.before.before.if2 in
-    let reference = c.before.before.before.before.before.reference in
-    let reference2 = c.before.before.before.before.reference2 in
-    let part-fits = c.before.before.before.part-fits in
-    let if3 = c.before.before.if3 in
-    let reference3 = c.before.reference3 in
-    along-more a.work.now a.p a.u a.w loop.at loop.node loop.invariant _ _ reference3.ensures (fits-tail a.work.now loop.at _ word.ensures loop.node a.w _ word2.ensures _ _ _ if1.true if2.false reference.ensures reference2.ensures part-fits.ensures _ _ (not-false _ if3.false) reference3.ensures c.reference4.ensures)
+    let a = c.args in
+    along-more a.work.now a.p a.u a.w c.loop-p.at c.loop-p.node c.loop-p.invariant _ _ c.reference-at.ensures (fits-tail a.work.now c.loop-p.at _ c.word.ensures c.loop-p.node a.w _ c.word-in-loop-p.ensures _ _ _ c.loop-p-test.true c.if-word-ne-PAIR.false c.reference-head.ensures c.reference-first.ensures c.part_fits.ensures _ _ (not-false _ c.if-not-part_fits.false-raw) c.reference-at.ensures c.reference-node.ensures)
 
-fits-end-fits-requires : (t : ℕ) → fits-lts.Need-end-fits-requires (fits-claims t) (fits-at t) fits.Post fits-Inv-loop fits-μ-loop
+fits-end-fits-requires : (t : ℕ) → fits-lts.Need-end_fits-requires (fits-claims t) (fits-at t) fits.Post fits-Inv-loop fits-μ-loop
 fits-end-fits-requires t c κs =
-    let loop = c.before.before.loop in
-    let word = c.before.word in
-    let if1 = c.if1 in
-    (omega (arith, loop.invariant.low), λ z. if1.false (word.ensures ∙ z))
+    (omega (arith, c.loop-p.invariant.low), λ z. c.loop-p-test.false (c.word.ensures ∙ z))
 
-fits-returns-3 : (t : ℕ) → fits-lts.Need-returns-3 (fits-claims t) (fits-at t) fits.Post fits-Inv-loop fits-μ-loop
+fits-returns-3 : (t : ℕ) → fits-lts.Need-returns (fits-claims t) (fits-at t) fits.Post fits-Inv-loop fits-μ-loop
 fits-returns-3 t c =
-    let a = c.before.before.before.before.before.args in
-    let loop = c.before.before.before.loop in
-    let end_fits = c.end_fits in
-    along-ends a.work.now a.p a.u a.w loop.at loop.node loop.invariant _ end_fits.ensures
+    let a = c.args in
+    along-ends a.work.now a.p a.u a.w c.loop-p.at c.loop-p.node c.loop-p.invariant _ c.end_fits.ensures
 
 part-fits-returns : (t : ℕ) → part-fits-lts.Need-returns-then-word-eq-VARIABLE (part-fits-claims t) (part-fits-at t) part-fits.Post
 part-fits-returns t c =
@@ -264,8 +231,7 @@ part-fits-fits-requires t c κs =
 
 part-fits-returns-2 : (t : ℕ) → part-fits-lts.Need-returns (part-fits-claims t) (part-fits-at t) part-fits.Post
 part-fits-returns-2 t c =
-    let fits2 = c.fits2 in
-    fits2.ensures
+    c.fits.ensures
 
 pub +each_fits_end_fits_fits_part_fits_spec : {M : Type 1} → statement M
 +each_fits_end_fits_fits_part_fits_spec =

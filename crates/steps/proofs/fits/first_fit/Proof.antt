@@ -20,7 +20,7 @@ loop-holds c =
 
 returns : tie.Need-returns-then-fits invariant-loop decreases-loop
 returns c =
-    let a = c.args in tried-fits a.work.now a.rules a.u a.w c.loop-rule.rule c.loop-rule.invariant _ _ c.loop-rule-test.true c.reference.ensures c.fits2.ensures c.if-fits.true
+    let a = c.args in tried-fits a.work.now a.rules a.u a.w c.loop-rule.rule c.loop-rule.invariant _ _ c.loop-rule-test.true c.reference.ensures c.fits.ensures c.if-fits.true
 
 loop-less : tie.Need-loop-rule-smaller invariant-loop decreases-loop
 loop-less c =
@@ -28,7 +28,7 @@ loop-less c =
 
 loop-again : tie.Need-loop-rule-preserved invariant-loop decreases-loop
 loop-again c =
-    let a = c.args in tried-more a.work.now a.rules a.u a.w c.loop-rule.rule c.loop-rule.invariant _ _ c.loop-rule-test.true c.reference.ensures c.fits2.ensures _ c.if-fits.false c.reference-rule.ensures
+    let a = c.args in tried-more a.work.now a.rules a.u a.w c.loop-rule.rule c.loop-rule.invariant _ _ c.loop-rule-test.true c.reference.ensures c.fits.ensures _ c.if-fits.false c.reference-rule.ensures
 
 returns-2 : tie.Need-returns invariant-loop decreases-loop
 returns-2 c =

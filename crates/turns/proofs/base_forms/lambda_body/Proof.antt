@@ -14,62 +14,40 @@ use native.Mathlib.Omega.{arith}
 use mathlib.Core.Path.{◌∙◌}
 use Rattle.turns.specs.LambdaLaws.{lambda-proper, lambda-space, lambda-core, lambda-few, numbers-room, numbers-small, bound_by}
 
-put-three-requires : tie.Need-put-three-requires
+put-three-requires : tie.Need-put_three-at-requires
 put-three-requires c κs =
-    let at-args = c.before.before.before.before.before.before.before.before.before in
-    lambda-core at-args.args.work.now at-args.args.core.now at-args.args.node at-args.args.wrap at-args.args.reached at-args.requires.0 at-args.requires.1
+    lambda-core c.args.work.now c.args.core.now c.args.node c.args.wrap c.args.reached c.requires.0 c.requires.1
 
-put-numbers-requires : tie.Need-put-numbers-requires
+put-numbers-requires : tie.Need-put_numbers-end-requires
 put-numbers-requires c κs =
-    let at-put-three = c.before.before.before.before in
-    let at_count = at-put-three.before.before.before.before in
-    let at-element = at_count.before.before in
-    let at-args = at-element.before.before.before.before in
-    numbers-room at-args.args.work.now at-args.args.core.now at-args.args.node at-args.args.wrap at-args.args.reached at-args.requires.0 at-args.requires.1 _ _ at-element.element.ensures at_count.count.ensures _ _ at-put-three.put_three.ensures at-put-three.put_three.auto.0
+    numbers-room c.args.work.now c.args.core.now c.args.node c.args.wrap c.args.reached c.requires.0 c.requires.1 _ _ c.element-list.ensures c.count-count.ensures _ _ c.put_three-at.ensures c.put_three-at.auto.core
 
-bind-formals-requires : tie.Need-bind-formals-requires
+bind-formals-requires : tie.Need-bind_formals-scope-requires
 bind-formals-requires c κs =
-    let at-args = c.before.before.before.before.before.before.before.before.before.before.before.before.before.before.before.before.before.before in
-    (at-args.requires.1, lambda-proper at-args.args.work.now at-args.args.core.now at-args.args.node at-args.args.wrap at-args.args.reached at-args.requires.0 at-args.requires.1, lambda-space at-args.args.work.now at-args.args.core.now at-args.args.node at-args.args.wrap at-args.args.reached at-args.requires.0 at-args.requires.1)
+    (c.requires.1, lambda-proper c.args.work.now c.args.core.now c.args.node c.args.wrap c.args.reached c.requires.0 c.requires.1, lambda-space c.args.work.now c.args.core.now c.args.node c.args.wrap c.args.reached c.requires.0 c.requires.1)
 
-cast-widened : tie.Need-overflow-cast-widened
+cast-widened : tie.Need-overflow_cast-end
 cast-widened c =
-    let at-put-numbers = c.before.before.before.before.before.before in
-    let at-put-three = at-put-numbers.before.before.before.before.before in
-    let at_count = at-put-three.before.before.before.before in
-    let at-element = at_count.before.before in
-    let at-args = at-element.before.before.before.before in
-    record { fits = numbers-small at-args.args.work.now at-args.args.core.now at-args.args.node at-args.args.wrap at-args.args.reached at-args.requires.0 at-args.requires.1 _ _ at-element.element.ensures at_count.count.ensures _ _ at-put-three.put_three.ensures _ _ at-put-numbers.put-numbers.ensures }
+    record { fits = numbers-small c.args.work.now c.args.core.now c.args.node c.args.wrap c.args.reached c.requires.0 c.requires.1 _ _ c.element-list.ensures c.count-count.ensures _ _ c.put_three-at.ensures _ _ c.put_numbers-end.ensures }
 
 widened-requires : tie.Need-widened-requires
 widened-requires c κs =
-    let at_count = c.before.before.before.before.before.before.before.before.before.before.before.before.before.before.before in
-    let at-element = at_count.before.before in
-    let at-args = at-element.before.before.before.before in
-    lambda-few at-args.args.work.now at-args.args.core.now at-args.args.node at-args.args.wrap at-args.args.reached at-args.requires.0 at-args.requires.1 _ _ at-element.element.ensures at_count.count.ensures
+    lambda-few c.args.work.now c.args.core.now c.args.node c.args.wrap c.args.reached c.requires.0 c.requires.1 _ _ c.element-list.ensures c.count-count.ensures
 
-same_length : tie.Need-same-length
+same_length : tie.Need-shape_of-work
 same_length c =
-    c.before.before.before.bind-formals.auto.0
+    c.bind_formals-scope.auto.work
 
-same-length-2 : tie.Need-same-length-2
+same-length-2 : tie.Need-shape_of-core
 same-length-2 c =
-    let at-put-numbers = c.before.before.before.before.before.before.before in
-    at-put-numbers.put-numbers.auto.1.1.0 ∙ at-put-numbers.before.before.before.before.before.put_three.auto.0
+    c.put_numbers-end.auto.core ∙ c.put_three-at.auto.core
 
 returns : tie.Need-returns
 returns c =
-    let at-bind-formals = c.before.before.before in
-    let at-put-numbers = at-bind-formals.before.before.before.before in
-    let at-put-three = at-put-numbers.before.before.before.before.before in
-    let at-element2 = at-put-three.before.before in
-    let at_count = at-element2.before.before in
-    let at-element = at_count.before.before in
-    let at-args = at-element.before.before.before.before in
-    bound_by at-args.args.work.now at-args.args.core.now at-args.args.node at-args.args.wrap at-args.args.reached at-args.requires.0 at-args.requires.1 _ _ at-element.element.ensures at_count.count.ensures _ _ at-put-three.put_three.ensures _ _ at-put-numbers.put-numbers.ensures _ _ _ _ at-element2.element2.ensures at-bind-formals.bind-formals.ensures _ c.widened.ensures
+    bound_by c.args.work.now c.args.core.now c.args.node c.args.wrap c.args.reached c.requires.0 c.requires.1 _ _ c.element-list.ensures c.count-count.ensures _ _ c.put_three-at.ensures _ _ c.put_numbers-end.ensures _ _ _ _ c.element-body.ensures c.bind_formals-scope.ensures _ c.widened.ensures
 
-pub lambda-body-spec : {M : Type 1} → statement M
-lambda-body-spec =
+pub lambda_body_spec : {M : Type 1} → statement M
+lambda_body_spec =
     tie.close
     (tie.spec
     (λ c κs. search rules)  -- element-requires

@@ -5,59 +5,38 @@ use Rattle.turns.proofs.dispatch.form.Tie as tie
 use Rattle.words.specs.Limits.{macros_most}
 use Rattle.turns.specs.DispatchLaws.{quote-turned, if-turned, lambda-turned, let-syntax-turned, letrec-syntax-turned, auxiliary-turned}
 
-returns : tie.Need-returns
+returns : tie.Need-returns-then-k-eq-QUOTE
 returns c =
-    let at-quoted = c.before.before in
-    let at-if1 = at-quoted.before.before.before in
-    let at-args = at-if1.before.before.before.before in
-    let a = at-args.args in
-    quote-turned macros_most a.work.now a.core.now a.macros.now a.list.node a.list.tail a.list.wrap a.k a.reached at-args.requires.0 _ _ at-if1.if1.true at-quoted.quoted.ensures
+    let a = c.args in
+    quote-turned macros_most a.work.now a.core.now a.macros.now a.list.node a.list.tail a.list.wrap a.k a.reached c.requires.0 _ _ c.if-k-eq-QUOTE.true c.quoted.ensures
 
-returns-2 : tie.Need-returns-2
+returns-2 : tie.Need-returns-then-k-eq-IF
 returns-2 c =
-    let at-condition = c.before.before in
-    let at-if2 = at-condition.before.before.before in
-    let at-args = at-if2.before.before.before.before.before in
-    let a = at-args.args in
-    if-turned macros_most a.work.now a.core.now a.macros.now a.list.node a.list.tail a.list.wrap a.k a.reached at-args.requires.0 at-args.requires.1.binds.placed at-condition.condition.new.1.0 at-condition.condition.result at-if2.if2.true at-condition.condition.ensures
+    let a = c.args in
+    if-turned macros_most a.work.now a.core.now a.macros.now a.list.node a.list.tail a.list.wrap a.k a.reached c.requires.0 c.requires.1.binds.placed c.condition.new.core c.condition.result c.if-k-eq-IF.true c.condition.ensures
 
-returns-3 : tie.Need-returns-3
+returns-3 : tie.Need-returns-then-k-eq-LAMBDA
 returns-3 c =
-    let at-lambda = c.before.before.before.before in
-    let at-if3 = at-lambda.before.before.before in
-    let at-args = at-if3.before.before.before.before.before.before in
-    let a = at-args.args in
-    lambda-turned macros_most a.work.now a.core.now a.macros.now a.list.node a.list.tail a.list.wrap a.k a.reached at-args.requires.0 at-args.requires.1.binds.placed at-lambda.lambda.new.0 at-lambda.lambda.auto.0 at-lambda.lambda.new.1.0 at-lambda.lambda.result at-if3.if3.true at-lambda.lambda.ensures
+    let a = c.args in
+    lambda-turned macros_most a.work.now a.core.now a.macros.now a.list.node a.list.tail a.list.wrap a.k a.reached c.requires.0 c.requires.1.binds.placed c.lambda.new.work c.lambda.auto.work c.lambda.new.core c.lambda.result c.if-k-eq-LAMBDA.true c.lambda.ensures
 
-returns-4 : tie.Need-returns-4
+returns-4 : tie.Need-returns-then-k-eq-LET_SYNTAX
 returns-4 c =
-    let at-let-syntax = c.before.before.before.before in
-    let at-if4 = at-let-syntax.before.before.before in
-    let at-args = at-if4.before.before.before.before.before.before.before in
-    let a = at-args.args in
-    let-syntax-turned macros_most a.work.now a.core.now a.macros.now a.list.node a.list.tail a.list.wrap a.k a.reached at-args.requires.0 at-args.requires.1.binds.placed at-let-syntax.let-syntax.new.0 at-let-syntax.let-syntax.auto.0 at-let-syntax.let-syntax.new.1.0 at-let-syntax.let-syntax.auto.1.0 at-let-syntax.let-syntax.result at-if4.if4.true at-let-syntax.let-syntax.ensures
+    let a = c.args in
+    let-syntax-turned macros_most a.work.now a.core.now a.macros.now a.list.node a.list.tail a.list.wrap a.k a.reached c.requires.0 c.requires.1.binds.placed c.let_syntax.new.work c.let_syntax.auto.work c.let_syntax.new.macros c.let_syntax.auto.macros c.let_syntax.result c.if-k-eq-LET_SYNTAX.true c.let_syntax.ensures
 
-returns-5 : tie.Need-returns-5
+returns-5 : tie.Need-returns-then-k-eq-LETREC_SYNTAX
 returns-5 c =
-    let at-let-syntax2 = c.before.before.before.before in
-    let at-if5 = at-let-syntax2.before.before.before in
-    let at-args = at-if5.before.before.before.before.before.before.before.before in
-    let a = at-args.args in
-    letrec-syntax-turned macros_most a.work.now a.core.now a.macros.now a.list.node a.list.tail a.list.wrap a.k a.reached at-args.requires.0 at-args.requires.1.binds.placed at-let-syntax2.let-syntax2.new.0 at-let-syntax2.let-syntax2.auto.0 at-let-syntax2.let-syntax2.new.1.0 at-let-syntax2.let-syntax2.auto.1.0 at-let-syntax2.let-syntax2.result at-if5.if5.true at-let-syntax2.let-syntax2.ensures
+    let a = c.args in
+    letrec-syntax-turned macros_most a.work.now a.core.now a.macros.now a.list.node a.list.tail a.list.wrap a.k a.reached c.requires.0 c.requires.1.binds.placed c.let_syntax-then-k-eq-LETREC_SYNTAX.new.work c.let_syntax-then-k-eq-LETREC_SYNTAX.auto.work c.let_syntax-then-k-eq-LETREC_SYNTAX.new.macros c.let_syntax-then-k-eq-LETREC_SYNTAX.auto.macros c.let_syntax-then-k-eq-LETREC_SYNTAX.result c.if-k-eq-LETREC_SYNTAX.true c.let_syntax-then-k-eq-LETREC_SYNTAX.ensures
 
-returns-6 : tie.Need-returns-6
+returns-6 : tie.Need-returns
 returns-6 c =
-    let at-if5 = c.before in
-    let at-if4 = at-if5.before in
-    let at-if3 = at-if4.before in
-    let at-if2 = at-if3.before in
-    let at-if1 = at-if2.before in
-    let at-args = at-if1.before.before.before.before in
-    let a = at-args.args in
-    auxiliary-turned macros_most a.work.now a.core.now a.macros.now a.list.node a.list.tail a.list.wrap a.k a.reached at-args.requires.0 _ at-if1.if1.false at-if2.if2.false at-if3.if3.false at-if4.if4.false at-if5.if5.false c.refuse.ensures
+    let a = c.args in
+    auxiliary-turned macros_most a.work.now a.core.now a.macros.now a.list.node a.list.tail a.list.wrap a.k a.reached c.requires.0 _ c.if-k-eq-QUOTE.false c.if-k-eq-IF.false c.if-k-eq-LAMBDA.false c.if-k-eq-LET_SYNTAX.false c.if-k-eq-LETREC_SYNTAX.false c.refuse.ensures
 
-pub form-spec : {M : Type 1} → statement M
-form-spec =
+pub form_spec : {M : Type 1} → statement M
+form_spec =
     tie.close
     (tie.spec
     (λ c κs. search rules)  -- quoted-requires

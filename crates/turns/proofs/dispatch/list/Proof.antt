@@ -6,27 +6,19 @@ use Rattle.turns.specs.DispatchLaws.{name-heads, other-heads, leaf_room}
 
 named-requires : tie.Need-named-requires
 named-requires c κs =
-    let at-if1 = c.before.before.before in
-    let at-is-name = at-if1.before in
-    let at-args = at-is-name.before.before.before.before.before.before in
-    let a = at-args.args in (at-args.requires.0, at-args.requires.1, name-heads a.work.now _ _ at-is-name.is_name.ensures a.list.node _ a.list.wrap at-args.requires.2 at-if1.if1.true)
+    let a = c.args in (c.requires.0, c.requires.1, name-heads a.work.now _ _ c.is_name.ensures a.list.node _ a.list.wrap c.requires.2 c.if-is_name.true)
 
 applied-requires : tie.Need-applied-requires
 applied-requires c κs =
-    let at-args = c.before.before.before.before.before.before.before.before.before in
-    let a = at-args.args in leaf_room a.work.now a.core.now a.macros.now a.fuel a.list.node a.list.wrap a.reached at-args.requires.1 at-args.requires.0
+    let a = c.args in leaf_room a.work.now a.core.now a.macros.now a.fuel a.list.node a.list.wrap a.reached c.requires.1 c.requires.0
 
-returns-2 : tie.Need-returns-2
+returns-2 : tie.Need-returns
 returns-2 c =
-    let at-applied = c.before.before in
-    let at-if1 = at-applied.before.before.before in
-    let at-is-name = at-if1.before in
-    let at-args = at-is-name.before.before.before.before.before.before in
-    let a = at-args.args in
-    λ operations lent. at-applied.applied.ensures a.macros.now at-args.requires.0 (other-heads a.work.now _ _ at-is-name.is_name.ensures a.list.node _ a.list.wrap at-args.requires.2 at-if1.if1.false) operations a.fuel at-args.requires.1
+    let a = c.args in
+    λ operations lent. c.applied.ensures a.macros.now c.requires.0 (other-heads a.work.now _ _ c.is_name.ensures a.list.node _ a.list.wrap c.requires.2 c.if-is_name.false) operations a.fuel c.requires.1
 
-pub list-spec : {M : Type 1} → statement M
-list-spec =
+pub list_spec : {M : Type 1} → statement M
+list_spec =
     tie.close
     (tie.spec
     (λ c κs. search rules)  -- is-name-requires

@@ -14,84 +14,59 @@ use Rattle.turns.specs.ReadyLaws.{ready-use}
 use Rattle.turns.specs.DispatchLaws.{application-room, form-room, nothing-turned, variable-turned, operation-turned, macro-turned, form-heads}
 
 -- what the head finds, by the arm
-means : (c : tie.After-lookup) (f m : Meaning) → c.lookup.result ≡ Finds f → f ≡ m → let a = c.before.before.before.before.before.before.args in means_of m ≡ lookup_in a.operations.now (name_at a.work.now a.list.head a.list.wrap)
+means : (c : tie.After-lookup) (f m : Meaning) → c.lookup.result ≡ Finds f → f ≡ m → let a = c.args in means_of m ≡ lookup_in a.operations.now (name_at a.work.now a.list.head a.list.wrap)
 means c f m g e = ap means_of (sym e) ∙ found-by _ _ c.lookup.ensures f g
 
 room : (c : tie.Start) → CoreRoom c.args.core.now c.args.reached.at 4
 room c = let a = c.args in application-room a.work.now a.core.now a.macros.now a.fuel a.list.node a.list.wrap a.reached c.requires.1 c.requires.0 a.list.tail _ c.requires.2
 
-returns : tie.Need-returns
+returns : tie.Need-returns-in_default
 returns c =
-    let at-enum-told = c.before in
-    let at-lookup = at-enum-told.before.before in
-    let entry = at-lookup.before.before.before.before.before.before in
-    let a = entry.args in
+    let a = c.args in
     let x = name_at a.work.now a.list.head a.list.wrap in
-    λ operations lent. nothing-turned macros_most operations a.work.now a.core.now a.macros.now a.fuel a.list.node a.list.tail a.list.wrap a.reached x entry.requires.2 entry.requires.0 entry.requires.1 _
-    (nothing-by (lookup_in a.operations.now x) _ at-lookup.lookup.ensures at-enum-told.enum_told.given.1 ∙ lookup-in operations a.operations.now x lent) c.refuse.ensures
+    λ operations lent. nothing-turned macros_most operations a.work.now a.core.now a.macros.now a.fuel a.list.node a.list.tail a.list.wrap a.reached x c.requires.2 c.requires.0 c.requires.1 _
+    (nothing-by (lookup_in a.operations.now x) _ c.lookup.ensures c.in_default.is ∙ lookup-in operations a.operations.now x lent) c.refuse.ensures
 
-macro-use-requires : tie.Need-macro-use-requires
+macro-use-requires : tie.Need-macro_use-requires
 macro-use-requires c κs =
-    let entry = c.before.before.before.before.before.before.before.before.before.before.before.before.before.before in
-    let a = entry.args in
-    ready-use a.work.now a.core.now a.macros.now a.fuel a.list.node a.list.wrap a.reached entry.requires.1 entry.requires.0
+    let a = c.args in
+    ready-use a.work.now a.core.now a.macros.now a.fuel a.list.node a.list.wrap a.reached c.requires.1 c.requires.0
 
 form-requires : tie.Need-form-requires
 form-requires c κs =
-    let at-found5 = c.before.before.before.before in
-    let at-found = at-found5.before.before.before in
-    let at_before = at-found.before in
-    let entry = at_before.before.before.before.before.before.before.before in
-    let a = entry.args in (
-      form-heads a.operations.now a.work.now a.list.node a.list.tail a.list.wrap _ (name_at a.work.now a.list.head a.list.wrap) entry.requires.2
-          (means at_before.before _ _ at-found.found.given.1 at-found5.found5.given.1),
-      form-room a.work.now a.core.now a.macros.now a.fuel a.list.node a.list.wrap a.reached entry.requires.1 entry.requires.0,
+    let a = c.args in (
+      form-heads a.operations.now a.work.now a.list.node a.list.tail a.list.wrap _ (name_at a.work.now a.list.head a.list.wrap) c.requires.2
+          (means c.before.before.before.before.before _ _ c.in-Finds.is c.in-Form.is),
+      form-room a.work.now a.core.now a.macros.now a.fuel a.list.node a.list.wrap a.reached c.requires.1 c.requires.0,
     )
 
-returns-2 : tie.Need-returns-2
+returns-2 : tie.Need-returns-in-Variable
 returns-2 c =
-    let at-put-application = c.before.before in
-    let at-found2 = at-put-application.before.before.before.before in
-    let at-found = at-found2.before.before.before in
-    let at_before = at-found.before in
-    let entry = at_before.before.before.before.before.before.before.before in
-    let a = entry.args in
+    let a = c.args in
     let x = name_at a.work.now a.list.head a.list.wrap in
-    λ operations lent. variable-turned macros_most operations a.work.now a.core.now a.macros.now a.fuel a.list.node a.list.tail a.list.wrap a.reached x entry.requires.2 entry.requires.0 entry.requires.1 _ _ _
-    (means at_before.before _ _ at-found.found.given.1 at-found2.found2.given.1 ∙ lookup-in operations a.operations.now x lent) at-put-application.put-application.ensures
+    λ operations lent. variable-turned macros_most operations a.work.now a.core.now a.macros.now a.fuel a.list.node a.list.tail a.list.wrap a.reached x c.requires.2 c.requires.0 c.requires.1 _ _ _
+    (means c.before.before.before.before.before.before _ _ c.in-Finds.is c.in-Variable.is ∙ lookup-in operations a.operations.now x lent) c.put_application.ensures
 
-returns-3 : tie.Need-returns-3
+returns-3 : tie.Need-returns-in-Operation
 returns-3 c =
-    let at-put-application2 = c.before.before in
-    let at-found3 = at-put-application2.before.before.before.before in
-    let at-found = at-found3.before.before.before in
-    let at_before = at-found.before in
-    let entry = at_before.before.before.before.before.before.before.before in
-    let a = entry.args in
+    let a = c.args in
     let x = name_at a.work.now a.list.head a.list.wrap in
-    λ operations lent. operation-turned macros_most operations a.work.now a.core.now a.macros.now a.fuel a.list.node a.list.tail a.list.wrap a.reached x entry.requires.2 entry.requires.0 entry.requires.1 _ _ _
-    (means at_before.before _ _ at-found.found.given.1 at-found3.found3.given.1 ∙ lookup-in operations a.operations.now x lent) at-put-application2.put-application2.ensures
+    λ operations lent. operation-turned macros_most operations a.work.now a.core.now a.macros.now a.fuel a.list.node a.list.tail a.list.wrap a.reached x c.requires.2 c.requires.0 c.requires.1 _ _ _
+    (means c.before.before.before.before.before.before _ _ c.in-Finds.is c.in-Operation.is ∙ lookup-in operations a.operations.now x lent) c.put_application-in-Operation.ensures
 
-returns-4 : tie.Need-returns-4
+returns-4 : tie.Need-returns-in-Macro
 returns-4 c =
-    let at-macro-use = c.before.before in
-    let at-found4 = at-macro-use.before.before.before.before in
-    let at-found = at-found4.before.before.before in
-    let at_before = at-found.before in
-    let entry = at_before.before.before.before.before.before.before.before in
-    let a = entry.args in
+    let a = c.args in
     let x = name_at a.work.now a.list.head a.list.wrap in
-    λ operations lent. macro-turned macros_most operations a.work.now a.core.now a.macros.now a.fuel a.list.node a.list.tail a.list.wrap a.reached x entry.requires.2 entry.requires.0 entry.requires.1 _ at-macro-use.macro-use.new.0 at-macro-use.macro-use.result
-    (means at_before.before _ _ at-found.found.given.1 at-found4.found4.given.1 ∙ lookup-in operations a.operations.now x lent) at-macro-use.macro-use.auto.0 at-macro-use.macro-use.ensures
+    λ operations lent. macro-turned macros_most operations a.work.now a.core.now a.macros.now a.fuel a.list.node a.list.tail a.list.wrap a.reached x c.requires.2 c.requires.0 c.requires.1 _ c.macro_use.new.work c.macro_use.result
+    (means c.before.before.before.before.before.before _ _ c.in-Finds.is c.in-Macro.is ∙ lookup-in operations a.operations.now x lent) c.macro_use.auto.work c.macro_use.ensures
 
-returns-5 : tie.Need-returns-5
+returns-5 : tie.Need-returns-in-Form
 returns-5 c =
-    let at-form = c.before.before.before.before.before.before in
-    let entry = at-form.before.before.before.before.before.before.before.before.before.before.before.before.before.before.before.before in
-    λ operations lent. at-form.form.ensures operations entry.args.fuel entry.requires.1
+    λ operations lent. c.form.ensures operations c.args.fuel c.requires.1
 
-pub named-spec : {M : Type 1} → statement M
-named-spec =
+pub named_spec : {M : Type 1} → statement M
+named_spec =
     tie.close
     (tie.spec
     (λ c κs. search rules)  -- lookup-requires
@@ -101,9 +76,9 @@ named-spec =
     (λ c. search rules)  -- same-length
     returns
     (λ c. search rules)  -- enum-known-found-2
-    (λ c κs. room c.before.before.before.before.before.before.before.before.before.before.before.before.before.before)  -- put-application-requires
+    (λ c κs. room c.before.before.before.before.before.before.before.before)  -- put-application-requires
     (λ c. search rules)  -- enum-known-found-3
-    (λ c κs. room c.before.before.before.before.before.before.before.before.before.before.before.before.before.before)  -- put-application-requires-2
+    (λ c κs. room c.before.before.before.before.before.before.before.before)  -- put-application-requires-2
     (λ c. search rules)  -- enum-known-found-4
     macro-use-requires
     (λ c. search rules)  -- enum-known-found-5

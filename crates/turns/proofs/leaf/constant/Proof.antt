@@ -6,22 +6,20 @@ use Rattle.forms.proofs.quotes.put_constant.Reads as put-constant-reads
 use Rattle.turns.proofs.answers.Reached.moved.Reads as moved-reads
 use Rattle.turns.specs.LeafLaws.{constant-fits, constant-below, constant-made}
 
-put-constant-requires : tie.Need-put-constant-requires
+put-constant-requires : tie.Need-put_constant-at-requires
 put-constant-requires c κs =
-    let a = c.before.before.before.args in (constant-fits a.kind a.first a.second a.reached a.core.now c.before.before.before.requires.0, c.before.before.before.requires.1)
+    let a = c.args in (constant-fits a.kind a.first a.second a.reached a.core.now c.requires.0, c.requires.1)
 
-cast-moved : tie.Need-overflow-cast-moved
+cast-moved : tie.Need-overflow_cast-at
 cast-moved c =
-    let at-put-constant = c.before.before in
-    let at-args = at-put-constant.before.before.before.before in
-    let a = at-args.args in record { fits = constant-below a.kind a.first a.second a.reached a.core.now at-args.requires.0 _ at-put-constant.put-constant.ensures.end }
+    let a = c.args in record { fits = constant-below a.kind a.first a.second a.reached a.core.now c.requires.0 _ c.put_constant-at.ensures.end }
 
 returns : tie.Need-returns
 returns c =
-    let a = c.before.before.before.before.before.before.before.args in constant-made a.kind a.first a.second a.reached a.core.now _ _ _ c.moved.ensures c.before.before.before.put-constant.ensures
+    let a = c.args in constant-made a.kind a.first a.second a.reached a.core.now _ _ _ c.moved.ensures c.put_constant-at.ensures
 
-pub constant-spec : {M : Type 1} → statement M
-constant-spec =
+pub constant_spec : {M : Type 1} → statement M
+constant_spec =
     tie.close
     (tie.spec
     (λ c. search rules)  -- cast-put-constant

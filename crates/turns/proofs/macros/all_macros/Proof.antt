@@ -9,114 +9,51 @@ use Rattle.arena.specs.ListLaws.{pair-falls}
 use Rattle.turns.specs.MacroRules.{Reading}
 use Rattle.turns.specs.MacroRuleLaws.{one-ask, count_small, reading_begins, reading-ends, reading-bad, reading-more}
 
-abbrev invariant-loop : tie.invariant-loop
+abbrev invariant-loop : tie.invariant-loop-work
 invariant-loop work₀ macros₀ list w count top at₀ n₀ end₀ work macros at n end =
     (length work ≡ length work₀) × (length macros ≡ length macros₀) × Reading work₀ macros₀ list w count top work macros at n end
 
-abbrev decreases-loop : tie.decreases-loop
+abbrev decreases-loop : tie.decreases-loop-work
 decreases-loop work₀ macros₀ list w count top at₀ n₀ end₀ work macros at n end =
     at
 
-loop-holds : tie.Need-loop-init invariant-loop decreases-loop
+loop-holds : tie.Need-loop-work-init invariant-loop decreases-loop
 loop-holds c =
-    let a = c.before.before.args in
-    let pre = c.before.before.requires in
+    let a = c.args in
+    let pre = c.requires in
     (refl, refl, reading_begins a.work.now a.macros.now a.list a.wrap a.count a.top pre)
 
-one-macro-requires : tie.Need-one-macro-requires invariant-loop decreases-loop
+one-macro-requires : tie.Need-one_macro-requires invariant-loop decreases-loop
 one-macro-requires c κs =
-    let at-reference2 = c.before.before in
-    let at-element = at-reference2.before.before in
-    let at-reference = at-element.before.before in
-    let at-if1 = at-reference.before.before in
-    let at-word = at-if1.before in
-    let at-loop = at-word.before.before in
-    let a = at-loop.before.before.before.args in
-    let loop = at-loop.loop in
-    let word = at-word.word in
-    let if1 = at-if1.if1 in
-    let reference = at-reference.reference in
-    let element = at-element.element in
-    let reference2 = at-reference2.reference2 in
-    one-ask loop.work loop.macros loop.at a.wrap loop.n loop.end loop.invariant.2.ask _ _ _ (sym word.ensures ∙ if1.true) reference.ensures reference2.ensures element.ensures
+    let a = c.args in
+    one-ask c.loop-work.work c.loop-work.macros c.loop-work.at a.wrap c.loop-work.n c.loop-work.end c.loop-work.invariant.2.ask _ _ _ (sym c.word.ensures ∙ c.loop-work-test.true) c.reference-entry.ensures c.reference-at.ensures c.element-form.ensures
 
-returns : tie.Need-returns invariant-loop decreases-loop
+returns : tie.Need-returns-in_default invariant-loop decreases-loop
 returns c =
-    let at-one-macro = c.before.before.before.before.before.before in
-    let at-reference2 = at-one-macro.before.before.before in
-    let at-element = at-reference2.before.before in
-    let at-reference = at-element.before.before in
-    let at-if1 = at-reference.before.before in
-    let at-word = at-if1.before in
-    let at-loop = at-word.before.before in
-    let a = at-loop.before.before.before.args in
-    let loop = at-loop.loop in
-    let word = at-word.word in
-    let if1 = at-if1.if1 in
-    let reference = at-reference.reference in
-    let element = at-element.element in
-    let reference2 = at-reference2.reference2 in
-    let one-macro = at-one-macro.one-macro in
-    reading-bad a.work.now a.macros.now a.list a.wrap a.count a.top loop.work loop.macros loop.at loop.n loop.end loop.invariant.2 _ _ _ (sym word.ensures ∙ if1.true) reference.ensures reference2.ensures element.ensures _ _ _ one-macro.ensures c.enum_told.given.1
+    let a = c.args in
+    reading-bad a.work.now a.macros.now a.list a.wrap a.count a.top c.loop-work.work c.loop-work.macros c.loop-work.at c.loop-work.n c.loop-work.end c.loop-work.invariant.2 _ _ _ (sym c.word.ensures ∙ c.loop-work-test.true) c.reference-entry.ensures c.reference-at.ensures c.element-form.ensures _ _ _ c.one_macro.ensures c.in_default.is
 
-add-n : tie.Need-overflow-add-n invariant-loop decreases-loop
+add-n : tie.Need-overflow_add-n invariant-loop decreases-loop
 add-n c =
-    let at-reference2 = c.before.before.before.before.before.before.before.before.before.before in
-    let at-element = at-reference2.before.before in
-    let at-reference = at-element.before.before in
-    let at-if1 = at-reference.before.before in
-    let at-word = at-if1.before in
-    let at-loop = at-word.before.before in
-    let a = at-loop.before.before.before.args in
-    let loop = at-loop.loop in
-    let word = at-word.word in
-    let if1 = at-if1.if1 in
-    let reference = at-reference.reference in
-    let element = at-element.element in
-    let reference2 = at-reference2.reference2 in
-    record { fits = count_small loop.work loop.macros loop.at a.wrap loop.n loop.end loop.invariant.2.ask _ _ _ (sym word.ensures ∙ if1.true) reference.ensures reference2.ensures element.ensures }
+    let a = c.args in
+    record { fits = count_small c.loop-work.work c.loop-work.macros c.loop-work.at a.wrap c.loop-work.n c.loop-work.end c.loop-work.invariant.2.ask _ _ _ (sym c.word.ensures ∙ c.loop-work-test.true) c.reference-entry.ensures c.reference-at.ensures c.element-form.ensures }
 
-loop-less : tie.Need-loop-smaller invariant-loop decreases-loop
+loop-less : tie.Need-loop-work-smaller invariant-loop decreases-loop
 loop-less c =
-    let at-reference2 = c.before.before.before.before.before.before.before.before.before.before in
-    let at-if1 = at-reference2.before.before.before.before.before.before in
-    let at-word = at-if1.before in
-    let loop = at-word.before.before.loop in
-    let word = at-word.word in
-    let if1 = at-if1.if1 in
-    let reference2 = at-reference2.reference2 in
-    omega (arith, reference2.ensures, pair-falls loop.work loop.at 1 (sym word.ensures ∙ if1.true))
+    omega (arith, c.reference-at.ensures, pair-falls c.loop-work.work c.loop-work.at 1 (sym c.word.ensures ∙ c.loop-work-test.true))
 
-loop-again : tie.Need-loop-preserved invariant-loop decreases-loop
+loop-again : tie.Need-loop-work-preserved invariant-loop decreases-loop
 loop-again c =
-    let at-upper = c.before in
-    let at-one-macro = at-upper.before.before.before.before.before.before in
-    let at-reference2 = at-one-macro.before.before.before in
-    let at-element = at-reference2.before.before in
-    let at-reference = at-element.before.before in
-    let at-if1 = at-reference.before.before in
-    let at-word = at-if1.before in
-    let at-loop = at-word.before.before in
-    let a = at-loop.before.before.before.args in
-    let loop = at-loop.loop in
-    let word = at-word.word in
-    let if1 = at-if1.if1 in
-    let reference = at-reference.reference in
-    let element = at-element.element in
-    let reference2 = at-reference2.reference2 in
-    let one-macro = at-one-macro.one-macro in
-    let upper = at-upper.upper in
-    (one-macro.auto.0 ∙ loop.invariant.0, one-macro.auto.1.0 ∙ loop.invariant.1, reading-more a.work.now a.macros.now a.list a.wrap a.count a.top loop.work loop.macros loop.at loop.n loop.end loop.invariant.2 _ _ _ (sym word.ensures ∙ if1.true) reference.ensures reference2.ensures element.ensures _ _ _ one-macro.ensures _ upper.given.1 one-macro.auto.0 one-macro.auto.1.0)
+    let a = c.args in
+    (c.one_macro.auto.work ∙ c.loop-work.invariant.0, c.one_macro.auto.macros ∙ c.loop-work.invariant.1, reading-more a.work.now a.macros.now a.list a.wrap a.count a.top c.loop-work.work c.loop-work.macros c.loop-work.at c.loop-work.n c.loop-work.end c.loop-work.invariant.2 _ _ _ (sym c.word.ensures ∙ c.loop-work-test.true) c.reference-entry.ensures c.reference-at.ensures c.element-form.ensures _ _ _ c.one_macro.ensures _ c.in-Good.is c.one_macro.auto.work c.one_macro.auto.macros)
 
-returns-2 : tie.Need-returns-2 invariant-loop decreases-loop
+returns-2 : tie.Need-returns invariant-loop decreases-loop
 returns-2 c =
-    let a = c.before.before.before.before.before.before.args in
-    let loop = c.before.before.before.loop in
-    let word = c.before.word in
-    reading-ends a.work.now a.macros.now a.list a.wrap a.count a.top loop.work loop.macros loop.at loop.n loop.end loop.invariant.2 (λ z. c.if1.false (word.ensures ∙ z))
+    let a = c.args in
+    reading-ends a.work.now a.macros.now a.list a.wrap a.count a.top c.loop-work.work c.loop-work.macros c.loop-work.at c.loop-work.n c.loop-work.end c.loop-work.invariant.2 (λ z. c.loop-work-test.false (c.word.ensures ∙ z))
 
-pub all-macros-spec : {M : Type 1} → statement M
-all-macros-spec =
+pub all_macros_spec : {M : Type 1} → statement M
+all_macros_spec =
     tie.close
     (tie.spec
     invariant-loop

@@ -6,27 +6,18 @@ use Rattle.words.specs.Code.Packed.{built_of}
 use Rattle.turns.specs.MacroRuleLaws.{one-bad, one-good}
 use mathlib.Core.Path.{sym, ◌∙◌}
 
-returns : tie.Need-returns
+returns : tie.Need-returns-in_default
 returns c =
-    let at-parts = c.before.before in
-    let at-rules = at-parts.before.before.before in
-    let at-args = at-rules.before.before.before.before in
-    let a = at-args.args in
-    let r = at-rules.rules in
-    one-bad a.work.now a.macros.now a.form a.wrap a.count a.top at-args.requires r.new.0 (built_of r.result) r.ensures a.macros.now (sym at-parts.parts.ensures ∙ c.enum_told.given.1)
+    let a = c.args in
+    one-bad a.work.now a.macros.now a.form a.wrap a.count a.top c.requires c.rules.new.work (built_of c.rules.result) c.rules.ensures a.macros.now (sym c.parts.ensures ∙ c.in_default.is)
 
-returns-2 : tie.Need-returns-2
+returns-2 : tie.Need-returns
 returns-2 c =
-    let at_at = c.before in
-    let at-parts = at_at.before.before in
-    let at-rules = at-parts.before.before.before in
-    let at-args = at-rules.before.before.before.before in
-    let a = at-args.args in
-    let r = at-rules.rules in
-    one-good a.work.now a.macros.now a.form a.wrap a.count a.top at-args.requires r.new.0 (built_of r.result) r.ensures _ _ (sym at-parts.parts.ensures ∙ at_at.at.given.1)
+    let a = c.args in
+    one-good a.work.now a.macros.now a.form a.wrap a.count a.top c.requires c.rules.new.work (built_of c.rules.result) c.rules.ensures _ _ (sym c.parts.ensures ∙ c.in-At.is)
 
-pub one-macro-spec : {M : Type 1} → statement M
-one-macro-spec =
+pub one_macro_spec : {M : Type 1} → statement M
+one_macro_spec =
     tie.close
     (tie.spec
     (λ c κs. search rules)  -- rules-requires

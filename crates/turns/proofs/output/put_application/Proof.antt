@@ -6,13 +6,11 @@ use Rattle.turns.specs.MemoryLaws.{header-moved}
 
 returns : tie.Need-returns
 returns c =
-    let at-put-four = c.before.before.before in
-    let at_count = at-put-four.before.before in
-    let a = at_count.before.before.before.args in
-    header-moved a.list a.code a.number _ _ a.reached _ a.work.now a.core.now _ at_count.count.ensures.is c.moved.ensures at-put-four.put_four.ensures
+    let a = c.args in
+    header-moved a.list a.code a.number _ _ a.reached _ a.work.now a.core.now _ c.count-count.ensures.is c.moved.ensures c.put_four-at.ensures
 
-pub put-application-spec : {M : Type 1} → statement M
-put-application-spec =
+pub put_application_spec : {M : Type 1} → statement M
+put_application_spec =
     tie.close
     (tie.spec
     (λ c κs. search rules)  -- count-requires

@@ -6,10 +6,10 @@ use Rattle.turns.specs.MemoryLaws.{moved_by}
 
 returns : tie.Need-returns
 returns c =
-    let a = c.before.before.before.before.before.before.args in moved_by _ a.reached _ a.core.now _ _ c.moved.ensures c.before.before.before.put_word.ensures
+    let a = c.args in moved_by _ a.reached _ a.core.now _ _ c.moved.ensures c.put_word-at.ensures
 
-pub put-if-spec : {M : Type 1} → statement M
-put-if-spec =
+pub put_if_spec : {M : Type 1} → statement M
+put_if_spec =
     tie.close
     (tie.spec
     (λ c κs. search rules)  -- put-word-requires

@@ -6,10 +6,10 @@ use Rattle.turns.specs.MemoryLaws.{moved_by}
 
 returns : tie.Need-returns
 returns c =
-    let a = c.before.before.before.before.before.before.args in moved_by _ a.reached _ a.core.now _ _ c.moved.ensures c.before.before.before.put_two.ensures
+    let a = c.args in moved_by _ a.reached _ a.core.now _ _ c.moved.ensures c.put_two-at.ensures
 
-pub put-node-spec : {M : Type 1} → statement M
-put-node-spec =
+pub put_node_spec : {M : Type 1} → statement M
+put_node_spec =
     tie.close
     (tie.spec
     (λ c κs. search rules)  -- put-two-requires

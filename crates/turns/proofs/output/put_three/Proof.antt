@@ -5,23 +5,21 @@ use Rattle.turns.proofs.output.put_three.Tie as tie
 use native.Mathlib.Omega.{arith}
 use Rattle.turns.specs.MemoryLaws.{put-after}
 
-put-word-requires : tie.Need-put-word-requires
+put-word-requires : tie.Need-put_word-next-requires
 put-word-requires c κs =
     search rules
 
-put-two-requires : tie.Need-put-two-requires
+put-two-requires : tie.Need-put_two-requires
 put-two-requires c κs =
     search rules
 
-same_length : tie.Need-same-length
+same_length : tie.Need-shape_of-core
 same_length c =
     search rules
 
 returns : tie.Need-returns
 returns c =
-    let at-put-two = c.before.before in
-    let at-put-word = at-put-two.before.before.before.before in
-    put-after at-put-word.put_word.ensures at-put-two.put_two.ensures (omega (arith, at-put-word.before.before.before.requires.fits, at-put-word.put_word.ensures.end))
+    put-after c.put_word-next.ensures c.put_two.ensures (omega (arith, c.requires.fits, c.put_word-next.ensures.end))
 
-pub put-three-spec : {M : Type 1} → statement M
-put-three-spec = tie.close (tie.spec put-word-requires put-two-requires same_length returns)
+pub put_three_spec : {M : Type 1} → statement M
+put_three_spec = tie.close (tie.spec put-word-requires put-two-requires same_length returns)

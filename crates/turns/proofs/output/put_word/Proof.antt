@@ -5,19 +5,19 @@ use Rattle.turns.proofs.output.put_word.Tie as tie
 use native.Mathlib.Omega.{arith}
 use Rattle.turns.specs.MemoryLaws.{put_one}
 
-mul-core : tie.Need-overflow-mul-core
+mul-core : tie.Need-offset_bounds-core-at
 mul-core c =
     search rules
 
-slice-write-core : tie.Need-slice-write-core
+slice-write-core : tie.Need-bounds-core-at
 slice-write-core c =
     search rules
 
-add-result : tie.Need-overflow-add-result
+add-result : tie.Need-overflow_add-result
 add-result c =
     search rules
 
-same_length : tie.Need-same-length
+same_length : tie.Need-shape_of-core
 same_length c =
     search rules
 
@@ -25,5 +25,5 @@ returns : tie.Need-returns
 returns c =
     put_one c.args.at c.args.a c.args.core.now (omega (arith, c.requires.fits))
 
-pub put-word-spec : {M : Type 1} → statement M
-put-word-spec = tie.close (tie.spec mul-core slice-write-core add-result same_length returns)
+pub put_word_spec : {M : Type 1} → statement M
+put_word_spec = tie.close (tie.spec mul-core slice-write-core add-result same_length returns)

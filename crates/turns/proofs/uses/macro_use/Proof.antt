@@ -4,100 +4,48 @@ use Rattle.turns.proofs.uses.macro_use.Statement.{statement}
 use Rattle.turns.proofs.uses.macro_use.Tie as tie
 use Rattle.turns.specs.UseLaws.{use-marks, use-stepping, use-no-rule, use-differs, use-costly, use-paid, use-marks-again, use-made}
 
-put-mark-requires : tie.Need-put-mark-requires
+put-mark-requires : tie.Need-put_mark-used-requires
 put-mark-requires c κs =
-    let entry = c.before.before.before.before.before.before.before.before in
-    let a = entry.args in
-    use-marks a.work.now a.macros.now a.fuel a.node a.wrap a.number a.reached entry.requires
+    let a = c.args in
+    use-marks a.work.now a.macros.now a.fuel a.node a.wrap a.number a.reached c.requires
 
 apply-requires : tie.Need-apply-requires
 apply-requires c κs =
-    let at-put-mark = c.before.before.before in
-    let at_rest = at-put-mark.before.before in
-    let at-rules-of = at_rest.before.before in
-    let entry = at-rules-of.before.before.before.before.before in
-    let a = entry.args in
-    let marked = at-put-mark.put-mark in
-    use-stepping a.work.now a.macros.now a.fuel a.node a.wrap a.number a.reached entry.requires _ _ _ _ at-rules-of.rules-of.ensures at_rest.rest.ensures marked.ensures marked.auto.0
+    let a = c.args in
+    use-stepping a.work.now a.macros.now a.fuel a.node a.wrap a.number a.reached c.requires _ _ _ _ c.rules_of-rules.ensures c.rest-operands.ensures c.put_mark-used.ensures c.put_mark-used.auto.work
 
-put-mark-requires-2 : tie.Need-put-mark-requires-2
+put-mark-requires-2 : tie.Need-put_mark-result-requires
 put-mark-requires-2 c κs =
-    let at-root = c.before.before in
-    let at-apply = at-root.before.before.before.before in
-    let at-put-mark = at-apply.before.before.before.before in
-    let at_rest = at-put-mark.before.before in
-    let at-rules-of = at_rest.before.before in
-    let entry = at-rules-of.before.before.before.before.before in
-    let a = entry.args in
-    let marked = at-put-mark.put-mark in
-    let made = at-apply.apply in
-    use-marks-again a.work.now a.macros.now a.fuel a.node a.wrap a.number a.reached entry.requires _ _ _ _ at-rules-of.rules-of.ensures at_rest.rest.ensures marked.ensures marked.auto.0 _ _ made.ensures _ _ at-root.root.given.1 made.auto.0
+    let a = c.args in
+    use-marks-again a.work.now a.macros.now a.fuel a.node a.wrap a.number a.reached c.requires _ _ _ _ c.rules_of-rules.ensures c.rest-operands.ensures c.put_mark-used.ensures c.put_mark-used.auto.work _ _ c.apply.ensures _ _ c.in-Done.is c.apply.auto.work
 
 stepped-requires : tie.Need-stepped-requires
 stepped-requires c κs =
-    let at-root = c.before.before.before.before.before in
-    let at-apply = at-root.before.before.before.before in
-    let at-put-mark = at-apply.before.before.before.before in
-    let at_rest = at-put-mark.before.before in
-    let at-rules-of = at_rest.before.before in
-    let entry = at-rules-of.before.before.before.before.before in
-    let a = entry.args in
-    let marked = at-put-mark.put-mark in
-    let made = at-apply.apply in
-    use-paid a.work.now a.macros.now a.fuel a.node a.wrap a.number a.reached entry.requires _ _ _ _ at-rules-of.rules-of.ensures at_rest.rest.ensures marked.ensures marked.auto.0 _ _ made.ensures _ _ at-root.root.given.1 made.auto.0
+    let a = c.args in
+    use-paid a.work.now a.macros.now a.fuel a.node a.wrap a.number a.reached c.requires _ _ _ _ c.rules_of-rules.ensures c.rest-operands.ensures c.put_mark-used.ensures c.put_mark-used.auto.work _ _ c.apply.ensures _ _ c.in-Done.is c.apply.auto.work
 
-returns : tie.Need-returns
+returns : tie.Need-returns-in-NoRule
 returns c =
-    let at-enum-told = c.before in
-    let at-apply = at-enum-told.before.before.before.before in
-    let at-put-mark = at-apply.before.before.before.before in
-    let at_rest = at-put-mark.before.before in
-    let at-rules-of = at_rest.before.before in
-    let entry = at-rules-of.before.before.before.before.before in
-    let a = entry.args in
-    let marked = at-put-mark.put-mark in
-    use-no-rule a.work.now a.macros.now a.fuel a.node a.wrap a.number a.reached entry.requires _ _ _ _ at-rules-of.rules-of.ensures at_rest.rest.ensures marked.ensures marked.auto.0 _ _ at-apply.apply.ensures at-enum-told.enum_told.given.1 _ c.refuse.ensures
+    let a = c.args in
+    use-no-rule a.work.now a.macros.now a.fuel a.node a.wrap a.number a.reached c.requires _ _ _ _ c.rules_of-rules.ensures c.rest-operands.ensures c.put_mark-used.ensures c.put_mark-used.auto.work _ _ c.apply.ensures c.in-NoRule.is _ c.refuse.ensures
 
-returns-2 : tie.Need-returns-2
+returns-2 : tie.Need-returns-in-Differ
 returns-2 c =
-    let at-enum-told2 = c.before in
-    let at-apply = at-enum-told2.before.before.before.before in
-    let at-put-mark = at-apply.before.before.before.before in
-    let at_rest = at-put-mark.before.before in
-    let at-rules-of = at_rest.before.before in
-    let entry = at-rules-of.before.before.before.before.before in
-    let a = entry.args in
-    let marked = at-put-mark.put-mark in
-    use-differs a.work.now a.macros.now a.fuel a.node a.wrap a.number a.reached entry.requires _ _ _ _ at-rules-of.rules-of.ensures at_rest.rest.ensures marked.ensures marked.auto.0 _ _ at-apply.apply.ensures at-enum-told2.enum-told2.given.1 _ c.refuse2.ensures
+    let a = c.args in
+    use-differs a.work.now a.macros.now a.fuel a.node a.wrap a.number a.reached c.requires _ _ _ _ c.rules_of-rules.ensures c.rest-operands.ensures c.put_mark-used.ensures c.put_mark-used.auto.work _ _ c.apply.ensures c.in-Differ.is _ c.refuse-in-Differ.ensures
 
-returns-3 : tie.Need-returns-3
+returns-3 : tie.Need-returns-in-Costly
 returns-3 c =
-    let at-enum-told3 = c.before in
-    let at-apply = at-enum-told3.before.before.before.before in
-    let at-put-mark = at-apply.before.before.before.before in
-    let at_rest = at-put-mark.before.before in
-    let at-rules-of = at_rest.before.before in
-    let entry = at-rules-of.before.before.before.before.before in
-    let a = entry.args in
-    let marked = at-put-mark.put-mark in
-    use-costly a.work.now a.macros.now a.fuel a.node a.wrap a.number a.reached entry.requires _ _ _ _ at-rules-of.rules-of.ensures at_rest.rest.ensures marked.ensures marked.auto.0 _ _ at-apply.apply.ensures at-enum-told3.enum-told3.given.1 _ c.refuse3.ensures
+    let a = c.args in
+    use-costly a.work.now a.macros.now a.fuel a.node a.wrap a.number a.reached c.requires _ _ _ _ c.rules_of-rules.ensures c.rest-operands.ensures c.put_mark-used.ensures c.put_mark-used.auto.work _ _ c.apply.ensures c.in-Costly.is _ c.refuse-in-Costly.ensures
 
-returns-4 : tie.Need-returns-4
+returns-4 : tie.Need-returns-in-Done
 returns-4 c =
-    let at-put-mark2 = c.before.before.before in
-    let at-root = at-put-mark2.before.before.before in
-    let at-apply = at-root.before.before.before.before in
-    let at-put-mark = at-apply.before.before.before.before in
-    let at_rest = at-put-mark.before.before in
-    let at-rules-of = at_rest.before.before in
-    let entry = at-rules-of.before.before.before.before.before in
-    let a = entry.args in
-    let marked = at-put-mark.put-mark in
-    let made = at-apply.apply in
-    use-made a.work.now a.macros.now a.fuel a.node a.wrap a.number a.reached entry.requires _ _ _ _ at-rules-of.rules-of.ensures at_rest.rest.ensures marked.ensures marked.auto.0 _ _ made.ensures _ _ at-root.root.given.1 made.auto.0 _ _ at-put-mark2.put-mark2.ensures _ c.stepped.ensures
+    let a = c.args in
+    use-made a.work.now a.macros.now a.fuel a.node a.wrap a.number a.reached c.requires _ _ _ _ c.rules_of-rules.ensures c.rest-operands.ensures c.put_mark-used.ensures c.put_mark-used.auto.work _ _ c.apply.ensures _ _ c.in-Done.is c.apply.auto.work _ _ c.put_mark-result.ensures _ c.stepped.ensures
 
-pub macro-use-spec : {M : Type 1} → statement M
-macro-use-spec =
+pub macro_use_spec : {M : Type 1} → statement M
+macro_use_spec =
     tie.close
     (tie.spec
     (λ c. search rules)  -- add-m

@@ -4,21 +4,21 @@ use Rattle.turns.proofs.uses.rules_of.Statement.{statement}
 use Rattle.turns.proofs.uses.rules_of.Tie as tie
 use Rattle.turns.specs.UseLaws.{rules-known, rules-unknown}
 
-mul-result : tie.Need-overflow-mul-result
+mul-result : tie.Need-offset_bounds-macros-n
 mul-result c =
     search rules
 
-shared-slice-read-result : tie.Need-shared-slice-read-result
+shared-slice-read-result : tie.Need-bounds-macros-n
 shared-slice-read-result c =
     search rules
 
-returns : tie.Need-returns
+returns : tie.Need-returns-then-n-count
 returns c =
-    rules-known c.before.before.args.macros.now c.before.before.args.count c.before.before.args.n c.before.if1.true
+    rules-known c.args.macros.now c.args.count c.args.n c.if-n-count.true
 
-returns-2 : tie.Need-returns-2
+returns-2 : tie.Need-returns
 returns-2 c =
-    rules-unknown c.before.args.macros.now c.before.args.count c.before.args.n c.if1.false
+    rules-unknown c.args.macros.now c.args.count c.args.n c.if-n-count.false
 
-pub rules-of-spec : {M : Type 1} → statement M
-rules-of-spec = tie.close (tie.spec mul-result shared-slice-read-result returns returns-2)
+pub rules_of_spec : {M : Type 1} → statement M
+rules_of_spec = tie.close (tie.spec mul-result shared-slice-read-result returns returns-2)

@@ -37,55 +37,55 @@ name-opening-requires : tie.Need-name_opening-requires
 name-opening-requires c κs =
     (c.requires.0, ap (has_name c.args.names.now) c.wide-in-Name.ensures ∙ name-spelled _ _ c.requires.1.stands (said_by c.args.names.now c.args.pen.direct c.args.called.now) c.requires.1.fits _ c.in-Name.is)
 
-lambda-opening-requires : tie.Need-enum_told-in-Application
+lambda-opening-requires : tie.Need-lambda_opening-requires
 lambda-opening-requires c κs =
     let k = lambda-named _ _ c.requires.1.stands (said_by c.args.names.now c.args.pen.direct c.args.called.now) c.requires.1.fits _ _ c.in-Lambda.is in (c.requires.0, omega (arith, c.wide-in-Lambda.ensures, c.wide-in-Lambda-2.ensures, c.in-Lambda.known_told-in-Lambda-1-own.given), record { many = omega (arith, k.many, c.wide-in-Lambda.ensures, c.wide-in-Lambda-2.ensures); slots = k.slots }, c.requires.2)
 
-returns : tie.Need-shape_of-out-in-Operation
+returns : tie.Need-returns-in-Variable
 returns c =
     let args' = c.args in
     λ x s. left_is (ap (variable_text (name_at args'.names.now) (called_by args'.pen.direct args'.called.now)) c.wide.ensures ∙ opens-variable _ x s (said_by args'.names.now args'.pen.direct args'.called.now) _ _ c.in-Variable.is) c.variable.ensures
 
-returns-2 : tie.Need-shape_of-out-in-Integer
+returns-2 : tie.Need-returns-in-Operation
 returns-2 c =
     λ x s. left_is (ap (λ (n : ℕ). 111 ∷ numeral n) c.wide-in-Operation.ensures ∙ opens-operation _ x s _ _ _ c.in-Operation.is) c.numbered.ensures
 
-returns-3 : tie.Need-shape_of-out-in-Boolean
+returns-3 : tie.Need-returns-in-Integer
 returns-3 c =
     λ x s. left_is (opens-integer _ x s _ _ _ c.in-Integer.is) c.integer.ensures
 
-returns-4 : tie.Need-shape_of-out-in-Decimal
+returns-4 : tie.Need-returns-in-Boolean
 returns-4 c =
     λ x s. left_is (opens-boolean _ x s _ _ _ c.in-Boolean.is) c.boolean.ensures
 
-returns-5 : tie.Need-shape_of-out-in-Name
+returns-5 : tie.Need-returns-in-Decimal
 returns-5 c =
     λ x s. left_is (opens-decimal _ x s _ _ _ _ c.in-Decimal.is) c.decimal.ensures
 
-returns-6 : tie.Need-shape_of-out-in-List
+returns-6 : tie.Need-returns-in-Name
 returns-6 c =
     let args' = c.args in
     λ x s. left_is (ap (λ (n : ℕ). opening (said_by args'.names.now args'.pen.direct args'.called.now) args'.inner (name_n n)) c.wide-in-Name.ensures ∙ opens-name _ x s (said_by args'.names.now args'.pen.direct args'.called.now) _ _ c.in-Name.is) (c.name_opening.ensures (called_by args'.pen.direct args'.called.now))
 
-returns-7 : tie.Need-shape_of-out-in-If
+returns-7 : tie.Need-returns-in-List
 returns-7 c =
     λ x s. left_is (opens-list _ x s _ _ _ c.in-List.is) (c.list_opening.ensures _ _)
 
-returns-8 : tie.Need-shape_of-out-in-Lambda
+returns-8 : tie.Need-returns-in-If
 returns-8 c =
     λ x s. left_is (opens-if _ x s _ _ c.in-If.is) c.copy.ensures
 
-returns-9 : tie.Need-shape_of-out-in-Application
+returns-9 : tie.Need-returns-in-Lambda
 returns-9 c =
     λ x s. left_is (lambda-same _ _ _ _ _ c.wide-in-Lambda.ensures c.wide-in-Lambda-2.ensures ∙ opens-lambda _ x s _ _ _ _ c.in-Lambda.is) c.lambda_opening.ensures
 
-returns-10 : tie.Need-returns-in-None
+returns-10 : tie.Need-returns-in-Application
 returns-10 c =
     λ x s. left_is (opens-application _ x s _ _ _ c.in-Application.is) c.byte.ensures
 
-returns-11 : tie.Need-returns-11
+returns-11 : tie.Need-returns-in-None
 returns-11 c =
-    λ x s. no_none _ x s c.enum-told4.given.1
+    λ x s. no_none _ x s c.in-None.is
 
 pub begin_spec : {M : Type 1} → statement M
 begin_spec =
@@ -109,7 +109,6 @@ begin_spec =
     (λ c. search rules)  -- enum_told
     (λ c κs. search rules)  -- list-opening-requires
     (λ c. search rules)  -- enum-told-2
-    (λ c. search rules)  -- slice-aggregate-copy
     (λ c κs. search rules)  -- copy-requires
     (λ c. search rules)  -- enum-known-node-7
     (λ c κs. search rules)  -- wide-requires-4

@@ -8,23 +8,21 @@ use Rattle.writer.proofs.bytes.copy.Reads as copy-reads
 use Rattle.writer.specs.LaidLaws.{left_is}
 use Rattle.writer.specs.PiecesLaws.{boolean-false, boolean-true}
 
-returns : tie.Need-copy-requires-2
+returns : tie.Need-returns-then-w-eq0
 returns c =
     left_is (boolean-false _ c.if-w-eq0.true) c.copy.ensures
 
-returns-2 : tie.Need-returns-2
+returns-2 : tie.Need-returns
 returns-2 c =
-    left_is (boolean-true _ c.before.before.before.before.before.if1.false) c.before.before.copy2.ensures
+    left_is (boolean-true _ c.if-w-eq0.false) c.copy-2.ensures
 
 pub boolean_spec : {M : Type 1} → statement M
 boolean_spec =
     tie.close
     (tie.spec
-    (λ c. search rules)  -- slice-aggregate-copy
     (λ c κs. search rules)  -- copy-requires
     (λ c. search rules)  -- same-length
     returns
-    (λ c. search rules)  -- slice-aggregate-copy-2
     (λ c κs. search rules)  -- copy-requires-2
     (λ c. search rules)  -- same-length-2
     returns-2)

@@ -13,9 +13,9 @@ returns : tie.Need-returns-then-inner
 returns c =
     λ n. left_is (inner-closes _ n c.if-inner.true) c.byte.ensures
 
-returns-2 : tie.Need-returns-2
+returns-2 : tie.Need-returns
 returns-2 c =
-    λ n. left_is (quoted-closes _ n c.before.before.before.before.before.if1.false) c.before.before.copy.ensures
+    λ n. left_is (quoted-closes _ n c.if-inner.false) c.copy.ensures
 
 pub list_closing_spec : {M : Type 1} → statement M
 list_closing_spec =
@@ -24,7 +24,6 @@ list_closing_spec =
     (λ c κs. search rules)  -- byte-requires
     (λ c. search rules)  -- same-length
     returns
-    (λ c. search rules)  -- slice-aggregate-copy
     (λ c κs. search rules)  -- copy-requires
     (λ c. search rules)  -- same-length-2
     returns-2)

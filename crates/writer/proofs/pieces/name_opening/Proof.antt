@@ -23,46 +23,41 @@ returns : tie.Need-returns-then-inner
 returns c =
     λ v. left_is (sym (name-inner (said _ v) _ _ c.if-inner.true)) c.name.ensures
 
-copy-requires : tie.Need-shape_of-out-then-a
+copy-requires : tie.Need-copy-a-requires
 copy-requires c κs =
     c.requires.0
 
-same-length-2 : tie.Need-returns-then-a
+same-length-2 : tie.Need-shape_of-out-then-a
 same-length-2 c =
     c.copy-a.auto.out
 
-returns-2 : tie.Need-name-b-requires
+returns-2 : tie.Need-returns-then-a
 returns-2 c =
     λ v. left_is (sym (name-quoted (said _ v) _ _ c.if-inner.false)) (place-full c.copy-a.ensures _ c.if-a.true)
 
-name-requires-2 : tie.Need-shape_of-out-then-b
+name-requires-2 : tie.Need-name-b-requires
 name-requires-2 c κs =
     (place-room c.copy-a.ensures c.if-a.false, c.requires.1)
 
-same-length-3 : tie.Need-returns-then-b
+same-length-3 : tie.Need-shape_of-out-then-b
 same-length-3 c =
     c.name-b.auto.out ∙ c.copy-a.auto.out
 
-returns-3 : tie.Need-byte-requires
+returns-3 : tie.Need-returns-then-b
 returns-3 c =
     λ v. left_is (sym (name-quoted (said _ v) _ _ c.if-inner.false)) (place-then c.copy-a.ensures c.if-a.false (place-full c.name-b.ensures _ c.if-b.true))
 
-byte-requires : tie.Need-shape_of-out
+byte-requires : tie.Need-byte-requires
 byte-requires c κs =
     place-room c.name-b.ensures c.if-b.false
 
-same-length-4 : tie.Need-returns
+same-length-4 : tie.Need-shape_of-out
 same-length-4 c =
     c.byte.auto.out ∙ c.name-b.auto.out ∙ c.copy-a.auto.out
 
-returns-4 : tie.Need-returns-4
+returns-4 : tie.Need-returns
 returns-4 c =
-    let at_byte = c.before.before in
-    let at-if3 = at_byte.before.before in
-    let at-name2 = at-if3.before.before.before in
-    let at-if2 = at-name2.before.before in
-    let at_copy = at-if2.before.before.before in
-    λ v. left_is (sym (name-quoted (said _ v) _ _ at_copy.before.before.before.if1.false)) (place-then at_copy.copy.ensures at-if2.if2.false (place-then at-name2.name2.ensures at-if3.if3.false at_byte.byte.ensures))
+    λ v. left_is (sym (name-quoted (said _ v) _ _ c.if-inner.false)) (place-then c.copy-a.ensures c.if-a.false (place-then c.name-b.ensures c.if-b.false c.byte.ensures))
 
 pub name_opening_spec : {M : Type 1} → statement M
 name_opening_spec =
@@ -71,7 +66,6 @@ name_opening_spec =
     name-requires
     same_length
     returns
-    (λ c. search rules)  -- slice-aggregate-copy
     copy-requires
     same-length-2
     returns-2

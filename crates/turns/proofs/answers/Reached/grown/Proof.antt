@@ -9,5 +9,5 @@ returns : tie.Need-returns
 unfolding grown
 returns c = refl
 
-pub grown-spec : {M : Type 1} → statement M
-grown-spec = tie.close (tie.spec (λ c. search rules) returns)
+pub grown_spec : {M : Type 1} → statement M
+grown_spec = tie.close (tie.spec (λ c. search rules) returns)

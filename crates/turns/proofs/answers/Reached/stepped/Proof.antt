@@ -10,9 +10,9 @@ use Rattle.turns.specs.Numbers.{stepped}
 returns : tie.Need-returns
 unfolding stepped
 returns c =
-    let steps : ℕ = c.before.before.args.self.steps in
+    let steps : ℕ = c.args.self.steps in
     let one : steps + 1 ≡ suc steps = omega arith in
     rw one
 
-pub stepped-spec : {M : Type 1} → statement M
-stepped-spec = tie.close (tie.spec (λ c. search rules) (λ c. search rules) returns)
+pub stepped_spec : {M : Type 1} → statement M
+stepped_spec = tie.close (tie.spec (λ c. search rules) (λ c. search rules) returns)

@@ -9,5 +9,5 @@ returns : tie.Need-returns
 unfolding widened
 returns c = refl
 
-pub widened-spec : {M : Type 1} → statement M
-widened-spec = tie.close (tie.spec (λ c. search rules) returns)
+pub widened_spec : {M : Type 1} → statement M
+widened_spec = tie.close (tie.spec (λ c. search rules) returns)
