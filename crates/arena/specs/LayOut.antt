@@ -11,7 +11,8 @@ use Rattle.recipe.specs.Tree.{Tree, empty, constant, name, pair}
 use Rattle.recipe.specs.Table.{constant_of, kind_at, is_layout, tree_of, item_count}
 use Rattle.recipe.specs.ItemLaws.{item_at}
 use Rattle.recipe.specs.TreeFrom.{tree_from, head_at, tail_at, tree_of-from}
-use Rattle.recipe.specs.Layout.{PairItem, Layout, layout, layout_pair, layout_name, empty_tree, name_tree, pair_tree, constant_tree}
+use Rattle.recipe.specs.Layout.{PairItem, Layout}
+use Rattle.recipe.proofs.LayoutLaws.{layout, layout_pair, layout_name, empty_tree, name_tree, pair_tree, constant_tree}
 use Rattle.arena.specs.Arena.{wrap_at, origin_name, tree_at}
 use Rattle.arena.specs.ArenaLaws.{wrap_at-none, take_less}
 use Rattle.arena.specs.NodeLaws.{tree_at-below}

@@ -5,7 +5,8 @@ use Rattle.std.proofs.lemmas.Bool.{eqb-false}
 use Rattle.words.specs.Text.{bytes}
 use Rattle.core_term.specs.Decimal.{numeral}
 use Rattle.core_term.specs.Text.{spaced_after, spaced}
-use Rattle.core_term.specs.TextRoom.{limit, number-room}
+use Rattle.core_term.specs.TextRoom.{limit}
+use Rattle.core_term.proofs.TextRoomLaws.{number-room}
 use Rattle.comparison.specs.Compare.{yes, no, refused_on}
 use Rattle.output.specs.Output.{line}
 use Rattle.comparison_output.specs.Output.{refused_line, recipe_refused, verdict_line}

@@ -11,7 +11,7 @@ use Rattle.reading.specs.Read.{Recipe, read_elements, name_bytes}
 use Rattle.recipe.specs.Table.{is_layout, tree_of}
 use Rattle.core_term.specs.Term.{Plain}
 use Rattle.core_term.specs.Check.{all_known, term_of}
-use Rattle.core_term.specs.Code.CheckLaws.{accepted}
+use Rattle.core_term.proofs.OfCode.CheckLaws.{accepted}
 use Rattle.expansion.specs.Run.{operation_numbers, are_operations}
 use Rattle.comparison.specs.Expression.{Expression}
 use Rattle.comparison.specs.Compare.{Verdict, yes, held, Reply, unread, replied, require, spelled_operations, our_term, with_term, comparison, compare}

@@ -11,7 +11,7 @@ use Rattle.reading.specs.Numbering.{number_of}
 use Rattle.reading.specs.Elements.{got}
 use Rattle.reading.specs.Read.{Recipe, read_elements, name_bytes}
 use Rattle.core_term.specs.Term.{Plain}
-use Rattle.core_term.specs.Code.CheckLaws.{accepted}
+use Rattle.core_term.proofs.OfCode.CheckLaws.{accepted}
 use Rattle.comparison.specs.Grammar.{the_one}
 use Rattle.comparison.specs.Compare.{yes, spelled_operations, our_term, compare}
 use Rattle.comparison.specs.Rendering.{Choice, render, Uncaptured}

@@ -12,8 +12,9 @@ use Rattle.reading.specs.Elements.{got}
 use Rattle.reading.specs.Read.{Recipe, read_elements, name_bytes}
 use Rattle.reading.specs.RecipeText.{Element, Elements, constant_e, name_e, list_e, none_e, more_e, names_of, names_of_all, numbered, numbered_all, said_by}
 use Rattle.reading.specs.Laws.Elements.{names-grow-all}
-use Rattle.reading.specs.Accepts.{accepted-elements}
-use Rattle.reading.specs.AcceptedLaws.{Own, names-own}
+use Rattle.reading.proofs.AcceptsLaws.{accepted-elements}
+use Rattle.reading.specs.AcceptedLaws.{Own}
+use Rattle.reading.proofs.AcceptedLaws.{names-own}
 use Rattle.reading_layout.specs.Fit.{number-with}
 use Rattle.reading_layout.specs.Answers.{names-short}
 use Rattle.comparison.specs.Exactly.{Named, NamedAll, constant_of, name_of, list_of, none_of, more_of}

@@ -7,7 +7,7 @@ use Rattle.reading.specs.Elements.{Answer, got, refused_for}
 use Rattle.reading.specs.Read.{Recipe, read, item_words, name_bytes}
 use Rattle.core_term.specs.Term.{Plain}
 use Rattle.expansion.specs.Run.{accepted, told, core_of, run}
-use Rattle.expansion.specs.Bounds.Gas.{accepted-begun}
+use Rattle.expansion.proofs.Bounds.Gas.{accepted-begun}
 use Rattle.comparison.specs.Compare.{require, with_term, our_term, spelled_operations, held, replied, comparison}
 use Rattle.output.specs.Written.{operation_count, AcceptedIsWritten}
 use Rattle.output.specs.WrittenLaws.{accepted-is-written, operations-written}

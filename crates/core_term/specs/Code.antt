@@ -6,8 +6,6 @@ pub mod Window
 pub mod WindowLaws
 pub mod HeadLaws
 pub mod Shape
-pub mod ShapeLaws
 pub mod Walk
 pub mod Scan
 pub mod Windows
-pub mod CheckLaws

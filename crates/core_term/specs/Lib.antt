@@ -8,17 +8,13 @@ pub mod TermLaws
 pub mod Decode
 pub mod Every
 pub mod EveryLaws
-pub mod DecodeRound
 pub mod DecodeRead
-pub mod DecodeLaws
 pub mod Check
 pub mod Parts
 pub mod PartsLaws
 pub mod Code
 pub mod Decimal
-pub mod DecimalLaws
 pub mod Text
 pub mod OwnNames
-pub mod OwnNamesLaws
 pub mod TextRoom
 pub mod Rows

@@ -16,7 +16,7 @@ use Rattle.recipe.specs.Tree.{Tree, empty, constant, name, pair, on_name, on_pai
 use Rattle.recipe.specs.Tidy.{Tidy, tidy_empty, tidy_constant, tidy_name, tidy_pair, tidy-elements, tidy-element}
 use Rattle.recipe.specs.TableTidy.{IsConstant}
 use Rattle.expansion.specs.Rules.{literal_list, ellipsis_of, rule_pattern, matched_part, template_place, rule_variables, Pattern, pair_p, ellipsis_p, Template, constant_t, pair_t, ellipsis_t, depth_fits, variable_from, name_template, are_variables, list_template, Place, as_element, as_rest, as_taken, as_escaped, no_ellipsis, dots_next, depth_before, place_after, is_variable, variables, pattern_of, template_of, rule_of, is_rules_form, rules_of}
-use Rattle.expansion.specs.TidyRules.{tidy-rules}
+use Rattle.expansion.proofs.TidyRulesLaws.{tidy-rules}
 use Rattle.expansion.specs.Match.{holds}
 use Rattle.words.specs.ListLaws.{either}
 use Rattle.rule_cells.specs.PatternLaws.{count-pair, dots-count}

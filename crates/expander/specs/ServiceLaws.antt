@@ -9,8 +9,9 @@ use Rattle.words.specs.ListLaws.{rest-is}
 use Rattle.words.specs.TestLaws.{and_parts}
 use Rattle.recipe.specs.Table.{item_count, is_layout, tree_of}
 use Rattle.expansion.specs.Run.{stage_of, Run, core_of, ended, unbegun, require, operation_numbers, are_operations, expand_recipe, run}
-use Rattle.expansion.specs.RunLaws.{ended-begun, Begun, begun-run}
-use Rattle.expansion.specs.Bounds.{run-core-fits}
+use Rattle.expansion.specs.RunLaws.{Begun}
+use Rattle.expansion.proofs.RunLaws.{ended-begun, begun-run}
+use Rattle.expansion.proofs.Bounds.{run-core-fits}
 use Rattle.layout.specs.Places.{Places}
 use Rattle.expander.specs.declared.Expansion.{Expansion}
 use Rattle.expander.specs.declared.Expansion.TheVariants.{Accepted, Refused}

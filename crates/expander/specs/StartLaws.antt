@@ -13,10 +13,10 @@ use Rattle.recipe.specs.Name.{Name}
 use Rattle.recipe.specs.Tree.{size, element}
 use Rattle.recipe.specs.TreeLaws.{element-size}
 use Rattle.recipe.specs.Table.{item_count, tree_of}
-use Rattle.recipe.specs.TableLaws.{is_layout-parts}
-use Rattle.recipe.specs.TableWeight.{tree_of-size}
+use Rattle.recipe.proofs.TableLaws.{is_layout-parts}
+use Rattle.recipe.proofs.TableWeightLaws.{tree_of-size}
 use Rattle.recipe.specs.Tidy.{tidy-weaken, tidy-element, tidy-names}
-use Rattle.recipe.specs.TableTidy.{tree_of-tidy}
+use Rattle.recipe.proofs.TableTidyLaws.{tree_of-tidy}
 use Rattle.core_term.specs.Term.{Term}
 use Rattle.expansion.specs.Computation.{State, start, Out, done, refused, starved}
 use Rattle.expansion.specs.Forms.{expand}

@@ -27,5 +27,4 @@ pub mod CoreTerm
 pub mod Ways
 pub mod MoreFuel
 pub mod Depths
-pub mod DepthLaws
 pub mod RowsDepths

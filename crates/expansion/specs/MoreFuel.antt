@@ -1,7 +1,5 @@
 -- Request L9, 'Trying with more fuel', stated over the definition of a run, in the words of document 02. Nothing is proved here.
 pub mod Tries
-pub mod Alike
-pub mod Claim
 pub mod Said
 use Rattle.std.specs.Prelude.{◌≡◌, List, ℕ, ◌+◌, ◌*◌, ◌≤◌, ◌<◌}
 use Rattle.words.specs.Limits.{fuel_most, work_rate, core_rate}

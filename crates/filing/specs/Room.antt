@@ -13,12 +13,13 @@ use Rattle.reading.specs.Read.{Recipe, read, item_words, name_bytes}
 use Rattle.reading_layout.specs.Answers.{read-ground}
 use Rattle.core_term.specs.Decimal.{numeral}
 use Rattle.core_term.specs.Text.{spaced_after, spaced}
-use Rattle.core_term.specs.Code.CheckLaws as C
-use Rattle.core_term.specs.TextRoom.{limit, number-room, text-room}
+use Rattle.core_term.proofs.OfCode.CheckLaws as C
+use Rattle.core_term.specs.TextRoom.{limit}
+use Rattle.core_term.proofs.TextRoomLaws.{number-room, text-room}
 use Rattle.expansion.specs.Run.{Outcome, accepted, refused_on, unfinished, Run, core_of, run}
 use Rattle.expansion.specs.CoreTerm.{CoreTerm, Named}
-use Rattle.expansion.specs.Bounds.{run-sum, run-steps, run-core-fits}
-use Rattle.expansion.specs.Ways.Grounds.{ground-range, run-ground}
+use Rattle.expansion.proofs.Bounds.{run-sum, run-steps, run-core-fits}
+use Rattle.expansion.proofs.Ways.Grounds.{ground-range, run-ground}
 use Rattle.output.specs.Output.{line, refusal, header, acceptance, term_text, printed, output_of, filed, output}
 use Rattle.output.specs.WrittenLaws.{recipe-named}
 use Rattle.writer.specs.declared.Writing.{Writing}

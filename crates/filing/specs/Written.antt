@@ -7,7 +7,8 @@ use Rattle.datum.specs.NameTable.{has_name}
 use Rattle.reading.specs.Elements.{got}
 use Rattle.reading.specs.Read.{Recipe, read, item_words, name_bytes}
 use Rattle.expansion.specs.Run.{accepted, Run, core_of, run}
-use Rattle.expansion.specs.CoreTerm.{CoreTerm, Named, run-operations, named-term-within}
+use Rattle.expansion.specs.CoreTerm.{CoreTerm, Named}
+use Rattle.expansion.proofs.CoreTermLaws.{run-operations, named-term-within}
 use Rattle.output.specs.Output.{term_text}
 use Rattle.output.specs.Written.{operation_count, AcceptedIsWritten}
 use Rattle.output.specs.WrittenLaws.{accepted-is-written}

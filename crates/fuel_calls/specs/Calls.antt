@@ -5,12 +5,12 @@ use Rattle.std.proofs.Common.{sym, ◌∙◌, inl, inr, arith}
 use Rattle.std.proofs.Math.ListN.{length}
 use Rattle.words.specs.Tables.{testing, begun, left_at}
 use Rattle.expansion.specs.Run.{Outcome, accepted, refused_on, unfinished, stage_of, Run, core_of, run}
-use Rattle.expansion.specs.Bounds.{run-sum, run-core-fits}
-use Rattle.expansion.specs.Bounds.Gas.{run-finished}
+use Rattle.expansion.proofs.Bounds.{run-sum, run-core-fits}
+use Rattle.expansion.proofs.Bounds.Gas.{run-finished}
 use Rattle.expansion.specs.RunLaws.{GroundIn}
-use Rattle.expansion.specs.Ways.Grounds.{run-ground}
+use Rattle.expansion.proofs.Ways.Grounds.{run-ground}
 use Rattle.expansion.specs.MoreFuel.{Try, tried, Enough, LeastFuel}
-use Rattle.expansion.specs.MoreFuel.Claim.{least-fuel}
+use Rattle.expansion.proofs.MoreFuel.Claim.{least-fuel}
 use Rattle.expander.specs.Service.{Numbers, ground_of, run_numbers, core_after, work_after}
 use Rattle.fuel_calls.specs.Statement.{Call, Early, Late, call_ground, call_sum, Kept, Wrote, Left, kept, wrote, Same, MoreFuelCalls, LeastFuelCalls}
 

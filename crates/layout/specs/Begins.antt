@@ -9,7 +9,8 @@ use Rattle.recipe.specs.Tree.{on_empty, on_pair, is_list, is_list_of, elements, 
 use Rattle.recipe.specs.Table.{items, kind_at, is_item, tree_of}
 use Rattle.recipe.specs.ItemLaws.{item_at}
 use Rattle.recipe.specs.TreeFrom.{tree_from, head_at, tail_at, from-is_list}
-use Rattle.recipe.specs.Layout.{is_list_kind, PairItem, item_good, good_pair, good_pair_tree, spine-more, spine-end}
+use Rattle.recipe.specs.Layout.{is_list_kind, PairItem}
+use Rattle.recipe.proofs.LayoutLaws.{item_good, good_pair, good_pair_tree, spine-more, spine-end}
 
 -- the two kinds of a list
 pub list-kind : (k : ℕ) → is_list_kind k ≡ true → (k ≡ 0 → ⊥) → k ≡ 4

@@ -10,7 +10,8 @@ use Rattle.recipe.specs.Name.{Name, plain_name}
 use Rattle.recipe.specs.Tree.{Tree, empty, name, pair, on_name, is_name, names, elements}
 use Rattle.recipe.specs.Table.{kind_at, tree_of}
 use Rattle.recipe.specs.TreeFrom.{tree_from, head_at, tail_at}
-use Rattle.recipe.specs.Layout.{Layout, root}
+use Rattle.recipe.specs.Layout.{Layout}
+use Rattle.recipe.proofs.LayoutLaws.{root}
 use Rattle.expansion.specs.Run.{operation_numbers, are_operations}
 use Rattle.layout.specs.Places.{numbers}
 use Rattle.layout.specs.DistinctNames.{is_fit, are_names, passes}

@@ -11,7 +11,8 @@ use Rattle.recipe.specs.Name.{plain_name}
 use Rattle.recipe.specs.Tree.{on_name, name}
 use Rattle.recipe.specs.Table.{kind_at, item_count}
 use Rattle.recipe.specs.TreeFrom.{tree_from, head_at}
-use Rattle.recipe.specs.Layout.{Layout, layout_name, empty_tree, name_tree, pair_tree, constant_tree}
+use Rattle.recipe.specs.Layout.{Layout}
+use Rattle.recipe.proofs.LayoutLaws.{layout_name, empty_tree, name_tree, pair_tree, constant_tree}
 use Rattle.layout.specs.DistinctNames.{is_fit, passes}
 
 -- item i is a name that passes

@@ -8,7 +8,8 @@ use Rattle.recipe.specs.Name.{plain_name}
 use Rattle.recipe.specs.Tree.{Tree, empty, name, pair, names}
 use Rattle.recipe.specs.Table.{kind_at, tree_of, item_count}
 use Rattle.recipe.specs.TreeFrom.{tree_from, head_at, tail_at}
-use Rattle.recipe.specs.Layout.{is_list_kind, PairItem, Layout, layout_pair, empty_tree, pair_tree, root}
+use Rattle.recipe.specs.Layout.{is_list_kind, PairItem, Layout}
+use Rattle.recipe.proofs.LayoutLaws.{layout_pair, empty_tree, pair_tree, root}
 use Rattle.expansion.specs.Run.{operation_numbers, are_operations}
 use Rattle.layout.specs.Begins.{list-kind}
 use Rattle.layout.specs.Places.{Places, numbers}

@@ -14,8 +14,9 @@ use Rattle.reading.specs.Token.{Token, nothing, tokens_after, tokens}
 use Rattle.reading.specs.Offset.{start_at, token_at, next_at, before}
 use Rattle.reading.specs.Meaning.{Meaning, name, meaning_of}
 use Rattle.reading.specs.RecipeText.{Means, named}
-use Rattle.reading.specs.Laws.Meanings.{is_refused, is-meant}
-use Rattle.reading.specs.Laws.Offsets.{tokens-from, start-low, next-high, next-later, past_end}
+use Rattle.reading.specs.Laws.Meanings.{is_refused}
+use Rattle.reading.proofs.Laws.MeaningsLaws.{is-meant}
+use Rattle.reading.proofs.Laws.Offsets.{tokens-from, start-low, next-high, next-later, past_end}
 use Rattle.lexer.specs.Told.{meanings_from, Took, Told}
 use Rattle.lexer.specs.Answered.{meant, past_or, start_or, meaning, meaning_at, Answered, Takes, ended, further}
 

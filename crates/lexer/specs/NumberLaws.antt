@@ -22,8 +22,8 @@ use Rattle.lexer.specs.Answers.{DigitsAfter, behind_dot}
 use Rattle.reading.specs.Token.{is_digit}
 use Rattle.reading.specs.Meaning.{Meaning, constant, refused, is_negative, unsigned, is_numeral, whole, fraction, are_places, is_fraction, places, value_from, size, number, signed, numeral_of}
 use Rattle.reading.specs.Offset.{leading}
-use Rattle.reading.specs.Laws.Offsets.{leading-all, leading-within, leading-append}
-use Rattle.reading.specs.Laws.Meanings.{numeral-is, numeral-malformed}
+use Rattle.reading.proofs.Laws.Offsets.{leading-all, leading-within, leading-append}
+use Rattle.reading.proofs.Laws.MeaningsLaws.{numeral-is, numeral-malformed}
 
 -- ---- digits
 

@@ -17,7 +17,7 @@ use Rattle.reading.specs.Token.{foreign, run, nothing, hash, is_digit, is_runnin
 use Rattle.reading.specs.Meaning.{Meaning, begins, ends, constant, refused, meaning_of, is_name}
 use Rattle.reading.specs.RecipeText.{EndsRun, at_end, before}
 use Rattle.reading.specs.Offset.{leading, width_of, first_width, start_at, next_at}
-use Rattle.reading.specs.Laws.Offsets.{leading-append, leading-more, leading-stops, leading-ends}
+use Rattle.reading.proofs.Laws.Offsets.{leading-append, leading-more, leading-stops, leading-ends}
 use Rattle.reading.specs.Laws.Tokens.{class-running, separator-skipped, run-taken}
 use Rattle.lexer.specs.Told.{meanings_from, Skipped, RunTo, Took, Told, RunTold, FlagTook, FlagTold}
 use Rattle.lexer.specs.declared.token.Token as T

@@ -11,8 +11,9 @@ use Rattle.reading_layout.specs.Named.{read_named}
 use Rattle.recipe.specs.Table.{tree_of}
 use Rattle.expansion.specs.Run.{accepted, operation_numbers, run}
 use Rattle.expansion.specs.Computed.{computed}
-use Rattle.expansion.specs.Bounds.Gas.{accepted-begun}
-use Rattle.expansion.specs.CoreTerm.{CoreTerm, Named, operations-named, named-term, named-term-within}
+use Rattle.expansion.proofs.Bounds.Gas.{accepted-begun}
+use Rattle.expansion.specs.CoreTerm.{CoreTerm, Named}
+use Rattle.expansion.proofs.CoreTermLaws.{operations-named, named-term, named-term-within}
 use Rattle.output.specs.Written.{operation_count, AcceptedIsWritten, WrittenWithMore}
 
 -- every name of a reading's items is in its own table

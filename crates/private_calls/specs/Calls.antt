@@ -12,7 +12,7 @@ use Rattle.recipe.specs.Table.{tree_of}
 use Rattle.core_term.specs.Term.{Term}
 use Rattle.core_term.specs.TermLaws.{on_formals-words}
 use Rattle.expansion.specs.Run.{stage_of, run}
-use Rattle.expansion.specs.RunLaws.{begun-stage, shows-begun}
+use Rattle.expansion.proofs.RunLaws.{begun-stage, shows-begun}
 use Rattle.private_names.specs.Statement.{Choice, is_old_item, renamed, is_reached_at, hypotheses, Answer, answer_of, formal_number, core_with, answer_with, PrivateNames}
 use Rattle.private_names_proof.specs.Claim.{private-names}
 use Rattle.expander.specs.declared.Expansion.{Expansion}

@@ -18,7 +18,8 @@ use Rattle.core_term.specs.Words.{encode}
 use Rattle.expansion.specs.Computation.{start, Out, done, refused, starved}
 use Rattle.expansion.specs.Forms.{rules_form_of, expand_within, expand}
 use Rattle.expansion.specs.Run.{accepted, refused_on, ended, operation_numbers, are_operations, expand_recipe, run}
-use Rattle.expansion.specs.RunLaws.{Begun, begun-run, shows-begun}
+use Rattle.expansion.specs.RunLaws.{Begun}
+use Rattle.expansion.proofs.RunLaws.{begun-run, shows-begun}
 use Rattle.private_names.specs.Statement as S
 use Rattle.private_names.specs.Statement.{Choice, is_old_item, is_new, renamed, is_reached_at, quotes_no_copy, finds_own, hypotheses, answer_of, core_with, answer_with, PrivateNames}
 use Rattle.simulation.specs.Names.Shown.{Renaming, of_copy, AllFine}

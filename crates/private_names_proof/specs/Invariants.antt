@@ -22,12 +22,14 @@ use Rattle.recipe.specs.TreeNames.{tree_all-map, tree_all-element, uses-element}
 use Rattle.recipe.specs.Tidy.{tidy-element, tidy-weaken}
 use Rattle.recipe.specs.Table.{is_layout, tree_of}
 use Rattle.recipe.specs.TableNames.{number_at}
-use Rattle.recipe.specs.TableTidy.{PlainName, IsConstant, tree_of-tidy}
+use Rattle.recipe.specs.TableTidy.{PlainName, IsConstant}
+use Rattle.recipe.proofs.TableTidyLaws.{tree_of-tidy}
 use Rattle.core_term.specs.Term.{Term}
 use Rattle.expansion.specs.Computation.{State, start, Out}
 use Rattle.expansion.specs.Forms.{expand_use, expand}
 use Rattle.expansion.specs.Run.{operation_numbers, expand_recipe, run}
-use Rattle.expansion.specs.RunLaws.{Begun, begun-run, shows-begun}
+use Rattle.expansion.specs.RunLaws.{Begun}
+use Rattle.expansion.proofs.RunLaws.{begun-run, shows-begun}
 use Rattle.private_names.specs.Statement.{Choice, is_old_item, is_reached_at}
 use Rattle.simulation.specs.Outcomes.{events_of}
 use Rattle.private_names_proof.specs.Reach.Heads.{Unheaded}

@@ -14,7 +14,8 @@ use Rattle.words.specs.Each.{Each, none_of, also}
 use Rattle.recipe.specs.Name.{Binding, Name, binding_key}
 use Rattle.expansion.specs.Computation.{Event, looked, quoted, reached, binds, Events}
 use Rattle.expansion.specs.Run.{run}
-use Rattle.expansion.specs.Ways.OwnNames.{bindings_made, run-own-name}
+use Rattle.expansion.specs.Ways.OwnNames.{bindings_made}
+use Rattle.expansion.proofs.Ways.OwnNamesLaws.{run-own-name}
 use Rattle.simulation.specs.Names.Shown.{Renaming, of_copy, Fine, AllFine}
 use Rattle.simulation.specs.Names.Sameness.{binding_key-injective}
 use Rattle.private_names.specs.Statement.{is_copy, binds_copy, is_owned_by_copy, quotes_no_copy, finds_own}

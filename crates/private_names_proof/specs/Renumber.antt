@@ -21,8 +21,8 @@ use Rattle.recipe.specs.TreeLaws.{on_names-elements, on_names-element}
 use Rattle.recipe.specs.Tidy.{on_names-is_list}
 use Rattle.recipe.specs.Table.{Item, items, by_kind, constant_of, references, kind_at, is_pair_item, is_item, is_referred_once, trees, tree_of, item_count, is_layout}
 use Rattle.recipe.specs.TreeNames.{TreeAll}
-use Rattle.recipe.specs.TableLaws.{is_layout-parts}
-use Rattle.recipe.specs.TableNames.{tree_of-all}
+use Rattle.recipe.proofs.TableLaws.{is_layout-parts}
+use Rattle.recipe.proofs.TableNamesLaws.{tree_of-all}
 use Rattle.private_names.specs.Statement.{is_new, renumber}
 
 -- a new number is that of no name

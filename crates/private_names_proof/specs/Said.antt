@@ -13,12 +13,12 @@ use Rattle.words.specs.TestLaws.{and_parts, and_both, or-none}
 use Rattle.recipe.specs.Name.{Binding, Name, binding_key}
 use Rattle.recipe.specs.Tree.{Tree, empty, constant, name, pair, names, on_name, element}
 use Rattle.recipe.specs.Table.{Item, items, tree_of}
-use Rattle.recipe.specs.TableNames.{tree_of-uses}
+use Rattle.recipe.proofs.TableNamesLaws.{tree_of-uses}
 use Rattle.expansion.specs.Rules.{rule_template, rule_list, has_variable}
 use Rattle.expansion.specs.Forms.{rules_form_of}
 use Rattle.expansion.specs.Computation.{Event, looked, quoted, reached, binds, Events}
 use Rattle.expansion.specs.Run.{Run, run}
-use Rattle.expansion.specs.RunLaws.{shows-begun}
+use Rattle.expansion.proofs.RunLaws.{shows-begun}
 use Rattle.private_names.specs.Statement as S
 use Rattle.private_names.specs.Statement.{Choice, parts, has_head, form_at, rules_at, rule_at, template_at, is_variable_at, is_item_of, is_old_item, is_new, renumber, renamed, is_reached_at, is_copy, binds_copy, is_owned_by_copy, quotes_no_copy, finds_own, hypotheses, Answer, answer_of, answer_with, PrivateNames}
 use Rattle.private_names.specs.Demand3.{variables_in, template_in, Copy, OwnCopy, Whenever, second, Alike, Demand3}

@@ -14,11 +14,12 @@ use Rattle.recipe.specs.Tree.{Tree, names, element, on_names}
 use Rattle.recipe.specs.TreeLaws.{on_names-element}
 use Rattle.recipe.specs.TreeNames.{TreeAll, tree_all-element, tree_all-tail, uses-elements}
 use Rattle.recipe.specs.Table.{is_layout, tree_of}
-use Rattle.recipe.specs.TableNames.{number_at, tree_of-plain, tree_of-numbered, tree_of-uses}
+use Rattle.recipe.specs.TableNames.{number_at}
+use Rattle.recipe.proofs.TableNamesLaws.{tree_of-plain, tree_of-numbered, tree_of-uses}
 use Rattle.expansion.specs.Rules.{literal_list, rule_list, ellipsis_of, rule_template, has_variable}
 use Rattle.expansion.specs.Computation.{Events}
 use Rattle.expansion.specs.Forms.{rules_form_of}
-use Rattle.expansion.specs.FormLaws.{rule-placed}
+use Rattle.expansion.proofs.FormLaws.{rule-placed}
 use Rattle.private_names.specs.Statement as S
 use Rattle.private_names.specs.Statement.{Choice, form_at, rules_at, rule_at, template_at, is_variable_at, is_old_item, is_new, is_owned_by_copy}
 use Rattle.simulation.specs.Names.Shown.{Renaming}

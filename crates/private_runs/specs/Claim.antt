@@ -11,12 +11,12 @@ use Rattle.core_term.specs.Term.{Term, Plain, on_formals}
 use Rattle.core_term.specs.Words.{encode}
 use Rattle.core_term.specs.EveryLaws.{well_formed-unnamed}
 use Rattle.core_term.specs.Decode.{decode}
-use Rattle.core_term.specs.DecodeLaws.{decode-encode}
+use Rattle.core_term.proofs.DecodeLaws.{decode-encode}
 use Rattle.core_term.specs.Check.{small, term_of}
-use Rattle.core_term.specs.Code.CheckLaws.{accepted}
+use Rattle.core_term.proofs.OfCode.CheckLaws.{accepted}
 use Rattle.expansion.specs.Run as X
 use Rattle.expansion.specs.Run.{Run, told, words_of, term_words, core_of}
-use Rattle.expansion.specs.Bounds.Gas.{kept-accepted}
+use Rattle.expansion.proofs.Bounds.Gas.{kept-accepted}
 use Rattle.expansion.specs.CoreTerm.{CoreTerm}
 use Rattle.private_names.specs.Statement.{Choice, is_old_item, renamed, hypotheses, Answer, answer_of, formal_number, core_with, answer_with, PrivateNames}
 use Rattle.private_names_proof.specs.Claim.{private-names}

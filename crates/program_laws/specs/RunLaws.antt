@@ -6,9 +6,9 @@ use Rattle.std.proofs.Math.ListN.{length}
 use Rattle.words.specs.Tables.{Stage, filled, left_at}
 use Rattle.core_term.specs.PartsLaws.{encode-two}
 use Rattle.expansion.specs.Run.{told, term_words, Outcome, accepted, refused_on, unfinished, stage_of, Run, core_of, run}
-use Rattle.expansion.specs.CoreTerm.{run-term}
-use Rattle.expansion.specs.Bounds.Gas.{run-finished}
-use Rattle.expansion.specs.Ways.Grounds.{ground-range, run-ground}
+use Rattle.expansion.proofs.CoreTermLaws.{run-term}
+use Rattle.expansion.proofs.Bounds.Gas.{run-finished}
+use Rattle.expansion.proofs.Ways.Grounds.{ground-range, run-ground}
 use Rattle.expander.specs.declared.Expansion.{Expansion}
 use Rattle.expander.specs.declared.Expansion.TheVariants.{Accepted, Refused}
 use Rattle.expander.specs.Service.{Numbers, numbers_of, ground_of, run_numbers, core_after, Served}

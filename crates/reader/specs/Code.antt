@@ -1,13 +1,9 @@
 -- What the code's functions promise, and the laws that their proofs cite, in the order of the source.
 pub mod Index
-pub mod IndexLaws
 pub mod Stored
-pub mod StoredLaws
 pub mod Placed
 pub mod PlacedLaws
 pub mod StepLaws
-pub mod NameStepLaws
 pub mod Moved
 pub mod MovedLaws
 pub mod Reached
-pub mod ServedLaws

@@ -1,6 +1,5 @@
 -- Laws of the definition, one file for each part of it.
 pub mod Tokens
-pub mod Offsets
 pub mod Meanings
 pub mod Elements
 pub mod Spelling

@@ -15,8 +15,8 @@ use Rattle.reading.specs.Numbering.{base_names, data_words}
 use Rattle.reading.specs.Elements.{got}
 use Rattle.reading.specs.Read.{Recipe, read, item_words}
 use Rattle.reading.specs.RecipeText.{names_of, numbered, numbered_all, both, recipe}
-use Rattle.reading.specs.Accepts.{accepted-only}
-use Rattle.reading.specs.AcceptedLaws.{items-few}
+use Rattle.reading.proofs.AcceptsLaws.{accepted-only}
+use Rattle.reading.proofs.AcceptedLaws.{items-few}
 use Rattle.reading_layout.specs.Items.{fits, fit_all, data-length, datum-positive, items-are}
 use Rattle.reading_layout.specs.Places.{data-referred}
 use Rattle.reading_layout.specs.Good.{data-good}

@@ -10,7 +10,7 @@ use Rattle.reading.specs.Token.{Token, open', close', bad, flag, run}
 use Rattle.reading.specs.Meaning.{Meaning, begins, ends, constant, name, refused, number}
 use Rattle.reading.specs.Numbering.{base_names, number_of, with_name}
 use Rattle.reading.specs.Laws.Elements.{names-grow-all}
-use Rattle.reading.specs.Laws.Meanings.{fraction-places}
+use Rattle.reading.proofs.Laws.MeaningsLaws.{fraction-places}
 use Rattle.reading.specs.NumberingLaws.{number-most}
 use Rattle.reading.specs.RecipeText as R
 use Rattle.reading.specs.CoreText.{one, CoreText, core_element}

@@ -17,8 +17,8 @@ use Rattle.reading.specs.Elements.{got}
 use Rattle.reading.specs.Read.{Recipe, read_elements, item_words, name_bytes}
 use Rattle.reading.specs.RecipeText.{Element, Elements, constant_e, name_e, list_e, none_e, more_e, names_of, names_of_all, numbered, numbered_all, said_by}
 use Rattle.reading.specs.Laws.Elements.{names-grow-all}
-use Rattle.reading.specs.Accepts.{accepted-elements}
-use Rattle.reading.specs.AcceptedLaws.{names-few}
+use Rattle.reading.proofs.AcceptsLaws.{accepted-elements}
+use Rattle.reading.proofs.AcceptedLaws.{names-few}
 use Rattle.reading_layout.specs.Items.{fits, fit_all, no_name, item, items_of, items_of_all, items-are}
 use Rattle.reading_layout.specs.Fit.{number-with, text-fits}
 use Rattle.reading_layout.specs.Answers.{is_spelling, names-spelled, names-short}

@@ -8,9 +8,10 @@ use Rattle.core_term.specs.Term.{Term, Plain}
 use Rattle.core_term.specs.Check.{term_of, small}
 use Rattle.expansion.specs.Run as X
 use Rattle.expansion.specs.Run.{told, core_of}
-use Rattle.expansion.specs.Bounds.Gas.{kept-accepted}
-use Rattle.expansion.specs.Ways.Grounds.{ground-range, run-ground}
-use Rattle.expansion.specs.CoreTerm.{CoreTerm, run-operations, run-term-within}
+use Rattle.expansion.proofs.Bounds.Gas.{kept-accepted}
+use Rattle.expansion.proofs.Ways.Grounds.{ground-range, run-ground}
+use Rattle.expansion.specs.CoreTerm.{CoreTerm}
+use Rattle.expansion.proofs.CoreTermLaws.{run-operations, run-term-within}
 use Rattle.evaluation.specs.Computation.{Out, done, refused}
 use Rattle.evaluation.specs.Evaluate.{Value}
 use Rattle.evaluation.specs.Run as R

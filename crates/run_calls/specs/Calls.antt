@@ -4,7 +4,7 @@ use Rattle.std.proofs.Common.{sym, ap, ◌∙◌}
 use Rattle.expansion.specs.Run as X
 use Rattle.expansion.specs.Run.{core_of}
 use Rattle.evaluation.specs.Run as R
-use Rattle.expansion.specs.CoreTerm.{run-term}
+use Rattle.expansion.proofs.CoreTermLaws.{run-term}
 use Rattle.recipe_runs.specs.RecipeRun.{after_expansion, recipe_run}
 use Rattle.recipe_runs.specs.Statement.{RunsAsTerm, Never19}
 use Rattle.recipe_runs.specs.Claim.{runs-as-term, never-19}

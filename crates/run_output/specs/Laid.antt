@@ -4,7 +4,7 @@ use Rattle.std.proofs.Common.{sym, ap, append_assoc, arith, length-append, ltb-t
 use Rattle.std.specs.Int.{w32}
 use Rattle.words.specs.Text.{bytes}
 use Rattle.core_term.specs.Decimal.{numeral, signed, integer_text}
-use Rattle.core_term.specs.DecimalLaws.{numeral-count, numeral-word}
+use Rattle.core_term.proofs.DecimalLaws.{numeral-count, numeral-word}
 use Rattle.core_term.specs.Text.{spaced_after, spaced}
 use Rattle.output.specs.Output.{line}
 use Rattle.evaluation.specs.Numbers.{in_range}

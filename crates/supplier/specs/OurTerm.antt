@@ -12,7 +12,7 @@ use Rattle.core_term.specs.Words.{encode}
 use Rattle.core_term.specs.Every.{Asked, every, proper, well_formed}
 use Rattle.core_term.specs.EveryLaws.{every-from}
 use Rattle.core_term.specs.Check.{Scope, outside, known, asked, all_known, term_of}
-use Rattle.core_term.specs.Code.CheckLaws.{accepted}
+use Rattle.core_term.proofs.OfCode.CheckLaws.{accepted}
 use Rattle.supplier.specs.WalkSays.{good_in}
 
 module _ (ours operations : List ℕ) where

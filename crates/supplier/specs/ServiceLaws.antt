@@ -29,7 +29,7 @@ use Rattle.core_term.specs.Term.{Plain}
 use Rattle.core_term.specs.Every.{every}
 use Rattle.core_term.specs.Words.{encode}
 use Rattle.core_term.specs.Check.{term_of, is_some, is_term}
-use Rattle.core_term.specs.Code.CheckLaws.{is_term-some}
+use Rattle.core_term.proofs.OfCode.CheckLaws.{is_term-some}
 use Rattle.expansion.specs.Run.{operation_numbers, are_operations}
 use Rattle.comparison.specs.Grammar.{after, expression_of}
 use Rattle.comparison.specs.Compare.{Verdict, yes, no, refused_on, decided, held, Reply, unread, replied, require, spelled_operations, our_term, with_term, comparison, compare, kept, left_by, read_words, items_left, names_left}

@@ -16,8 +16,9 @@ use Rattle.reading.specs.Elements.{got}
 use Rattle.reading.specs.Read.{Recipe, read_elements, item_words, name_bytes}
 use Rattle.reading.specs.RecipeText.{numbered, numbered_all, size_all}
 use Rattle.reading.specs.CoreText.{one, core_element}
-use Rattle.reading.specs.CoreAccepts.{AcceptedOne, accepted-one}
-use Rattle.reading.specs.AcceptedLaws.{elements-items}
+use Rattle.reading.specs.CoreAccepts.{AcceptedOne}
+use Rattle.reading.proofs.CoreAcceptsLaws.{accepted-one}
+use Rattle.reading.proofs.AcceptedLaws.{elements-items}
 use Rattle.reading_layout.specs.Items.{fits, fit_all, data-length}
 use Rattle.reading_layout.specs.Good.{head-words}
 use Rattle.reading_layout.specs.Fit.{core-fits}

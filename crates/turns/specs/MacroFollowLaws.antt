@@ -14,7 +14,8 @@ use Rattle.recipe.specs.TableTidy.{IsConstant}
 use Rattle.core_term.specs.Term.{Term}
 use Rattle.expansion.specs.Run.{words_of}
 use Rattle.expansion.specs.Rules.{Rule, rules_of}
-use Rattle.expansion.specs.TidyRules.{TidyRules, rules_of-tidy}
+use Rattle.expansion.specs.TidyRules.{TidyRules}
+use Rattle.expansion.proofs.TidyRulesLaws.{rules_of-tidy}
 use Rattle.expansion.specs.Computation.{State, M}
 use Rattle.expansion.specs.Forms.{is_macros, keywords, rules_forms, expand_macros}
 use Rattle.arena.specs.Arena.{tree_at}

@@ -12,7 +12,7 @@ use Rattle.core_term.specs.Term.{datum_c, on_formals}
 use Rattle.core_term.specs.Words.{datum_words, encode}
 use Rattle.arena.specs.Arena.{tree_at}
 use Rattle.arena.specs.Lists.{Means}
-use Rattle.expansion.specs.Bounds.Budget.{datum-words}
+use Rattle.expansion.proofs.Bounds.BudgetLaws.{datum-words}
 use Rattle.forms.specs.Quotes as Q
 use Rattle.forms.specs.Quotes.{quoted_at, Quotable}
 use Rattle.forms.specs.QuoteLaws.{quoted-any}

@@ -17,7 +17,8 @@ use Rattle.expansion.specs.Run.{words_of}
 use Rattle.expansion.specs.Rules.{Rule}
 use Rattle.expansion.specs.Match.{first_fit}
 use Rattle.expansion.specs.Transcribe.{equal_lengths, transcribe}
-use Rattle.expansion.specs.TidyRules.{TidyTemplate, first_fit-tidy, transcribe-tidy}
+use Rattle.expansion.specs.TidyRules.{TidyTemplate}
+use Rattle.expansion.proofs.TidyRulesLaws.{first_fit-tidy, transcribe-tidy}
 use Rattle.expansion.specs.Computation.{State, M}
 use Rattle.expansion.specs.Forms.{expand_use}
 use Rattle.arena.specs.Arena.{tree_at}

@@ -6,7 +6,7 @@ use native.Mathlib.Omega.{arith}
 use Rattle.std.proofs.Math.Nat.{div-eq_of_lt, div-div-eq-div-mul, pow-succ', pow-le-pow_right}
 use Rattle.std.proofs.Math.Arith.{digits_div, digits_mod, mod-mul}
 use Rattle.core_term.specs.Decimal.{numeral, padded}
-use Rattle.core_term.specs.DecimalLaws.{numeral-one, numeral-more, padded-length}
+use Rattle.core_term.proofs.DecimalLaws.{numeral-one, numeral-more, padded-length}
 use Rattle.writer.specs.Put.{no_place, put_of}
 use Rattle.writer.specs.Laid.{laid, Left, done, full}
 use Rattle.writer.specs.LaidLaws.{laid-dry, laid-byte, laid-append, place-holds, full-holds}

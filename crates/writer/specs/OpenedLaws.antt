@@ -18,7 +18,7 @@ use Rattle.core_term.specs.Code.Opened.{node_in, shape_in, shape_by, OpenedAs}
 use Rattle.words.specs.Text.{bytes}
 use Rattle.core_term.specs.Decimal.{numeral, integer_text, decimal_text}
 use Rattle.core_term.specs.Text.{variable_text, operation_text, constant_text}
-use Rattle.core_term.specs.TextRoom.{all-at}
+use Rattle.core_term.proofs.TextRoomLaws.{all-at}
 use Rattle.writer.specs.Pieces.{formals_text, opening, closing}
 use Rattle.writer.specs.Called.{Said, spell_of}
 use Rattle.writer.specs.Opened.{spelled, named, Stands}

@@ -5,7 +5,7 @@ use Rattle.std.proofs.Common.{subst, ◌∙◌, append_assoc, arith, add-one, ze
 use Rattle.std.proofs.Math.Nat.{div-div-eq-div-mul, pow-le-pow_right}
 use Rattle.std.proofs.Math.Arith.{digits_div, digits_mod, mod-mul}
 use Rattle.core_term.specs.Decimal.{numeral, padded, pointed}
-use Rattle.core_term.specs.DecimalLaws.{numeral-one, padded-length}
+use Rattle.core_term.proofs.DecimalLaws.{numeral-one, padded-length}
 use Rattle.core_term.specs.Code.WindowLaws.{case}
 use Rattle.writer.specs.Laid.{laid}
 use Rattle.writer.specs.LaidLaws.{laid-first}

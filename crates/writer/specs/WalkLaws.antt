@@ -10,7 +10,7 @@ use Rattle.core_term.specs.Node.{Node, got, node_at, node_words, parts, binds, i
 use Rattle.core_term.specs.NodeLaws.{both, node-round, node-some, node-read}
 use Rattle.core_term.specs.Term.{none_c, more_c, Plain, Plains, count, variables}
 use Rattle.core_term.specs.Words.{encode, encode_all}
-use Rattle.core_term.specs.DecodeLaws.{encode-unique}
+use Rattle.core_term.proofs.DecodeLaws.{encode-unique}
 use Rattle.core_term.specs.Every.{every, every_term, proper}
 use Rattle.core_term.specs.EveryLaws.{every-from}
 use Rattle.core_term.specs.Parts.{node, parts_of, is_datum, are_data}

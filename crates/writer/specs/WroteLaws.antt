@@ -14,17 +14,18 @@ use Rattle.core_term.specs.Node.{Node, is_node, variable_n, operation_n, constan
 use Rattle.core_term.specs.Term.{Plain, variables, formals_of}
 use Rattle.core_term.specs.Words.{encode}
 use Rattle.core_term.specs.Decode.{decode}
-use Rattle.core_term.specs.DecodeLaws.{decode-encode}
+use Rattle.core_term.proofs.DecodeLaws.{decode-encode}
 use Rattle.core_term.specs.Every.{every}
 use Rattle.core_term.specs.EveryLaws.{every-from}
 use Rattle.core_term.specs.Check.{outside, all_known, term_of, is_term}
 use Rattle.core_term.specs.declared.Counted.TheVariants.{Variables}
 use Rattle.core_term.specs.Code.Counted.{counted_of, counted-some, counted-yes}
 use Rattle.core_term.specs.TermLaws.{formals-count}
-use Rattle.core_term.specs.Code.CheckLaws.{Accepted, accepted, is_term-some}
+use Rattle.core_term.proofs.OfCode.CheckLaws.{Accepted, accepted, is_term-some}
 use Rattle.core_term.specs.Text as T
 use Rattle.core_term.specs.Text.{text}
-use Rattle.core_term.specs.TextRoom.{text_rate, text_words_most, narrow_node, narrow, formals-known, all-narrow, text-room}
+use Rattle.core_term.specs.TextRoom.{text_rate, text_words_most, narrow_node, narrow}
+use Rattle.core_term.proofs.TextRoomLaws.{formals-known, all-narrow, text-room}
 use Rattle.writer.specs.Put.{Put, Done, Full}
 use Rattle.writer.specs.declared.term.Step.{Step}
 use Rattle.writer.specs.declared.term.Step.TheVariants as S

@@ -11,9 +11,9 @@ use Prim.Native.Nat.{◌-◌}
 use lib.ListN.{length}
 use Rattle.core_term.specs.Code.Window.{good_name}
 use Rattle.core_term.specs.Code.Counted.{none-counted}
-use Rattle.core_term.specs.Code.Walk.{shaped-term, shaped-none, kept-term}
+use Rattle.core_term.proofs.OfCode.WalkLaws.{shaped-term, shaped-none, kept-term}
 use Rattle.core_term.specs.Code.Windows.{no_flags-clear}
-use Rattle.core_term.specs.Code.CheckLaws.{many-no, none-no, clean-whole, left-no, Walked, walked-first, walked_more, walked_none, walked-length, walked-clear, walked_all}
+use Rattle.core_term.proofs.OfCode.CheckLaws.{many-no, none-no, clean-whole, left-no, Walked, walked-first, walked_more, walked_none, walked-length, walked-clear, walked_all}
 
 abbrev invariant-loop : tie.invariant-loop-base
 invariant-loop words operations names tabled flags₀ used variables window base₀ flags base =

@@ -18,8 +18,8 @@ use Rattle.recipe.specs.TreeNames.{TreeAll, all-empty, all-constant, all-name, a
 use Rattle.recipe.specs.Tidy.{Tidy, tidy_empty, tidy_constant, tidy_name, tidy_pair, tidy-element, tidy-bind_all}
 use Rattle.expansion.specs.Rules.{Template, Rule, as_element, chosen_count, rule_list, rule_place, template_place, rule_template, variable_from, template_of, rule_of, rules_of}
 use Rattle.expansion.specs.Forms.{keywords, rules_forms, rules_form_of}
-use Rattle.expansion.specs.FormLaws.{rule-placed}
-use Rattle.expansion.specs.TidyRules.{rules_of-tidy}
+use Rattle.expansion.proofs.FormLaws.{rule-placed}
+use Rattle.expansion.proofs.TidyRulesLaws.{rules_of-tidy}
 use Rattle.simulation.specs.Relations.{OptionRel, nones, somes}
 use Rattle.simulation.specs.Shapes.{TreeOf, empties, constants, names₂, pairs, TemplateOf, insert_ts, pair_ts, ellipsis_ts, variable_ts, constant_ts, empty_ts}
 use Rattle.simulation.specs.RulesKept.{template_of-rel}

@@ -19,9 +19,11 @@ use Rattle.expansion.specs.Match.{fit, or_next, first_fit}
 use Rattle.expansion.specs.Transcribe.{transcribe}
 use Rattle.expansion.specs.Computation.{State, Events, Out, refused, M, ◌>>=◌, ◌>>◌, give, refuse, show, test}
 use Rattle.expansion.specs.Forms.{formals, keywords, rules_forms, expand_all, expand_quote, expand_if, expand_lambda, expand_macros, expand_use, expand_operands, expand_list, expand_name, expand_application, expand_pair, expand_tree}
-use Rattle.expansion.specs.Outcomes.{Holds, is_refused, is_starved, give_holds, refuse-holds, test-holds, show-holds, get_holds, add_variables-holds, add_macros-holds, add_step-holds, then-holds, or_refuse-holds, weaken}
-use Rattle.expansion.specs.FormLaws.{read_rules-holds}
-use Rattle.expansion.specs.TidyRules.{TidyTemplate, template_variable, template_insert, template_constant, template_empty, template_pair, template_ellipsis, template-weaken, TidyRules, rules_of-tidy, transcribe-tidy}
+use Rattle.expansion.specs.Outcomes.{Holds, is_refused, is_starved}
+use Rattle.expansion.proofs.OutcomesLaws.{give_holds, refuse-holds, test-holds, show-holds, get_holds, add_variables-holds, add_macros-holds, add_step-holds, then-holds, or_refuse-holds, weaken}
+use Rattle.expansion.proofs.FormLaws.{read_rules-holds}
+use Rattle.expansion.specs.TidyRules.{TidyTemplate, template_variable, template_insert, template_constant, template_empty, template_pair, template_ellipsis, TidyRules}
+use Rattle.expansion.proofs.TidyRulesLaws.{template-weaken, rules_of-tidy, transcribe-tidy}
 use Rattle.private_names_proof.specs.Invariants.Watch.{watched, FailsNowhere}
 use Rattle.private_names_proof.specs.Invariants.Kinds.{Carried, Good, good-fewer, good-later, Sound, bound_all-tidy, bound_all-sound, Result, inserted, handed, inserted-from, used-from, result-sound}
 

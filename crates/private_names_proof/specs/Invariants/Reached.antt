@@ -22,8 +22,9 @@ use Rattle.expansion.specs.Lookup.{quote, if, lambda, let-syntax, letrec-syntax,
 use Rattle.expansion.specs.Rules.{rules_of}
 use Rattle.expansion.specs.Computation.{State, Events, Out, done, refused, starved, M, after, go_on, ◌>>=◌, ◌>>◌, give, refuse, show, test, get, add_variables, add_macros}
 use Rattle.expansion.specs.Forms.{formals, keywords, rules_forms, expand_all, expand_if, expand_lambda, expand_macros, expand_operands, expand_list, expand_application, expand_pair, expand_tree, expand_within, expand}
-use Rattle.expansion.specs.Outcomes.{Holds, is_done, is_refused, is_starved, after_holds, then-holds, weaken}
-use Rattle.expansion.specs.FormLaws.{read_rules-holds}
+use Rattle.expansion.specs.Outcomes.{Holds, is_done, is_refused, is_starved}
+use Rattle.expansion.proofs.OutcomesLaws.{after_holds, then-holds, weaken}
+use Rattle.expansion.proofs.FormLaws.{read_rules-holds}
 use Rattle.private_names.specs.Statement.{is_reached_at}
 use Rattle.simulation.specs.Outcomes.{events_of, events-after}
 use Rattle.private_names_proof.specs.Reach.Heads.{is_at, Unheaded}

@@ -1,7 +1,7 @@
 use borrow.Author.Rules.{rules}
 use Rattle.reader.proofs.begin.Statement.{statement}
 use Rattle.reader.proofs.begin.Tie as tie
-use Rattle.reader.specs.Code.ServedLaws.{zeroed, zeroed-names}
+use Rattle.reader.proofs.OfCode.ServedLaws.{zeroed, zeroed-names}
 
 clear-requires : tie.Need-clear-requires
 clear-requires c κs =

@@ -6,7 +6,7 @@ use mathlib.Core.Path.{ap, subst, ◌∙◌}
 use native.Mathlib.Omega.{arith}
 use lib.ListN.{replicate}
 use Rattle.reader.specs.Code.Reached.{Ended}
-use Rattle.reader.specs.Code.ServedLaws.{served-few-items, served-few-names, served-long, served-read, served-refused}
+use Rattle.reader.proofs.OfCode.ServedLaws.{served-few-items, served-few-names, served-long, served-read, served-refused}
 
 returns : tie.Need-returns-then-items-lt-ITEM_WORDS
 returns c =

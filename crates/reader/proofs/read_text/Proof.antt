@@ -7,8 +7,8 @@ use Prim.Native.Nat.{◌-◌}
 use lib.ListN.{length}
 use Rattle.reader.specs.Code.Reached.{Reached}
 use Rattle.reader.specs.Code.StepLaws.{holds-sound}
-use Rattle.reader.specs.Code.NameStepLaws.{holds-names}
-use Rattle.reader.specs.Code.ServedLaws.{reached-first, reached-on, reached-later, reached-done, reached-refused}
+use Rattle.reader.proofs.OfCode.NameStepLaws.{holds-names}
+use Rattle.reader.proofs.OfCode.ServedLaws.{reached-first, reached-on, reached-later, reached-done, reached-refused}
 use borrow.Author.Rules.{rules}
 
 abbrev invariant-loop : tie.invariant-loop-p

@@ -6,7 +6,7 @@ use mathlib.Core.Path.{◌∙◌}
 use Prim.Native.Nat.{◌≤◌, ◌-◌}
 use lib.ListN.{length}
 use borrow.Author.Rules.{rules}
-use Rattle.reading.specs.Laws.Offsets.{start-low}
+use Rattle.reading.proofs.Laws.Offsets.{start-low}
 use Rattle.lexer.specs.AnsweredLaws.{answered-past}
 
 abbrev invariant-loop : tie.invariant-loop-at

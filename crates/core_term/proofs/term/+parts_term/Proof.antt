@@ -21,7 +21,7 @@ use mathlib.Core.Path.{refl, sym, ap, ◌∙◌}
 use lib.ListN.{length}
 use Rattle.core_term.specs.declared.term.Checked.TheVariants as C
 use Rattle.core_term.specs.Code.Window.{good_name}
-use Rattle.core_term.specs.Code.Walk.{shaped-term, shaped-none, kept-term, walk_none, walk-within, walk-own, walk-parts, walk-leaf, Walking, walk_start, walk_end, walk-stop, walk-next, walk-on, set-row, set-clear, set-undone}
+use Rattle.core_term.proofs.OfCode.WalkLaws.{shaped-term, shaped-none, kept-term, walk_none, walk-within, walk-own, walk-parts, walk-leaf, Walking, walk_start, walk_end, walk-stop, walk-next, walk-on, set-row, set-clear, set-undone}
 
 abbrev μ-parts : Measures 3 parts-kinds.ps ℕ
 μ-parts κs a =

@@ -8,7 +8,7 @@ use native.Mathlib.Omega.{arith}
 use Rattle.words.specs.Limits.{operations_most}
 use Rattle.recipe.specs.Table.{kind_at, item_count}
 use Rattle.recipe.specs.TreeFrom.{head_at}
-use Rattle.recipe.specs.Layout.{layout}
+use Rattle.recipe.proofs.LayoutLaws.{layout}
 use Rattle.layout.specs.Walk.{item-words, words-here, pair-here}
 use Rattle.layout.specs.Listing.{Listing, listing_start, listing-end, listing-item, listing-room, listing-more}
 

@@ -8,7 +8,8 @@ use native.Mathlib.Omega.{arith}
 use Rattle.words.specs.Limits.{operations_most}
 use Rattle.recipe.specs.Tree.{names}
 use Rattle.recipe.specs.TreeFrom.{tree_from}
-use Rattle.recipe.specs.Layout.{Layout, layout}
+use Rattle.recipe.specs.Layout.{Layout}
+use Rattle.recipe.proofs.LayoutLaws.{layout}
 use Rattle.layout.specs.Places.{Places, numbers}
 use Rattle.layout.specs.DistinctNames.{are_names, passes}
 use Rattle.layout.specs.Walk.{ListItem, item-words, first-item, by_first, places-first}

@@ -10,7 +10,8 @@ use native.Mathlib.Omega.{arith}
 use borrow.Author.Tests.{not-true, not-false}
 use Rattle.recipe.specs.Table.{kind_at, is_item, references}
 use Rattle.recipe.specs.ItemLaws.{item_at}
-use Rattle.recipe.specs.Layout.{PairItem, pair_item}
+use Rattle.recipe.specs.Layout.{PairItem}
+use Rattle.recipe.proofs.LayoutLaws.{pair_item}
 use Rattle.layout.specs.ItemTests.{item-pair}
 use Rattle.layout.specs.Counts.{Counted, counted_none, counted-two, most-one, references-pair, references-none}
 

@@ -9,7 +9,7 @@ use lib.ListN.{length, take, drop}
 use Rattle.reading.specs.Token.{is_digit}
 use Rattle.reading.specs.Offset.{leading}
 use Rattle.reading.specs.Meaning.{value_from}
-use Rattle.reading.specs.Laws.Offsets.{leading-more, leading-stops, leading-ends}
+use Rattle.reading.proofs.Laws.Offsets.{leading-more, leading-stops, leading-ends}
 use Rattle.lexer.specs.NumberLaws.{value_none, value-more}
 use borrow.Author.Rules.{rules}
 

@@ -15,7 +15,7 @@ use Rattle.reading.specs.Token.{run}
 use Rattle.reading.specs.Meaning.{constant, number, name_of, meaning_of}
 use Rattle.lexer.specs.declared.number.Numeral.{Numeral}
 use Rattle.lexer.specs.Answers.{numeral_meaning}
-use Rattle.reading.specs.Laws.Meanings.{numeral-means, other-means, name-is, name-malformed}
+use Rattle.reading.proofs.Laws.MeaningsLaws.{numeral-means, other-means, name-is, name-malformed}
 use Rattle.lexer.specs.ToldLaws.{name-short}
 
 abbrev word : (c : tie.Start) → List ℕ

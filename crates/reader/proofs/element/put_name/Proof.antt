@@ -4,8 +4,8 @@ use Rattle.reader.proofs.element.put_name.Tie as tie
 use native.Mathlib.Omega.{arith}
 use Prim.Native.Nat.{◌<◌}
 use Rattle.words.specs.Limits.{names_most}
-use Rattle.reader.specs.Code.IndexLaws.{bucket-below}
-use Rattle.reader.specs.Code.NameStepLaws.{found-most, name-known, name-full, name_new}
+use Rattle.reader.proofs.OfCode.IndexLaws.{bucket-below}
+use Rattle.reader.proofs.OfCode.NameStepLaws.{found-most, name-known, name-full, name_new}
 
 returns : tie.Need-returns-then-number-place
 returns c =

@@ -7,7 +7,7 @@ use mathlib.Core.Path.{◌≡◌, refl, sym, ◌∙◌}
 use Prim.Native.Nat.{◌≤◌, ◌<◌, ◌-◌}
 use lib.ListN.{length, drop}
 use Rattle.reader.specs.Code.Index.{bucket_count, bucket_from, bucket_of}
-use Rattle.reader.specs.Code.IndexLaws.{bucket-step, bucket-end}
+use Rattle.reader.proofs.OfCode.IndexLaws.{bucket-step, bucket-end}
 
 abbrev invariant-loop : tie.invariant-loop-i
 invariant-loop word bucket₀ i₀ bucket i =

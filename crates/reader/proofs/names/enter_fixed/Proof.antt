@@ -6,8 +6,8 @@ use Prim.Native.Nat.{◌≤◌}
 use lib.ListN.{length}
 use native.Mathlib.Omega.{arith}
 use Rattle.words.specs.Limits.{name_length_most}
-use Rattle.reader.specs.Code.IndexLaws.{bucket-below}
-use Rattle.reader.specs.Code.StoredLaws.{base_short, base_more}
+use Rattle.reader.proofs.OfCode.IndexLaws.{bucket-below}
+use Rattle.reader.proofs.OfCode.StoredLaws.{base_short, base_more}
 
 enter-requires : tie.Need-enter-requires
 enter-requires c κs =

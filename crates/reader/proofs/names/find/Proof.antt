@@ -6,9 +6,9 @@ use borrow.Author.Rules.{rules}
 use mathlib.Core.Path.{subst}
 use Prim.Native.Nat.{◌-◌, ◌<◌}
 use Rattle.reader.specs.Code.Index.{Walked}
-use Rattle.reader.specs.Code.IndexLaws.{bucket-below, walked-first}
+use Rattle.reader.proofs.OfCode.IndexLaws.{bucket-below, walked-first}
 use Rattle.reader.specs.Code.Stored.{names_in}
-use Rattle.reader.specs.Code.StoredLaws.{entry_known, find-here, find-on, find-falls, find-end}
+use Rattle.reader.proofs.OfCode.StoredLaws.{entry_known, find-here, find-on, find-falls, find-end}
 
 abbrev invariant-loop : tie.invariant-loop-entry
 invariant-loop names index known word bucket entry₀ entry =

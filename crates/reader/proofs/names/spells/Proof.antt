@@ -7,7 +7,7 @@ use Prim.Native.Nat.{◌+◌, ◌-◌, ◌*◌, ◌≤◌, ◌<◌}
 use lib.ListN.{length, drop, get_or}
 use Rattle.words.specs.Lists.{equal}
 use Rattle.datum.specs.NameTable.{length_at, name_at}
-use Rattle.reader.specs.Code.StoredLaws.{unequal-lengths, equal-step, equal-stop, equal-end, name-length, name-byte}
+use Rattle.reader.proofs.OfCode.StoredLaws.{unequal-lengths, equal-step, equal-stop, equal-end, name-length, name-byte}
 use borrow.Author.Rules.{rules}
 
 abbrev invariant-loop : tie.invariant-loop-i

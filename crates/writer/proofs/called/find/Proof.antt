@@ -6,7 +6,8 @@ use Rattle.writer.proofs.called.find.Lts as lts
 use Rattle.writer.proofs.numbers.wide.Reads as wide-reads
 use Rattle.core_term.proofs.nodes.shape_at.Reads as shape-at-reads
 use Rattle.std.proofs.Common.{◌≡◌, ◌-◌, ◌≤◌, length, ap, ◌∙◌, arith, rules}
-use Rattle.core_term.specs.Code.Scan.{Scan, scan-start, scan-end, scan-sizes, scan-next, scan-names}
+use Rattle.core_term.specs.Code.Scan.{Scan}
+use Rattle.core_term.proofs.OfCode.ScanLaws.{scan-start, scan-end, scan-sizes, scan-next, scan-names}
 use Rattle.writer.specs.CalledLaws.{name-here}
 
 abbrev invariant-loop : tie.invariant-loop-at

@@ -6,7 +6,8 @@ use Rattle.writer.proofs.called.note.Lts as lts
 use Rattle.writer.proofs.called.put.Reads as put_reads
 use Rattle.core_term.proofs.nodes.shape_at.Reads as shape-at-reads
 use Rattle.std.proofs.Common.{◌≡◌, ◌+◌, ◌-◌, ◌≤◌, length, take, drop, sym, refl, ap, ◌∙◌, arith, rules}
-use Rattle.core_term.specs.Code.Scan.{Scan, scan-start, scan-more, scan-sizes, scan-next, scan-names, scan-count}
+use Rattle.core_term.specs.Code.Scan.{Scan}
+use Rattle.core_term.proofs.OfCode.ScanLaws.{scan-start, scan-more, scan-sizes, scan-next, scan-names, scan-count}
 use Rattle.writer.specs.CalledLaws.{Notes, notes-more, notes-all}
 
 abbrev invariant-loop : tie.invariant-loop-seen

@@ -7,7 +7,7 @@ use Rattle.words.proofs.signed.size.Reads as size-reads
 use Rattle.writer.proofs.bytes.byte.Reads as byte-Reads
 use Rattle.writer.proofs.numbers.point.Reads as point-reads
 use Rattle.writer.proofs.numbers.wide.Reads as wide-reads
-use Rattle.core_term.specs.DecimalLaws.{decimal-below, decimal-above}
+use Rattle.core_term.proofs.DecimalLaws.{decimal-below, decimal-above}
 use Rattle.writer.specs.LaidLaws.{place-room, place-full, place-then, left_is}
 
 returns : tie.Need-returns-then-to

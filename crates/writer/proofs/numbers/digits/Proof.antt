@@ -5,7 +5,7 @@ use Rattle.writer.proofs.numbers.digits.Tie as tie
 use Rattle.writer.proofs.numbers.digits.Reads as reads
 use Rattle.writer.proofs.numbers.digits.Lts as lts
 use borrow.Author.Tests.{not-true, not-false}
-use Rattle.core_term.specs.DecimalLaws.{numeral-one}
+use Rattle.core_term.proofs.DecimalLaws.{numeral-one}
 use Rattle.writer.specs.LaidLaws.{left_is}
 use Rattle.writer.specs.DigitsLaws.{digits-full, digits-dry, digits-laid, most-first, most-laid}
 

@@ -2,7 +2,7 @@
 use Rattle.std.proofs.Common.{◌∙◌, rules}
 use Rattle.writer.proofs.numbers.integer.Statement.{statement}
 use Rattle.writer.proofs.numbers.integer.Tie as tie
-use Rattle.core_term.specs.DecimalLaws.{integer-below, integer-above}
+use Rattle.core_term.proofs.DecimalLaws.{integer-below, integer-above}
 use Rattle.writer.specs.LaidLaws.{left_is}
 
 returns : tie.Need-returns-then-z-lt0

@@ -4,8 +4,9 @@ use Rattle.std.proofs.Common.{sym, subst, arith}
 use Rattle.words.specs.Tables.{Stage, testing, begun}
 use Rattle.expansion.specs.Computation.{start}
 use Rattle.expansion.specs.Run.{refused_on, ended, unbegun, expand_recipe, run}
-use Rattle.expansion.specs.RunLaws.{accepted≢refused_on, refused_on≢unfinished, GroundIn, run_holds}
-use Rattle.expansion.specs.Ways.{expand-keeps}
+use Rattle.expansion.specs.RunLaws.{GroundIn}
+use Rattle.expansion.proofs.RunLaws.{accepted≢refused_on, refused_on≢unfinished, run_holds}
+use Rattle.expansion.proofs.WaysLaws.{expand-keeps}
 
 pub ground-range : (w : Stage) (g : ℕ) → GroundIn w g → (7 ≤ g) × (g ≤ 18)
 ground-range testing g l = (l.0, omega (arith, l.1))

@@ -10,8 +10,10 @@ use Rattle.recipe.specs.Table.{tree_of}
 use Rattle.core_term.specs.Term.{Term}
 use Rattle.expansion.specs.Computation.{start}
 use Rattle.expansion.specs.Run.{accepted, unfinished, ended, unbegun, operation_numbers, expand_recipe, run}
-use Rattle.expansion.specs.RunLaws.{accepted≢refused_on, accepted≢unfinished, refused_on≢unfinished, Begun, run_holds}
-use Rattle.expansion.specs.Bounds.Budget.{SpendsTerm, expand-spends}
+use Rattle.expansion.specs.RunLaws.{Begun}
+use Rattle.expansion.proofs.RunLaws.{accepted≢refused_on, accepted≢unfinished, refused_on≢unfinished, run_holds}
+use Rattle.expansion.specs.Bounds.Budget.{SpendsTerm}
+use Rattle.expansion.proofs.Bounds.BudgetLaws.{expand-spends}
 
 -- a recipe's expansion is not out of gas, and spends no more than it may
 pub expand_recipe-spends : (limit fuel : ℕ) (t : Tree) → SpendsTerm fuel (size (element 1 t)) start (expand_recipe limit fuel t)

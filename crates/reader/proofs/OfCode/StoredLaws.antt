@@ -19,7 +19,7 @@ use Rattle.datum.specs.NameTableLaws.{is_short, length-slots, slots-append, name
 use Rattle.words.specs.Tables.{filled}
 use Rattle.reading.specs.Numbering.{base_names, number_of}
 use Rattle.reader.specs.Code.Index.{bucket_count, bucket_of, Indexed, linked, Walked}
-use Rattle.reader.specs.Code.IndexLaws.{walked_on, walked_all, walked-found, link-falls, indexed-more}
+use Rattle.reader.proofs.OfCode.IndexLaws.{walked_on, walked_all, walked-found, link-falls, indexed-more}
 use Rattle.reader.specs.Code.Stored.{names_in, stored, NameTable, Entered}
 
 -- ---- comparing

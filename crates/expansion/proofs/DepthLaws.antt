@@ -13,11 +13,12 @@ use Rattle.core_term.specs.Term.{Term}
 use Rattle.expansion.specs.Computation.{State, start, Out, refuse}
 use Rattle.expansion.specs.Forms.{expand_tree, expand_within}
 use Rattle.expansion.specs.Run.{accepted, ended, operation_numbers, expand_recipe}
-use Rattle.expansion.specs.RunLaws.{accepted≢refused_on, accepted≢unfinished, begun-run}
-use Rattle.expansion.specs.Outcomes.{is_starved, weaken}
-use Rattle.expansion.specs.Ways.{expand-keeps}
+use Rattle.expansion.proofs.RunLaws.{accepted≢refused_on, accepted≢unfinished, begun-run}
+use Rattle.expansion.specs.Outcomes.{is_starved}
+use Rattle.expansion.proofs.OutcomesLaws.{weaken}
+use Rattle.expansion.proofs.WaysLaws.{expand-keeps}
 use Rattle.expansion.specs.MoreFuel.Tries.{Beside, alike, short, quits, starves, Tries}
-use Rattle.expansion.specs.MoreFuel.Alike.{tree-tries}
+use Rattle.expansion.proofs.MoreFuel.Alike.{tree-tries}
 use Rattle.expansion.specs.Depths.{are_exact, expand_before, expand_recipe_before, RecipesBefore}
 
 module _ (limit : ℕ) (operations : List ℕ) (fuel : ℕ) where

@@ -31,7 +31,7 @@ use Rattle.reading.specs.Read.{
 use Rattle.words.specs.Tables.{filled, testing, begun, left_at}
 use Rattle.words.specs.TableLaws.{zeros-left}
 use Rattle.reader.specs.Code.Index.{index_size}
-use Rattle.reader.specs.Code.IndexLaws.{indexed-none}
+use Rattle.reader.proofs.OfCode.IndexLaws.{indexed-none}
 use Rattle.reader.specs.Code.Stored.{NameTable}
 use Rattle.lexer.specs.Told.{meanings_from}
 use Rattle.reader.specs.Code.Placed.{Holds, items_of, items_around, words_of, words_around, open_pair, next_item, placed}

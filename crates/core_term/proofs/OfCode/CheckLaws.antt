@@ -14,7 +14,7 @@ use Rattle.core_term.specs.Term.{Plain, variables}
 use Rattle.core_term.specs.Words.{encode}
 use Rattle.core_term.specs.Decode.{decode}
 use Rattle.core_term.specs.NodeLaws.{both}
-use Rattle.core_term.specs.DecodeLaws.{decode-encode, encode-decode, encode-unique}
+use Rattle.core_term.proofs.DecodeLaws.{decode-encode, encode-decode, encode-unique}
 use Rattle.core_term.specs.Every.{every, well_formed}
 use Rattle.core_term.specs.Check.{scoped, numbered, all_known, passes, passing, term_of, is_some, is_term}
 use Rattle.core_term.specs.declared.Counted.TheVariants.{Variables}
@@ -22,7 +22,7 @@ use Rattle.core_term.specs.Code.Counted.{counted_of}
 use Rattle.core_term.specs.Code.Window.{window}
 use Rattle.core_term.specs.Code.WindowLaws.{case, allowed-node}
 use Rattle.core_term.specs.Code.Shape.{Whole, None, Clear}
-use Rattle.core_term.specs.Code.ShapeLaws.{every-proper, only}
+use Rattle.core_term.proofs.OfCode.ShapeLaws.{every-proper, only}
 use Rattle.core_term.specs.Code.Windows.{no_flags, no_flags-clear, window-passes, Passed, Covered, windows-numbered, windows-known, windows-scoped}
 
 module _ (operations : ℕ) (name_good : ℕ → Bool) where

@@ -20,9 +20,9 @@ use Rattle.reading.specs.Laws.Elements.{begin-got}
 use Rattle.words.specs.Tables.{filled}
 use Rattle.reading.specs.NumberingLaws.{number-most}
 use Rattle.reader.specs.Code.Index.{bucket_of, Indexed, linked}
-use Rattle.reader.specs.Code.IndexLaws.{indexed-more}
+use Rattle.reader.proofs.OfCode.IndexLaws.{indexed-more}
 use Rattle.reader.specs.Code.Stored.{names_in, stored}
-use Rattle.reader.specs.Code.StoredLaws.{names_in_lem, length-names-in, short-more, stored-filled, stored-length}
+use Rattle.reader.proofs.OfCode.StoredLaws.{names_in_lem, length-names-in, short-more, stored-filled, stored-length}
 use Rattle.reader.specs.Code.Placed.{Holds, Stepped, ground_at, IndexedAfter, IsToken, with_token, TokenPut, NamesSound}
 use Rattle.words.specs.TableLaws.{filled-same}
 use Rattle.reader.specs.Code.StepLaws.{token-refused}

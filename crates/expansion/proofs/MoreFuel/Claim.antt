@@ -13,13 +13,13 @@ use Rattle.core_term.specs.Term.{Term}
 use Rattle.expansion.specs.Computation.{State, start, Out}
 use Rattle.expansion.specs.Run.{refused_on, Run, ended, require, operation_numbers, are_operations, expand_recipe, run}
 use Rattle.expansion.specs.Outcomes.{is_done, is_refused, is_starved}
-use Rattle.expansion.specs.RunLaws.{require-passes}
-use Rattle.expansion.specs.Bounds.{run-sum}
+use Rattle.expansion.proofs.RunLaws.{require-passes}
+use Rattle.expansion.proofs.Bounds.{run-sum}
 use Rattle.expansion.specs.Bounds.Budget.{SpendsTerm}
-use Rattle.expansion.specs.Bounds.Gas.{expand_recipe-spends}
+use Rattle.expansion.proofs.Bounds.Gas.{expand_recipe-spends}
 use Rattle.expansion.specs.MoreFuel.{Try, tried, Enough, MoreFuel, Least, LeastFuel}
 use Rattle.expansion.specs.MoreFuel.Tries.{Beside, alike, short, quits, starves}
-use Rattle.expansion.specs.MoreFuel.Alike.{expand-tries}
+use Rattle.expansion.proofs.MoreFuel.Alike.{expand-tries}
 
 -- the run on a fuel, and the run on more: the same, or 18 and a sum past the fuel
 data Runs (fuel : ℕ) : Run → Run → Type 0 where

@@ -9,10 +9,11 @@ use Rattle.core_term.specs.Term.{Term}
 use Rattle.expansion.specs.Lookup.{quote, if, lambda, let-syntax, letrec-syntax, auxiliary, Found, bound, form, operation, nothing, lookup}
 use Rattle.expansion.specs.Computation.{State, M}
 use Rattle.expansion.specs.Forms.{read_rules, expand_all, expand_quote, expand_if, expand_lambda, expand_macros, expand_use, expand_operands, expand_list, expand_name, expand_application, expand_pair, expand_tree, expand_within}
-use Rattle.expansion.specs.Outcomes.{weaken}
-use Rattle.expansion.specs.FormLaws.{read_rules-holds}
-use Rattle.expansion.specs.Ways.{expand-keeps}
-use Rattle.expansion.specs.MoreFuel.Tries.{Tries, starves, same-tries, give-tries, refuse-tries, test-tries, show-tries, get-tries, add_variables-tries, add_macros-tries, step-tries, then-tries, or_refuse-tries}
+use Rattle.expansion.proofs.OutcomesLaws.{weaken}
+use Rattle.expansion.proofs.FormLaws.{read_rules-holds}
+use Rattle.expansion.proofs.WaysLaws.{expand-keeps}
+use Rattle.expansion.specs.MoreFuel.Tries.{Tries, starves}
+use Rattle.expansion.proofs.MoreFuel.TriesLaws.{same-tries, give-tries, refuse-tries, test-tries, show-tries, get-tries, add_variables-tries, add_macros-tries, step-tries, then-tries, or_refuse-tries}
 
 -- rules are read alike
 rules-tries : (let-be : ℕ → Bool) (fuel : ℕ) (rs : List Tree) (s : State) → Tries let-be fuel s (read_rules rs s) (read_rules rs s)

@@ -12,7 +12,7 @@ use Rattle.core_term.specs.Node.{Node, Got, got, missing, node_words, node_at, p
 use Rattle.core_term.specs.NodeLaws.{both, node-round, node-read}
 use Rattle.core_term.specs.Term.{none_c, more_c, Plain, Plains, count, variables, variables_all}
 use Rattle.core_term.specs.Words.{encode, encode_all}
-use Rattle.core_term.specs.DecodeLaws.{encode-unique}
+use Rattle.core_term.proofs.DecodeLaws.{encode-unique}
 use Rattle.core_term.specs.Every.{Asked, every, every_term, proper}
 use Rattle.core_term.specs.EveryLaws.{every-from}
 use Rattle.core_term.specs.Parts.{node, parts_of, is_datum, are_data}

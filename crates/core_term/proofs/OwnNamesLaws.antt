@@ -18,7 +18,7 @@ use Rattle.core_term.specs.TermLaws.{formals-count}
 use Rattle.core_term.specs.Decimal.{numeral}
 use Rattle.core_term.specs.Every.{every, every_term}
 use Rattle.core_term.specs.Check.{Scope, outside, inside, variable_inside, first_number, asked, scoped, numbered, term_of}
-use Rattle.core_term.specs.Code.CheckLaws.{accepted}
+use Rattle.core_term.proofs.OfCode.CheckLaws.{accepted}
 use Rattle.core_term.specs.Text.{variable_text, formal_texts, text_in, texts_in, text}
 use Rattle.core_term.specs.OwnNames.{Names, none, bound, variable_as, formals_as, text_as, texts_as, own_text}
 

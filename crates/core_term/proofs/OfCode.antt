@@ -1,0 +1,4 @@
+pub mod CheckLaws
+pub mod ScanLaws
+pub mod ShapeLaws
+pub mod WalkLaws

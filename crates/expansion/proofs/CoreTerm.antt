@@ -1,0 +1,4 @@
+pub mod SoundLaws
+pub mod SoundTermsLaws
+pub mod WorldStateLaws
+pub mod WorldsLaws

@@ -1,0 +1,4 @@
+pub mod Alike
+pub mod Claim
+pub mod SaidLaws
+pub mod TriesLaws

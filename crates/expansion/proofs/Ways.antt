@@ -1,0 +1,3 @@
+pub mod BindingsLaws
+pub mod Grounds
+pub mod OwnNamesLaws

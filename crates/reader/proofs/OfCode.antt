@@ -1,0 +1,4 @@
+pub mod IndexLaws
+pub mod NameStepLaws
+pub mod ServedLaws
+pub mod StoredLaws

@@ -1,0 +1,2 @@
+pub mod MeaningsLaws
+pub mod Offsets
