@@ -108,11 +108,7 @@ fn read_file(rt: &impl Files, path: &str, bytes: &mut [u8]) -> io::Result<usize>
 
 // The bytes of the file that argument i names, as many as a buffer holds, at its beginning; how many. Where it cannot be read, standard
 // error says why.
-fn load(
-    rt: &(impl Env + Files + Eprint),
-    i: usize,
-    bytes: &mut [u8],
-) -> io::Result<Option<usize>>
+fn load(rt: &(impl Env + Files + Eprint), i: usize, bytes: &mut [u8]) -> io::Result<Option<usize>>
     ensures { IfOk result (λ o. IfSome o (λ n. n ≤ length bytes.new)) }
 {
     let mut path = [0u8; PATH];

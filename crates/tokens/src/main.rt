@@ -29,13 +29,7 @@ fn read_full(input: &mut impl Read, bytes: &mut [u8]) -> io::Result<usize>
 }
 
 // An offset, then the bytes from there to another, or the ground.
-fn print_line(
-    rt: &impl Print,
-    text: &[u8],
-    from: usize,
-    to: usize,
-    ground: u32,
-) -> io::Result<()>
+fn print_line(rt: &impl Print, text: &[u8], from: usize, to: usize, ground: u32) -> io::Result<()>
     requires { (from ≤ to) × (to ≤ length text.now) }
 {
     if ground == 0 {
