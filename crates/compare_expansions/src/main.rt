@@ -1,6 +1,8 @@
 // The comparing program: the recipe in the file that its first argument names is expanded, with the most fuel and the largest tables, the
 // supplier's text in the file that its second names is held against the term, and yes, no, or refused, the ground and whose text it is about is printed.
-ghost use Rattle.std.specs.Prelude.{◌≤◌, length};
+#![tactic(auto)]
+
+ghost use Rattle.std.specs.Prelude.{◌≤◌, length, IfOk, IfSome};
 ghost use Rattle.comparison_output.specs.Output.{output};
 ghost use Rattle.program_laws.specs.Printed.{Printed};
 ghost use Rattle.compare_expansions.specs.Line.{line_most};
@@ -8,10 +10,18 @@ ghost use Rattle.compare_expansions.specs.Line.{line_most};
 mod line; // what is printed
 mod pair; // a recipe and a supplier's text, in lent tables
 
-use libc::{STDERR_FILENO, STDOUT_FILENO};
 use line::line;
 use pair::compared;
-use words::{CORE_RATE, FUEL, ITEM_WORDS, MOST_ITEMS, NAME_BYTES, WORK_RATE};
+use std::env::{Env, FillError};
+use std::io::Read;
+use std::rt::Files;
+use std::{fs, io, str};
+use words::{CORE_RATE, FUEL, ITEM_WORDS, MOST_ITEMS, NAME_BYTES, TEXT_BYTES, WORK_RATE};
+
+// Bytes of a buffer that any text fits, and that a text which is too long fills; and of one that any path fits.
+const BUFFER: usize = TEXT_BYTES + 1;
+
+const PATH: usize = 4096;
 
 // Words of the tables that any recipe can be expanded in, 294,912 and 36,864. With the two texts and the tables of reading they are
 // 1.7 million bytes of stack; beside them expansion takes at most 6.6 million (include/grebetallboy.h), which 8 MiB have room for. When
@@ -23,9 +33,6 @@ const CORE: usize = CORE_RATE * (MOST_ITEMS + FUEL as usize);
 
 // Bytes of the longest output. specs/Line.antt has the same number.
 const LINE: usize = 26;
-
-// Answered for a file that cannot be read: no buffer has so many bytes.
-const UNREAD: usize = 18446744073709551615;
 
 fn item_table() -> [u32; ITEM_WORDS] {
     [0; ITEM_WORDS]
@@ -67,59 +74,89 @@ fn output(recipe: &[u8], text: &[u8], out: &mut [u8]) -> usize
     line(answer, out)
 }
 
-// Whether a file can be read on from where it stands; at its end it can.
-fn can_read(fd: i32) -> bool {
+// Reads until the buffer is full or the input ends; how many bytes stand at its beginning.
+fn read_full(input: &mut impl Read, bytes: &mut [u8]) -> io::Result<usize>
+    ensures { IfOk result (λ n. n ≤ length bytes.new) }
+{
+    let mut done = 0;
+    while done < bytes.len() {
+        let n = input.read(&mut bytes[done..])?;
+        if n == 0 {
+            break;
+        }
+        done += n;
+    }
+    Ok(done)
+}
+
+// Whether a file can be read on from where it stands, or why not; at its end it can.
+fn can_read(file: &mut impl Read) -> io::Result<()> {
     let mut more = [0u8; 1];
-    libc::read(fd, &mut more) >= 0
+    file.read(&mut more)?;
+    Ok(())
+}
+
+// The bytes of a file, as many as the buffer holds, at its beginning; how many.
+fn read_file(rt: &impl Files, path: &str, bytes: &mut [u8]) -> io::Result<usize>
+    ensures { IfOk result (λ n. n ≤ length bytes.new) }
+{
+    let mut file = fs::open(rt, path)?;
+    let count = read_full(&mut file, bytes)?;
+    can_read(&mut file)?;
+    Ok(count)
 }
 
 // The bytes of the file that argument i names, as many as a buffer holds, at its beginning; how many. Where it cannot be read, standard
 // error says why.
-fn load(i: usize, bytes: &mut [u8]) -> usize {
-    let mut path = io::buffer();
-    let length = os::arg(i, &mut path);
-    if os::errno() != 0 {
-        os::fail(b"argument");
-        return UNREAD;
+fn load(rt: &(impl Env + Files + Eprint), i: usize, bytes: &mut [u8]) -> io::Result<Option<usize>>
+    ensures { IfOk result (λ o. IfSome o (λ n. n ≤ length bytes.new)) }
+{
+    let mut path = [0u8; PATH];
+    let Ok(length) = rt.arg(i, &mut path) else {
+        eprintln!(rt; "argument: File name too long")?;
+        return Ok(None);
+    };
+    let Ok(name) = str::from_utf8(&path[..length]) else {
+        let escaped = path[..length].escape_ascii();
+        eprintln!(rt; "{escaped}: not UTF-8")?;
+        return Ok(None);
+    };
+    match read_file(rt, name, bytes) {
+        Ok(count) => Ok(Some(count)),
+        Err(e) => {
+            eprintln!(rt; "{name}: {e}")?;
+            Ok(None)
+        }
     }
-    let fd = os::open_read(&path[..length]);
-    if fd < 0 {
-        os::fail(&path[..length]);
-        return UNREAD;
-    }
-    let count = io::read_full(fd, bytes);
-    let is_read = can_read(fd);
-    if !is_read {
-        os::fail(&path[..length]);
-    }
-    libc::close(fd);
-    if is_read { count } else { UNREAD }
+}
+
+// Whether argument i is given.
+fn is_given(rt: &impl Env, i: usize) -> bool {
+    !matches!(rt.arg(i, &mut []), Err(FillError::NotPresent))
 }
 
 // Prints the output of two texts.
-fn print(recipe: &[u8], text: &[u8]) {
+fn print(rt: &(impl Print + Eprint), recipe: &[u8], text: &[u8]) -> io::Result<()> {
     let mut out = [0u8; LINE];
     let end = output(recipe, text, &mut out);
-    if !io::write_all(STDOUT_FILENO, &out[..end]) {
-        os::fail(b"standard output");
+    match rt.write_all(&out[..end]) {
+        Ok(()) => Ok(()),
+        Err(e) => eprintln!(rt; "standard output: {e}"),
     }
 }
 
 // A text of more than 65,535 bytes fills its buffer, and is refused by its length.
-fn main() {
-    if os::arg_count() != 3 {
-        io::write_all(STDERR_FILENO, b"usage: compare_expansions RECIPE TEXT\n");
-        return;
+fn main(rt: HostRuntime) -> io::Result<()> {
+    if !is_given(&rt, 2) || is_given(&rt, 3) {
+        return eprintln!(rt; "usage: compare_expansions RECIPE TEXT");
     }
-    let mut recipe = io::large_buffer();
-    let recipe_length = load(1, &mut recipe);
-    if recipe.len() < recipe_length {
-        return;
-    }
-    let mut text = io::large_buffer();
-    let text_length = load(2, &mut text);
-    if text.len() < text_length {
-        return;
-    }
-    print(&recipe[..recipe_length], &text[..text_length]);
+    let mut recipe = [0u8; BUFFER];
+    let Some(recipe_length) = load(&rt, 1, &mut recipe)? else {
+        return Ok(());
+    };
+    let mut text = [0u8; BUFFER];
+    let Some(text_length) = load(&rt, 2, &mut text)? else {
+        return Ok(());
+    };
+    print(&rt, &recipe[..recipe_length], &text[..text_length])
 }
