@@ -10,7 +10,7 @@ use Rattle.expansion.specs.Run.{accepted, told, core_of, run}
 use Rattle.expansion.proofs.Bounds.Gas.{accepted-begun}
 use Rattle.comparison.specs.Compare.{require, with_term, our_term, spelled_operations, held, replied, comparison}
 use Rattle.output.specs.Written.{operation_count, AcceptedIsWritten}
-use Rattle.output.specs.WrittenLaws.{accepted-is-written, operations-written}
+use Rattle.output.proofs.WrittenLaws.{accepted-is-written, operations-written}
 
 module _ (text : List ℕ) (items names : ℕ) (recipe : Recipe) (is_read : read text items names ≡ got recipe) (fuel work core : ℕ)
     (ends : (run (item_words recipe) fuel work core).outcome ≡ accepted) where

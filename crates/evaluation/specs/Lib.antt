@@ -9,12 +9,6 @@ pub mod Rows
 pub mod Grows
 pub mod Kin
 pub mod Beside
-pub mod SideBySide
-pub mod RunLaws
 pub mod MoreBudget
 pub mod KinLaws
-pub mod BudgetClaim
-pub mod BudgetSaid
 pub mod InRange
-pub mod NameLaws
-pub mod Steps

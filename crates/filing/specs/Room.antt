@@ -21,7 +21,7 @@ use Rattle.expansion.specs.CoreTerm.{CoreTerm, Named}
 use Rattle.expansion.proofs.Bounds.{run-sum, run-steps, run-core-fits}
 use Rattle.expansion.proofs.Ways.Grounds.{ground-range, run-ground}
 use Rattle.output.specs.Output.{line, refusal, header, acceptance, term_text, printed, output_of, filed, output}
-use Rattle.output.specs.WrittenLaws.{recipe-named}
+use Rattle.output.proofs.WrittenLaws.{recipe-named}
 use Rattle.writer.specs.declared.Writing.{Writing}
 use Rattle.writer.specs.declared.Writing.TheVariants.{Written, NoTerm, NoRoom}
 use Rattle.writer.specs.Wrote.{Wrote}

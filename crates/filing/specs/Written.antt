@@ -11,7 +11,7 @@ use Rattle.expansion.specs.CoreTerm.{CoreTerm, Named}
 use Rattle.expansion.proofs.CoreTermLaws.{run-operations, named-term-within}
 use Rattle.output.specs.Output.{term_text}
 use Rattle.output.specs.Written.{operation_count, AcceptedIsWritten}
-use Rattle.output.specs.WrittenLaws.{accepted-is-written}
+use Rattle.output.proofs.WrittenLaws.{accepted-is-written}
 use Rattle.writer.specs.declared.Writing.{Writing}
 use Rattle.writer.specs.declared.Writing.TheVariants.{Written, NoTerm, NoRoom}
 use Rattle.writer.specs.Writing.{text_for, text_of}

@@ -8,7 +8,8 @@ use Rattle.recipe.specs.Tree.{Tree}
 use Rattle.expansion.specs.Run.{run}
 use Rattle.private_names.specs.Statement.{is_item_of, renumber, renamed, hypotheses, core_with}
 use Rattle.private_names.specs.Demand3.{Whenever, second}
-use Rattle.private_names_proof.specs.Said.{Tested, tested, whenever}
+use Rattle.private_names_proof.specs.Said.{Tested, tested}
+use Rattle.private_names_proof.proofs.SaidLaws.{whenever}
 use Rattle.expander.specs.declared.Expansion.{Expansion}
 use Rattle.expander.specs.Service.{numbers_of, Served}
 use Rattle.private_calls.specs.Calls.{private-calls}

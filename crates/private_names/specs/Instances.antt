@@ -1,18 +1,15 @@
 -- What the claim says of recipes: each row is an instance of `PrivateNames` itself, at a fuel of its own and in tables just long enough
 -- for it. All hypotheses hold by computing, and so both conclusions are the answers that the row has. A claim that says less, or that
 -- asks for more, gives no such row.
-use Rattle.std.specs.Prelude.{◌≡◌, refl, Bool, true, not, ◌&&◌, cond, ℕ, ◌+◌, ◌*◌, eqb, ltb}
-use Rattle.std.proofs.Common.{ap, ◌∙◌}
-use mathlib.Core.List.{List, [], ◌∷◌, map, head-eq_of_cons-eq, tail-eq_of_cons-eq}
-use Prim.Native.String.{String}
+use Rattle.std.specs.Prelude.{◌≡◌, Bool, not, ◌&&◌, cond, ℕ, ◌+◌, ◌*◌, eqb, ltb}
+use Rattle.std.proofs.Common.{◌∙◌}
+use mathlib.Core.List.{List, [], ◌∷◌}
 use Rattle.words.specs.Limits.{base_name_count, work_rate, core_rate}
 use Rattle.words.specs.Lists.{all_of}
-use Rattle.words.specs.Each.{Each, none_of, also}
 use Rattle.recipe.specs.Table.{item_count, tree_of}
 use Rattle.expansion.specs.Run.{Run, run}
-use Rattle.expansion.specs.Computed.{computed}
-use Rattle.private_names.specs.Statement.{Choice, is_old_item, renamed, hypotheses, Answer, answer_of, core_with, formal_number, answer_with, PrivateNames}
-use Rattle.private_names.specs.Witnesses.{items_of, gives, refuses, found}
+use Rattle.private_names.specs.Statement.{Choice, is_old_item, renamed, hypotheses, Answer, answer_of, answer_with}
+use Rattle.private_names.specs.Witnesses.{items_of, gives, refuses}
 
 -- a recipe's items, the fuel, the choice, and the answers of the two runs
 pub record Row : Type 0 where
@@ -48,18 +45,6 @@ claimed r =
     let x = first_run r in
     let C = is_old_item (tree_of r.items) r.choice in
     (all_of (λ h. h) (hypotheses r.items r.choice x.events), answer_with C r.choice.old x, answer_with C r.choice.new x)
-
-abbrev known : Row → Bool × Answer × Answer
-known r = (true, r.first, r.second)
-
--- the claim itself, at each row
-says : PrivateNames → (rs : List Row) → map claimed rs ≡ map known rs → Each Says rs
-unfolding PrivateNames run_by claimed
-says claim [] e = none_of
-says claim (r ∷ rs) e =
-    let here : claimed r ≡ known r = head-eq_of_cons-eq e in
-    let c = claim r.items r.fuel (work_rate * (item_count r.items + r.fuel)) (core_rate * (item_count r.items + r.fuel)) r.choice (ap (λ x. x.0) here) in
-    also (c.0 ∙ ap (λ x. x.1) here, c.1 ∙ ap (λ x. x.2) here) (says claim rs (tail-eq_of_cons-eq e))
 
 -- ---- rows
 
@@ -104,10 +89,3 @@ rows =
     -- lambda renamed
     row_of deep 396 4 0 0 2 9 (gives 6 396 (2 ∷ 5 ∷ [])) (gives 6 396 (2 ∷ 5 ∷ [])) ∷
     []
-
-rows-claimed : map claimed rows ≡ map known rows
-unfolding claimed rows links forms deep run_by computed found formal_number core_with answer_with
-rows-claimed = refl
-
-pub rows-hold : PrivateNames → Each Says rows
-rows-hold claim = says claim rows rows-claimed

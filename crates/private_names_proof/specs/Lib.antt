@@ -4,14 +4,8 @@
 -- up to the form (`before-agree`); Renamed, the two expressions; Taken, the renaming that the statement takes; Claim; Said. Invariants has
 -- the invariants of one run by name, with witnesses.
 pub mod Reach
-pub mod OwnNames
-pub mod Renumber
-pub mod Members
 pub mod Paths
-pub mod Before
 pub mod Renamed
-pub mod Taken
-pub mod Claim
 pub mod Said
 pub mod Invariants
 pub mod InvariantWitnesses

@@ -19,9 +19,9 @@ use Rattle.expansion.specs.Run.{Run, told, words_of, term_words, core_of}
 use Rattle.expansion.proofs.Bounds.Gas.{kept-accepted}
 use Rattle.expansion.specs.CoreTerm.{CoreTerm}
 use Rattle.private_names.specs.Statement.{Choice, is_old_item, renamed, hypotheses, Answer, answer_of, formal_number, core_with, answer_with, PrivateNames}
-use Rattle.private_names_proof.specs.Claim.{private-names}
+use Rattle.private_names_proof.proofs.Claim.{private-names}
 use Rattle.evaluation.specs.Code.{code_at}
-use Rattle.evaluation.specs.NameLaws.{code-unnamed}
+use Rattle.evaluation.proofs.NameLaws.{code-unnamed}
 use Rattle.recipe_runs.specs.RecipeRun.{after_expansion, recipe_run, term_run}
 use Rattle.recipe_runs.specs.Statement.{RunsAsTerm}
 use Rattle.recipe_runs.specs.Claim.{run-most, runs-as-term}

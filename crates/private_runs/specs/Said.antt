@@ -3,7 +3,8 @@ use Rattle.std.specs.Prelude.{◌≡◌, List, ℕ}
 use Rattle.std.proofs.Common.{subst}
 use Rattle.recipe.specs.Tree.{Tree}
 use Rattle.private_names.specs.Statement.{renumber, renamed}
-use Rattle.private_names_proof.specs.Said.{Tested, tested, whenever}
+use Rattle.private_names_proof.specs.Said.{Tested, tested}
+use Rattle.private_names_proof.proofs.SaidLaws.{whenever}
 use Rattle.recipe_runs.specs.RecipeRun.{recipe_run}
 use Rattle.private_runs.specs.Statement.{PrivateRuns, SameRuns, PrivateRunsSaid}
 use Rattle.private_runs.specs.Claim.{private-runs}

@@ -12,7 +12,7 @@ use Rattle.expander.specs.declared.Expansion.{Expansion}
 use Rattle.expander.specs.declared.Expansion.TheVariants as EV
 use Rattle.expander.specs.Service as E
 use Rattle.evaluation.specs.Run.{Result, number, boolean, datum, closure, operation, Outcome, unfit, refused_on, accepted, run}
-use Rattle.evaluation.specs.InRange.{number_word}
+use Rattle.evaluation.proofs.InRangeLaws.{number_word}
 use Rattle.recipe_runs.specs.RecipeRun.{recipe_run}
 use Rattle.run_calls.specs.Statement.{RecipeRuns, RecipeRefused}
 use Rattle.run_calls.specs.Calls.{recipe-runs, recipe-refused}

@@ -19,7 +19,7 @@ use Rattle.evaluation.specs.Code.{code_at, codes_at, datum_code}
 use Rattle.evaluation.specs.Computation.{Out, done, refused, M, go_on, ◌>>=◌, ◌>>◌, give, test, or_refuse, or_ground}
 use Rattle.evaluation.specs.Numbers.{integers}
 use Rattle.evaluation.specs.Evaluate.{Value, number_v, boolean_v, datum_v, closure_v, operation_v, Environment, find, constant_value, evaluate_node}
-use Rattle.evaluation.specs.Steps.{Waiting, test_w, parts_w, value, resume, begins, begins-out, begins-node, begins-if, begins-application}
+use Rattle.evaluation.proofs.Steps.{Waiting, test_w, parts_w, value, resume, begins, begins-out, begins-node, begins-if, begins-application}
 use Rattle.runner.specs.declared.rows.Value as R
 use Rattle.runner.specs.declared.rows.Frame.{Frame}
 use Rattle.runner.specs.declared.rows.Found.{Found}

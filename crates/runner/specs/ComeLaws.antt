@@ -13,7 +13,7 @@ use Rattle.core_term.specs.Words.{encode}
 use Rattle.evaluation.specs.Code.{code_at, codes_at}
 use Rattle.evaluation.specs.Computation.{Out, done, refused, M, go_on, ◌>>=◌, ◌>>◌, give, refuse, test, or_refuse, Answer, answer, ground, or_ground}
 use Rattle.evaluation.specs.Evaluate.{Value, number_v, boolean_v, datum_v, closure_v, operation_v, Environment, bind, holds, number_of, is_two, operand, operate, apply}
-use Rattle.evaluation.specs.Steps.{Waiting, test_w, parts_w, value, apply_all, resume, begins, comes-test, comes-part, comes-last}
+use Rattle.evaluation.proofs.Steps.{Waiting, test_w, parts_w, value, apply_all, resume, begins, comes-test, comes-part, comes-last}
 use Rattle.runner.specs.declared.rows.Value as R
 use Rattle.runner.specs.declared.rows.Frame.{Frame}
 use Rattle.runner.specs.declared.rows.Extended.{Extended}

@@ -4,7 +4,7 @@ use Rattle.std.proofs.Common.{sym, ap, ap₂, ◌∙◌, arith}
 use Rattle.words.specs.Code.Packed.{packed}
 use Rattle.runner.specs.Domain.{Number, numbers}
 use Rattle.evaluation.specs.Evaluate.{Value, Environment, bound_e}
-use Rattle.evaluation.specs.Steps.{Waiting}
+use Rattle.evaluation.proofs.Steps.{Waiting}
 use Rattle.runner.specs.declared.rows.Value as R
 use Rattle.runner.specs.declared.rows.Frame.{Frame}
 use Rattle.runner.specs.Rows.{value_word, frame_word, cell_word, ValueIs, number_i, boolean_i, datum_i, closure_i, operation_i, EnvironmentIs, empty_i, cell_i, beyond_i}

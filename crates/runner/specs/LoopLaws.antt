@@ -3,7 +3,7 @@ use Rattle.std.specs.Prelude.{◌≡◌, refl, List, [], ℕ, ◌<◌}
 use Rattle.std.proofs.Common.{sym, subst, ap, ◌∙◌, arith}
 use Rattle.evaluation.specs.Computation.{Out, give}
 use Rattle.evaluation.specs.Evaluate.{Value}
-use Rattle.evaluation.specs.Steps.{Waiting, resume}
+use Rattle.evaluation.proofs.Steps.{Waiting, resume}
 use Rattle.runner.specs.declared.state.Counts.{Counts}
 use Rattle.runner.specs.declared.state.Turn.{Turn}
 use Rattle.runner.specs.Domain.{Number, numbers}

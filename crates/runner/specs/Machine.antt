@@ -6,7 +6,7 @@ use Rattle.core_term.specs.declared.nodes.Node.{Node}
 use Rattle.evaluation.specs.Code.{code_at, codes_at}
 use Rattle.evaluation.specs.Computation.{Out, done, refused, M, ◌>>=◌, ◌>>◌, give, test, or_refuse}
 use Rattle.evaluation.specs.Evaluate.{Value, operation_v, Environment, find, holds, apply, evaluate_node}
-use Rattle.evaluation.specs.Steps.{Waiting, parts_w, value, resume, begins}
+use Rattle.evaluation.proofs.Steps.{Waiting, parts_w, value, resume, begins}
 use Rattle.runner.specs.declared.rows.Value as R
 use Rattle.runner.specs.declared.rows.Frame.{Frame}
 use Rattle.runner.specs.declared.state.Counts.{Counts}

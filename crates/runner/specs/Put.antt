@@ -6,7 +6,7 @@ use Rattle.core_term.specs.Term.{Plain, Plains, count}
 use Rattle.core_term.specs.Words.{encode}
 use Rattle.evaluation.specs.Code.{code_at, codes_at}
 use Rattle.evaluation.specs.Evaluate.{Value, Environment, bound_e}
-use Rattle.evaluation.specs.Steps.{Waiting, test_w, parts_w}
+use Rattle.evaluation.proofs.Steps.{Waiting, test_w, parts_w}
 use Rattle.runner.specs.declared.rows.Value as R
 use Rattle.runner.specs.declared.rows.Frame.{Frame}
 use Rattle.runner.specs.Domain.{Number, numbers}

@@ -7,7 +7,7 @@ use Rattle.core_term.specs.Words.{encode}
 use Rattle.evaluation.specs.Code.{code_at, codes_at}
 use Rattle.runner.specs.Domain.{Number, numbers, number_in}
 use Rattle.evaluation.specs.Evaluate.{Value, number_v, boolean_v, datum_v, closure_v, operation_v, Environment, empty_e, bound_e}
-use Rattle.evaluation.specs.Steps.{Waiting, test_w, parts_w}
+use Rattle.evaluation.proofs.Steps.{Waiting, test_w, parts_w}
 use Rattle.runner.specs.Here.{Here, HereAll}
 
 -- ---- words

@@ -17,9 +17,9 @@ use Rattle.evaluation.specs.Computation.{Out, done, refused, go_on, ◌>>=◌, g
 use Rattle.evaluation.specs.Evaluate.{Value, Environment, empty_e, evaluate}
 use Rattle.evaluation.specs.Run as R
 use Rattle.evaluation.specs.Run.{Outcome, with_term, require, tested, ended, evaluated, table_after}
-use Rattle.evaluation.specs.RunLaws.{tested-passes}
-use Rattle.evaluation.specs.BudgetClaim.{gas-free}
-use Rattle.evaluation.specs.Steps.{value, resume, begins}
+use Rattle.evaluation.proofs.RunLaws.{tested-passes}
+use Rattle.evaluation.proofs.BudgetClaim.{gas-free}
+use Rattle.evaluation.proofs.Steps.{value, resume, begins}
 use Rattle.runner.specs.declared.rows.Value as Row
 use Rattle.runner.specs.declared.machine.End.{End}
 use Rattle.runner.specs.declared.machine.End.TheVariants as E

@@ -4,18 +4,12 @@
 -- the form that holds the template reached in place (`form-agree`); and all names have other numbers, one for one (`numbers-agree`).
 pub mod Relations
 pub mod Shapes
-pub mod RulesKept
-pub mod MatchKept
 pub mod Marks
 pub mod Terms
 pub mod Likeness
 pub mod States
 pub mod Outcomes
-pub mod FormsKept
-pub mod Agree
 pub mod Names
-pub mod Lookups
-pub mod Formals
 pub mod Steps
 pub mod Form
 pub mod Numbers

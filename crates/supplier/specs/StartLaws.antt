@@ -18,7 +18,7 @@ use Rattle.core_term.specs.Node.{node_at}
 use Rattle.comparison.specs.Grammar.{first, after, formals}
 use Rattle.comparison.specs.Agrees.{bind}
 use Rattle.comparison.specs.Written.{name_data}
-use Rattle.comparison.specs.WrittenLaws.{formals-back}
+use Rattle.comparison.proofs.WrittenLaws.{formals-back}
 use Rattle.supplier.specs.declared.grammar.Bound.{Bound}
 use Rattle.supplier.specs.declared.grammar.Bound.TheVariants.{Formals, No}
 use Rattle.supplier.specs.declared.grammar.Place.{Place}

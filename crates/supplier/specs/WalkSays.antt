@@ -29,7 +29,8 @@ use Rattle.comparison.specs.Grammar.{is_free, the_one, first, after, quoted, con
 use Rattle.comparison.specs.Closed.{inside, closed, closed_all}
 use Rattle.comparison.specs.Agrees.{Scope, meant, bind, on_variable, on_operation, on_datum, on_if, on_lambda, on_application, same_datum, same_data, same_name, agrees, agree_all}
 use Rattle.comparison.specs.Compare.{Verdict, yes, no, refused_on, decided}
-use Rattle.comparison.specs.BindersLaws.{names_in, bind-names}
+use Rattle.comparison.specs.BindersLaws.{names_in}
+use Rattle.comparison.proofs.BindersLaws.{bind-names}
 use Rattle.supplier.specs.Walk.{Found, outside, open', other, same, left_of, joined, met, Ours, our, constant_sort, variable_sort, operation_sort, name_sort, list_sort, if_sort, lambda_sort, application_sort, no_sort, ours_of, takes, constant_here, form_of, quotes, plan, quote_plan, if_plan, lambda_plan, formals_of, headed_plan, plan_of, is_operation, quoted_name, is_place, free, reference, name_here, walk, walk_from}
 
 no_true : (b : Bool) → (b ≡ true → ⊥) → b ≡ false

@@ -1,11 +1,9 @@
 -- A renaming of a template's private name, its copies, and what the first run may show of them.
 use Rattle.std.specs.Prelude.{◌≡◌, Bool, true, false, ℕ, eqb}
-use Rattle.std.proofs.Common.{ap, sym, ◌∙◌, true≢false}
+use Rattle.std.proofs.Common.{◌∙◌}
 use Rattle.std.proofs.Math.Option.{Option, none, some}
-use Rattle.words.specs.TestLaws.{and_both, and-none-right}
-use Rattle.words.specs.Each.{Each}
 use Rattle.recipe.specs.Name.{Binding, Name}
-use Rattle.expansion.specs.Computation.{Event, looked, quoted, reached, binds, Events}
+use Rattle.expansion.specs.Computation.{Event, looked, quoted, reached, binds}
 use Rattle.private_names.specs.Statement as Statement
 
 -- the items of the private name in its template; the bindings whose own name is a copy;
@@ -30,17 +28,6 @@ module _ (ρ : Renaming) where
   of_copy none = false
   of_copy (some b) = ρ.is_owned b
 
-  pub not-private-not-copy : (x : Name) → ρ.is_private x.item ≡ false → is_copy x ≡ false
-  unfolding Statement.is_copy
-  not-private-not-copy x e = and-none-right x.produced _ e
-
-  pub private-copy : (x : Name) → x.produced ≡ true → ρ.is_private x.item ≡ true → is_copy x ≡ true
-  unfolding Statement.is_copy
-  private-copy x e f = and_both _ _ e f
-
-  pub owned-apart : {b c : Option Binding} → of_copy b ≡ true → of_copy c ≡ false → b ≡ c → ⊥
-  owned-apart p q e = true≢false (sym p ∙ ap of_copy e ∙ q)
-
   -- ---- what the first run may show: each lookup of a copy finds a binding whose own name is a copy, and no copy is quoted
 
   unfoldable pub Fine : Event → Type 0
@@ -48,18 +35,3 @@ module _ (ρ : Renaming) where
   Fine (quoted x) = is_copy x ≡ false
   Fine (reached x) = Unit {0}
   Fine (binds b x) = of_copy (some b) ≡ is_copy x
-
-  pub looked-fine : (x : Name) → Fine (looked x) → is_copy x ≡ true → of_copy x.binding ≡ true
-  unfolding Fine
-  looked-fine x f = f
-
-  pub quoted-fine : (x : Name) → Fine (quoted x) → is_copy x ≡ false
-  unfolding Fine
-  quoted-fine x f = f
-
-  pub binds-fine : (b : Binding) (x : Name) → Fine (binds b x) → of_copy (some b) ≡ is_copy x
-  unfolding Fine
-  binds-fine b x f = f
-
-  abbrev pub AllFine : Events → Type 0
-  AllFine = Each Fine

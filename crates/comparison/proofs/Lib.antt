@@ -1,0 +1,21 @@
+-- Laws of the definitions in specs/.
+pub mod Heedless
+pub mod Same
+pub mod SameLaws
+pub mod Binders
+pub mod BindersLaws
+pub mod Renamed
+pub mod RenamedLaws
+pub mod Rendering
+pub mod RenderingLaws
+pub mod Written
+pub mod WrittenLaws
+pub mod SaidLaws
+pub mod ClosedLaws
+pub mod YesLaws
+pub mod CallLaws
+pub mod Exactly
+pub mod ExactlyLaws
+pub mod OwnLaws
+pub mod CallExactlyLaws
+pub mod ExactlyRowsLaws

@@ -1,0 +1,19 @@
+-- Laws of the definitions in specs/.
+pub mod RelationsLaws
+pub mod ShapesLaws
+pub mod RulesKept
+pub mod MatchKept
+pub mod MarksLaws
+pub mod TermsLaws
+pub mod LikenessLaws
+pub mod StatesLaws
+pub mod OutcomesLaws
+pub mod FormsKept
+pub mod Agree
+pub mod NamesLaws
+pub mod Names
+pub mod Lookups
+pub mod Formals
+pub mod StepsLaws
+pub mod Form
+pub mod NumbersLaws

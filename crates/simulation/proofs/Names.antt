@@ -1,0 +1,2 @@
+pub mod SamenessLaws
+pub mod ShownLaws
