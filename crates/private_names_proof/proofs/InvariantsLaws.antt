@@ -39,7 +39,7 @@ use Rattle.private_names_proof.proofs.Invariants.AtFormLaws.{is_private_name, Co
 use Rattle.private_names_proof.proofs.Invariants.Followed.{binding-carried, item-carried, fresh-follows, binding-follows, apart-follows, apart-rests}
 use Rattle.private_names_proof.proofs.Invariants.Places.{Place}
 use Rattle.private_names_proof.proofs.Invariants.Reached.{place-passes}
-use Rattle.private_names_proof.specs.Invariants.{watched_recipe}
+use Rattle.private_names_proof.specs.Invariants.{watched_recipe, CopiesStayApart}
 
 -- at the start no name has marks or a binding
 plain-sound : Sound (λ x. x.binding) (λ x. Unit {0}) 0 PlainName
@@ -122,6 +122,10 @@ copies-stay-apart ws fuel work core c h = located (find c.form (element 1 (tree_
         (fails-nowhere (is_private_name private) (Copied private) IsConstant
         (place-passes (number_at ws) c.form c.macro c.rule c.old private (item-carried private) (are_apart private) (apart-follows private) (apart-rests private (number_at ws)) macros_most macros_most (operation_numbers (tree_of ws)) fuel (size (tree_of ws) + fuel)
         l (element 1 (tree_of ws)) (form-place ws c begun.layout l i) start (start-after private) reaches))
+
+-- as specs/Invariants.antt says it
+pub copies-stay-apart-said : CopiesStayApart
+copies-stay-apart-said = copies-stay-apart
 
 -- A form reached outside results was in no use: whatever a macro use holds, its expansion reaches no form by a name that never stood in a result.
 pub reached-in-no-use : (limit inner : ℕ) (operations : List ℕ) (fuel gas n : ℕ) (t : Tree) (s : State) (p : ℕ)
