@@ -13,7 +13,8 @@ use Rattle.output.specs.Output.{line}
 use Rattle.evaluation.specs.Numbers.{in_range}
 use Rattle.evaluation.specs.Run.{Result, number, boolean, datum, closure, operation}
 use Rattle.run_output.specs.Output.{refusal, boolean_text, value_line, acceptance}
-use Rattle.run_output.specs.Laid.{output_most, counted, number-laid, datum-laid, acceptance-laid}
+use Rattle.run_output.specs.Laid.{output_most, counted}
+use Rattle.run_output.proofs.LaidLaws.{number-laid, datum-laid, acceptance-laid}
 use Rattle.run_output.specs.Laid as Laid
 use Rattle.writer.specs.Put.{Put, no_place, put_of}
 use Rattle.writer.specs.Laid.{Left}

@@ -3,7 +3,7 @@ use Rattle.std.proofs.Common.{rules, sym, ap, ◌∙◌}
 use Rattle.run_recipe.proofs.line.line.Goals as goal
 use Rattle.writer.specs.LaidLaws.{left_is}
 use Rattle.run_output.specs.Output.{refusal}
-use Rattle.run_output.specs.Laid.{acceptance-room, refusal-room}
+use Rattle.run_output.proofs.LaidLaws.{acceptance-room, refusal-room}
 use Rattle.run_recipe.specs.Line.{line_of, closure-laid, operation-laid, refusal-laid, word_fits, laid-printed}
 
 pub returns-in-Integer : goal.returns-in-Integer
