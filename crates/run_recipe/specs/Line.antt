@@ -15,7 +15,7 @@ use Rattle.evaluation.specs.Run.{Result, number, boolean, datum, closure, operat
 use Rattle.run_output.specs.Output.{refusal, boolean_text, value_line, acceptance}
 use Rattle.run_output.specs.Laid.{output_most, counted}
 use Rattle.run_output.proofs.LaidLaws.{number-laid, datum-laid, acceptance-laid}
-use Rattle.run_output.specs.Laid as Laid
+use Rattle.run_output.proofs.LaidLaws as Laid
 use Rattle.writer.specs.Put.{Put, no_place, put_of}
 use Rattle.writer.specs.Laid.{Left}
 use Rattle.writer.specs.LaidLaws.{put-done, put_full, laid-first, done-is, full_is, left-done}
