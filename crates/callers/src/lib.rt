@@ -6,7 +6,7 @@ ghost use Rattle.std.specs.Prelude.{◌≡◌, [], ◌∷◌, length};
 ghost use Rattle.lexer.specs.Answered.{Answered};
 ghost use Rattle.reading.specs.Read.{read, read_elements, read_numbers, items_after, names_after};
 ghost use Rattle.reader.specs.Served as R;
-ghost use Rattle.writer.specs.Writing.{text_of, outcome, ground, size, after};
+ghost use Rattle.writer.specs.Writing.{text_of, outcome, ground_number, size, after};
 ghost use Rattle.writer.specs.Wrote.{Wrote};
 ghost use Rattle.expansion.specs.Run.{run};
 ghost use Rattle.expander.specs.Service as E;
@@ -91,7 +91,7 @@ pub fn run_recipe(
 // ---- for C and Rust
 
 pub fn called_read(text: &[u8], items: &mut [u32], names: &mut [u8], counts: &mut [u64]) -> u32
-    ensures { (result ≡ (read_numbers (read text.now (length items.old) (length names.old))).ground)
+    ensures { (result ≡ (read_numbers (read text.now (length items.old) (length names.old))).ground_number)
         × (items.new ≡ items_after (read text.now (length items.old) (length names.old)) items.old)
         × (names.new ≡ names_after (read text.now (length items.old) (length names.old)) names.old)
         × (counts.new ≡ tells_read (read_numbers (read text.now (length items.old) (length names.old))) counts.old) }
@@ -106,7 +106,7 @@ pub fn called_expand(
     core: &mut [u32],
     counts: &mut [u64],
 ) -> u32
-    ensures { (result ≡ (E.run_numbers (run items.now fuel (length work.old) (length core.old))).ground)
+    ensures { (result ≡ (E.run_numbers (run items.now fuel (length work.old) (length core.old))).ground_number)
         × (work.new ≡ E.work_after (run items.now fuel (length work.old) (length core.old)) work.old)
         × (core.new ≡ E.core_after (run items.now fuel (length work.old) (length core.old)) core.old)
         × (counts.new ≡ tells_run (E.run_numbers (run items.now fuel (length work.old) (length core.old))) counts.old) }
@@ -121,7 +121,7 @@ pub fn called_write(
     out: &mut [u8],
     counts: &mut [u64],
 ) -> u32
-    ensures { (result ≡ ground (outcome out.old (text_of words.now operations names.now)))
+    ensures { (result ≡ ground_number (outcome out.old (text_of words.now operations names.now)))
         × (out.new ≡ after (outcome out.old (text_of words.now operations names.now)) out.old)
         × (counts.new ≡ told (size (outcome out.old (text_of words.now operations names.now)) ∷ 0 ∷ 0 ∷ []) counts.old) }
 {

@@ -24,12 +24,12 @@ abbrev pub line_most : ℕ
 line_most = 26
 
 -- refused, the ground, and what stands behind it
-abbrev pub refusal : (ground : ℕ) (behind : List ℕ) → List ℕ
-refusal ground behind = (114 ∷ 101 ∷ 102 ∷ 117 ∷ 115 ∷ 101 ∷ 100 ∷ []) ++ ((32 ∷ numeral ground) ++ behind)
+abbrev pub refusal : (ground_number : ℕ) (behind : List ℕ) → List ℕ
+refusal ground_number behind = (114 ∷ 101 ∷ 102 ∷ 117 ∷ 115 ∷ 101 ∷ 100 ∷ []) ++ ((32 ∷ numeral ground_number) ++ behind)
 
 -- what is printed for an answer
 unfoldable pub line_of : Answer → List ℕ
-line_of (Recipe ground) = recipe_refused ground
+line_of (Recipe ground_number) = recipe_refused ground_number
 line_of (Text c) = verdict_line (verdict_of c)
 
 pub yes-laid : 121 ∷ 101 ∷ 115 ∷ 10 ∷ [] ≡ verdict_line yes
@@ -40,17 +40,17 @@ pub no-laid : 110 ∷ 111 ∷ 10 ∷ [] ≡ verdict_line no
 unfolding verdict_line line spaced spaced_after bytes
 no-laid = refl
 
-pub text-laid : (ground : ℕ) → refusal ground (32 ∷ 116 ∷ 101 ∷ 120 ∷ 116 ∷ 10 ∷ []) ≡ verdict_line (refused_on ground)
+pub text-laid : (ground_number : ℕ) → refusal ground_number (32 ∷ 116 ∷ 101 ∷ 120 ∷ 116 ∷ 10 ∷ []) ≡ verdict_line (refused_on ground_number)
 unfolding verdict_line refused_line line spaced spaced_after bytes
-text-laid ground = simp append_assoc
+text-laid ground_number = simp append_assoc
 
-pub recipe-laid : (ground : ℕ) → refusal ground (32 ∷ 114 ∷ 101 ∷ 99 ∷ 105 ∷ 112 ∷ 101 ∷ 10 ∷ []) ≡ recipe_refused ground
+pub recipe-laid : (ground_number : ℕ) → refusal ground_number (32 ∷ 114 ∷ 101 ∷ 99 ∷ 105 ∷ 112 ∷ 101 ∷ 10 ∷ []) ≡ recipe_refused ground_number
 unfolding recipe_refused refused_line line spaced spaced_after bytes
-recipe-laid ground = simp append_assoc
+recipe-laid ground_number = simp append_assoc
 
 -- the room of a refusal
-pub refusal-room : (ground : ℕ) (behind : List ℕ) → ground < limit → length behind ≤ 8 → length (refusal ground behind) ≤ line_most
-refusal-room ground behind h k = omega (arith, length-append (32 ∷ numeral ground) behind, number-room ground h)
+pub refusal-room : (ground_number : ℕ) (behind : List ℕ) → ground_number < limit → length behind ≤ 8 → length (refusal ground_number behind) ≤ line_most
+refusal-room ground_number behind h k = omega (arith, length-append (32 ∷ numeral ground_number) behind, number-room ground_number h)
 
 pub printed-is : (y x d e : List ℕ) (n : ℕ) → x ≡ y → Printed x d e n → Printed y d e n
 printed-is y x d e n same p = subst (λ (z : List ℕ). Printed z d e n) same p

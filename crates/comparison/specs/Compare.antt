@@ -17,7 +17,7 @@ use Rattle.comparison.specs.Agrees.{agrees}
 
 pub data Verdict : Type 0 where
   yes no : Verdict
-  refused_on : (ground : ℕ) → Verdict
+  refused_on : (ground_number : ℕ) → Verdict
 
 -- ---- the text against our term
 
@@ -44,7 +44,7 @@ pub record Reply : Type 0 where
   pub verdict : Verdict
 
 -- refused by a test, before the text is read
-unfoldable pub unread : (ground : ℕ) → Reply
+unfoldable pub unread : (ground_number : ℕ) → Reply
 unread g = record { stage = testing; verdict = refused_on g }
 
 -- past the tests a call has come as far as the reading of its text
@@ -53,7 +53,7 @@ replied (got r) v = record { stage = begun; verdict = v }
 replied (refused_for stage g) v = record { stage = stage; verdict = v }
 
 -- the rest of the call, where the test of ground g passes
-unfoldable pub require : (ground : ℕ) → Bool → Reply → Reply
+unfoldable pub require : (ground_number : ℕ) → Bool → Reply → Reply
 unfolding unread
 require g true r = r
 require g false r = unread g

@@ -11,25 +11,25 @@ use Rattle.comparison.specs.Compare.{Verdict, yes, no, comparison}
 use Rattle.output.specs.Output.{line}
 
 -- refused, the ground, and whose text it is about
-unfoldable pub refused_line : (ground : ℕ) (whose : List ℕ) → List ℕ
-refused_line ground whose = line (bytes "refused" ∷ numeral ground ∷ whose ∷ [])
+unfoldable pub refused_line : (ground_number : ℕ) (whose : List ℕ) → List ℕ
+refused_line ground_number whose = line (bytes "refused" ∷ numeral ground_number ∷ whose ∷ [])
 
-unfoldable pub recipe_refused : (ground : ℕ) → List ℕ
+unfoldable pub recipe_refused : (ground_number : ℕ) → List ℕ
 unfolding refused_line
-recipe_refused ground = refused_line ground (bytes "recipe")
+recipe_refused ground_number = refused_line ground_number (bytes "recipe")
 
 -- yes, no, or refused about the supplier's text
 unfoldable pub verdict_line : Verdict → List ℕ
 unfolding refused_line
 verdict_line yes = line (bytes "yes" ∷ [])
 verdict_line no = line (bytes "no" ∷ [])
-verdict_line (C.refused_on ground) = refused_line ground (bytes "text")
+verdict_line (C.refused_on ground_number) = refused_line ground_number (bytes "text")
 
 -- the recipe's run, with the answer of comparing its words, which after an accepted run refuses the text alone (`text-alone`); no run is
 -- unfinished (`run-finished`)
 unfoldable pub printed : Outcome → Verdict → List ℕ
 printed accepted v = verdict_line v
-printed (refused_on stage ground) v = recipe_refused ground
+printed (refused_on stage ground_number) v = recipe_refused ground_number
 printed unfinished v = []
 
 -- items and names of a recipe, with fuel, the lengths of the work and core tables, and the answer of reading the text
@@ -40,7 +40,7 @@ printed_for items names fuel work core text =
 
 -- the answers of reading both texts; the recipe goes first
 unfoldable pub output_of : (fuel work core : ℕ) (recipe text : Answer Recipe) → List ℕ
-output_of fuel work core (refused_for stage ground) text = recipe_refused ground
+output_of fuel work core (refused_for stage ground_number) text = recipe_refused ground_number
 output_of fuel work core (got r) text = printed_for (item_words r) (name_bytes r) fuel work core text
 
 -- both texts, with the most fuel and the largest tables

@@ -4,7 +4,7 @@ use Rattle.std.proofs.Math.Option.{Option, none, some}
 use Prim.Native.Nat.{ℕ, zero, suc, ◌≤◌}
 use native.Mathlib.Omega.{arith}
 use Rattle.evaluation.specs.Code.{Code, variable_r, operation_r, constant_r, quoted_r, if_r, lambda_r, application_r, Codes, none_r, more_r}
-use Rattle.evaluation.specs.Computation.{Out, done, refused, M, go_on, ◌>>=◌, ◌>>◌, give, refuse, test, or_refuse, spend_if, spend, Answer, answer, ground, or_ground}
+use Rattle.evaluation.specs.Computation.{Out, done, refused, M, go_on, ◌>>=◌, ◌>>◌, give, refuse, test, or_refuse, spend_if, spend, Answer, answer, ground_number, or_ground}
 use Rattle.evaluation.specs.Numbers.{Numbers}
 use Rattle.evaluation.specs.Evaluate.{Value, number_v, boolean_v, datum_v, closure_v, operation_v, Environment, evaluate_all, evaluate_if, apply, evaluate_application, evaluate_node, evaluate}
 use Rattle.evaluation.specs.Grows.{Grows, units}
@@ -26,7 +26,7 @@ module _ {A : Type 0} where
   pub or_ground-grows : (o : Answer A) → Grows (or_ground o)
   unfolding Grows units or_ground
   or_ground-grows (answer a) u = omega arith
-  or_ground-grows (ground g) u = omega arith
+  or_ground-grows (ground_number g) u = omega arith
 
 pub test-grows : (g : ℕ) (b : Bool) → Grows (test g b)
 unfolding Grows units test

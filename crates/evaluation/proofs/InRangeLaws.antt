@@ -10,7 +10,7 @@ use Rattle.words.specs.Limits.{operations_most, budget_most, run_rate}
 use Rattle.core_term.specs.Term.{Plain}
 use Rattle.core_term.specs.Check.{term_of, small}
 use Rattle.evaluation.specs.Code.{code_at}
-use Rattle.evaluation.specs.Computation.{Out, answer, ground}
+use Rattle.evaluation.specs.Computation.{Out, answer, ground_number}
 use Rattle.evaluation.specs.Numbers.{in_range, within32, integers}
 use Rattle.evaluation.specs.Evaluate.{Value}
 use Rattle.evaluation.specs.Run.{Result, number, whole, Outcome, accepted, with_term, require, tested, ended, evaluated, run}
@@ -37,7 +37,7 @@ within_in : (z : ℤ) → Answers tight InBoth (within32 z) (within32 z)
 unfolding within32
 within_in z = go (in_range z) refl
   where
-    go : (b : Bool) → in_range z ≡ b → Answers tight InBoth (cond b (answer z) (ground 25)) (cond b (answer z) (ground 25))
+    go : (b : Bool) → in_range z ≡ b → Answers tight InBoth (cond b (answer z) (ground_number 25)) (cond b (answer z) (ground_number 25))
     go true e = answers (refl, e)
     go false e = grounds
 

@@ -4,7 +4,7 @@ use Rattle.std.proofs.Common.{ap, ap₂, ◌∙◌}
 use Rattle.core_term.specs.Term.{variable_c, operation_c, datum_c, if_c, lambda_c, application_c, none_c, more_c, Plain, Plains}
 use Rattle.datum.specs.Datum.{constant_d, name_d, list_d}
 use Rattle.evaluation.specs.Code.{Code, variable_r, operation_r, constant_r, quoted_r, if_r, lambda_r, application_r, Codes, none_r, more_r, datum_code, code_at, codes_at}
-use Rattle.evaluation.specs.Computation.{Answer, answer, ground}
+use Rattle.evaluation.specs.Computation.{Answer, answer, ground_number}
 use Rattle.evaluation.specs.Numbers.{Numbers}
 use Rattle.evaluation.specs.Evaluate.{Value, number_v, boolean_v, datum_v, closure_v, operation_v, Environment, empty_e, bound_e}
 use Rattle.evaluation.specs.Kin.{CodeKin, variable_k, operation_k, constant_k, quoted_k, if_k, lambda_k, application_k, CodesKin, none_k, more_k, ValueKin, number_k, boolean_k, datum_k, closure_k, operator_k, EnvironmentKin, empty_k, bound_k, Answers, answers, grounds, NumbersKin}
@@ -59,7 +59,7 @@ mutual
 
 answers-same : {A : Type 0} (o : Answer A) → Answers tight Same o o
 answers-same (answer a) = answers refl
-answers-same (ground g) = grounds
+answers-same (ground_number g) = grounds
 
 module _ {N : Type 0} where
   mutual

@@ -7,7 +7,7 @@ use Rattle.std.proofs.Math.Option.{Option, none, some}
 use Prim.Native.Nat.{ℕ, zero, suc, ◌+◌, ◌≤◌, ◌<◌}
 use Rattle.datum.specs.Constant.{Constant}
 use Rattle.evaluation.specs.Code.{Code, Codes}
-use Rattle.evaluation.specs.Computation.{Out, refused, M, ◌>>◌, refuse, spend, spend_if, go_on, Answer, answer, ground}
+use Rattle.evaluation.specs.Computation.{Out, refused, M, ◌>>◌, refuse, spend, spend_if, go_on, Answer, answer, ground_number}
 use Rattle.evaluation.specs.Numbers.{Numbers}
 use Rattle.evaluation.specs.Evaluate.{Value, number_v, boolean_v, Environment, find, bind, holds, number_of, is_two, operand, constant_value, operations, operate, evaluate_all, evaluate_if, apply, evaluate_application, evaluate_node, evaluate}
 use Rattle.evaluation.specs.Grows.{units, Grows}
@@ -77,8 +77,8 @@ module _ {N N' : Type 0} (S : N → N' → Type 0) (P : ℕ → ℕ → Type 0) 
     constant-kin a =
         go a.kind
       where
-        go : (k : ℕ) → Answers loose Kin (get_or (ground 25 ∷ answer (number_v (D.of_word a.first)) ∷ answer (boolean_v (eqb a.first 1)) ∷ []) k (ground 25))
-            (get_or (ground 25 ∷ answer (number_v (D'.of_word a.first)) ∷ answer (boolean_v (eqb a.first 1)) ∷ []) k (ground 25))
+        go : (k : ℕ) → Answers loose Kin (get_or (ground_number 25 ∷ answer (number_v (D.of_word a.first)) ∷ answer (boolean_v (eqb a.first 1)) ∷ []) k (ground_number 25))
+            (get_or (ground_number 25 ∷ answer (number_v (D'.of_word a.first)) ∷ answer (boolean_v (eqb a.first 1)) ∷ []) k (ground_number 25))
         go zero = grounds
         go (suc zero) = answers (number_k (kin.of_word a.first))
         go (suc (suc zero)) = answers boolean_k

@@ -10,14 +10,14 @@ use Rattle.expander.specs.declared.Expansion.TheVariants.{Accepted, Refused}
 
 -- ground (accepted is 0), steps, sum, length of the term
 pub record Numbers : Type 0 where
-  pub ground : ℕ
+  pub ground_number : ℕ
   pub steps : ℕ
   pub sum : ℕ
   pub length : ℕ
 
 unfoldable pub numbers_of : Expansion → Numbers
-numbers_of (Accepted steps sum length) = record { ground = 0; steps = steps; sum = sum; length = length }
-numbers_of (Refused ground steps sum) = record { ground = ground; steps = steps; sum = sum; length = 0 }
+numbers_of (Accepted steps sum length) = record { ground_number = 0; steps = steps; sum = sum; length = length }
+numbers_of (Refused ground_number steps sum) = record { ground_number = ground_number; steps = steps; sum = sum; length = 0 }
 
 -- no run is unfinished (`run-finished`); its number is no ground's, and more than a word holds, so that no answer has it
 unfoldable pub ground_of : Outcome → ℕ
@@ -26,7 +26,7 @@ ground_of (refused_on stage g) = g
 ground_of unfinished = 4294967296
 
 unfoldable pub run_numbers : Run → Numbers
-run_numbers r = record { ground = ground_of r.outcome; steps = r.steps; sum = r.sum; length = length (core_of r) }
+run_numbers r = record { ground_number = ground_of r.outcome; steps = r.steps; sum = r.sum; length = length (core_of r) }
 
 -- ---- the tables
 

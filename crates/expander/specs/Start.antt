@@ -18,8 +18,8 @@ pub record Lends (items work core operations : List ℕ) (fuel : ℕ) : Type 0 w
 
 -- the numbers of an end; the words reach as far as the term is long
 unfoldable pub end_numbers : Ended → Numbers
-end_numbers (Done q) = record { ground = 0; steps = q.steps; sum = q.sum; length = q.at }
-end_numbers (Refused ground steps sum) = record { ground = ground; steps = steps; sum = sum; length = 0 }
+end_numbers (Done q) = record { ground_number = 0; steps = q.steps; sum = q.sum; length = q.at }
+end_numbers (Refused ground_number steps sum) = record { ground_number = ground_number; steps = steps; sum = sum; length = 0 }
 
 -- an expansion ended as the run says, and its term's words begin the core table
 pub record Expanded (run : Run) (core : List ℕ) (e : Ended) : Type 0 where

@@ -40,7 +40,7 @@ way_then {s} {t} {l = l} {k = k} p q =
     }
 
 broken-after : {s t u : State} {g : ℕ} {l k : Events} → Way s t 0 l → Broken t g u k → Broken s g u (l ++ k)
-broken-after p q = record { ground = q.ground; late = q.late; way = way_then p q.way }
+broken-after p q = record { ground_number = q.ground_number; late = q.late; way = way_then p q.way }
 
 -- no binding is made, and counts stay
 way-none : (s : State) {l : Events} → Each Unbinding l → Way s s 0 l
@@ -48,7 +48,7 @@ unfolding up_from
 way-none s h = record { v = 0; m = 0; variables-bound = unbinding-binds variable_number h; macros-bound = unbinding-binds macro_number h; steps = omega arith; sum = omega arith; variables = omega arith; macros = omega arith; macros-grown = omega arith }
 
 broken-here : (s : State) (g : ℕ) → (11 ≤ g) × (g ≤ 18) → Broken s g s []
-broken-here s g r = record { ground = r; late = 0; way = way-none s none_of }
+broken-here s g r = record { ground_number = r; late = 0; way = way-none s none_of }
 
 -- ---- a computation that keeps to the way, from every state
 
@@ -176,7 +176,7 @@ module _ (limit : ℕ) (operations : List ℕ) (fuel : ℕ) (rec : Tree → M (T
       keeps-test 14 _ _ (omega arith) λ _ s.
       get_holds _ s
       (show-holds _ _ s
-      (then-holds _ _ _ s (read_rules-holds (λ r. Unit {0}) (each_all _ (λ r. given-any _)) s (λ l h. record { ground = omega arith; late = length (keywords t); way = macros-way s s (keywords t) _ h refl refl refl refl (omega arith) })) λ rules u l read.
+      (then-holds _ _ _ s (read_rules-holds (λ r. Unit {0}) (each_all _ (λ r. given-any _)) s (λ l h. record { ground_number = omega arith; late = length (keywords t); way = macros-way s s (keywords t) _ h refl refl refl refl (omega arith) })) λ rules u l read.
       add_macros-holds _ _ u
       (let ev = bindings macro (length s.macros) (keywords t) in
       let same = rules-added (cond inside (bind_all macro (length s.macros) (keywords t)) (λ r. r)) (rules_forms t) read in

@@ -26,7 +26,7 @@ Events = List Event
 -- done; refused on a ground; or out of gas, which no run is (Gas)
 pub data Out (A : Type 0) : Type 0 where
   done : A → State → Events → Out A
-  refused : (ground : ℕ) → State → Events → Out A
+  refused : (ground_number : ℕ) → State → Events → Out A
   starved : Events → Out A
 
 abbrev pub M : Type 0 → Type 0

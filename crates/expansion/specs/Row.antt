@@ -24,12 +24,12 @@ unfoldable pub gives : String → (steps sum : ℕ) → List ℕ → Row
 gives text steps sum core = record { text = text; fuel = filing_fuel; outcome = accepted; steps = steps; sum = sum; core = core }
 
 -- one that is turned back before it begins
-unfoldable pub turns_back : String → (ground : ℕ) → Row
-turns_back text ground = record { text = text; fuel = filing_fuel; outcome = refused_on testing ground; steps = 0; sum = 0; core = [] }
+unfoldable pub turns_back : String → (ground_number : ℕ) → Row
+turns_back text ground_number = record { text = text; fuel = filing_fuel; outcome = refused_on testing ground_number; steps = 0; sum = 0; core = [] }
 
 -- a refused one: ground, steps, sum
-unfoldable pub refuses : String → (ground steps sum : ℕ) → Row
-refuses text ground steps sum = record { text = text; fuel = filing_fuel; outcome = refused_on begun ground; steps = steps; sum = sum; core = [] }
+unfoldable pub refuses : String → (ground_number steps sum : ℕ) → Row
+refuses text ground_number steps sum = record { text = text; fuel = filing_fuel; outcome = refused_on begun ground_number; steps = steps; sum = sum; core = [] }
 
 -- the row with other fuel
 unfoldable pub with_fuel : ℕ → Row → Row

@@ -15,7 +15,7 @@ use Rattle.expansion.specs.Forms.{expand_within}
 -- accepted; or refused, at a stage and on a ground; no run is unfinished (Gas)
 pub data Outcome : Type 0 where
   accepted : Outcome
-  refused_on : (stage : Stage) (ground : ℕ) → Outcome
+  refused_on : (stage : Stage) (ground_number : ℕ) → Outcome
   unfinished : Outcome
 
 -- a run that ends in any other way than at a test has begun
@@ -60,11 +60,11 @@ ended (refused g s l) = record { outcome = refused_on begun g; steps = s.steps; 
 ended (starved l) = record { outcome = unfinished; steps = 0; sum = 0; term = none; events = l }
 
 -- refused on ground g before it begins
-unfoldable pub unbegun : (ground : ℕ) → Run
+unfoldable pub unbegun : (ground_number : ℕ) → Run
 unbegun g = record { outcome = refused_on testing g; steps = 0; sum = 0; term = none; events = [] }
 
 -- the rest of the run, where the test of ground g passes
-unfoldable pub require : (ground : ℕ) → Bool → Run → Run
+unfoldable pub require : (ground_number : ℕ) → Bool → Run → Run
 unfolding unbegun
 require g true run = run
 require g false run = unbegun g

@@ -25,7 +25,7 @@ pub record Way (s u : State) (late : ℕ) (l : Events) : Type 0 where
 
 -- to a refusal, on a ground from 11 to 18
 pub record Broken (s : State) (g : ℕ) (u : State) (l : Events) : Type 0 where
-  pub ground : (11 ≤ g) × (g ≤ 18)
+  pub ground_number : (11 ≤ g) × (g ≤ 18)
   pub late : ℕ
   pub way : Way s u late l
 

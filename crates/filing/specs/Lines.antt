@@ -14,9 +14,9 @@ pub counts-laid : (steps sum : ℕ) → (32 ∷ numeral steps) ++ ((32 ∷ numer
 unfolding counts_text
 counts-laid steps sum = refl
 
-pub refusal-laid : (ground steps sum : ℕ) → (114 ∷ 101 ∷ 102 ∷ 117 ∷ 115 ∷ 101 ∷ 100 ∷ []) ++ ((32 ∷ numeral ground) ++ counts_text steps sum) ≡ refusal ground steps sum
+pub refusal-laid : (ground_number steps sum : ℕ) → (114 ∷ 101 ∷ 102 ∷ 117 ∷ 115 ∷ 101 ∷ 100 ∷ []) ++ ((32 ∷ numeral ground_number) ++ counts_text steps sum) ≡ refusal ground_number steps sum
 unfolding refusal line spaced spaced_after counts_text bytes
-refusal-laid ground steps sum = simp append_assoc
+refusal-laid ground_number steps sum = simp append_assoc
 
 pub header-laid : (steps sum : ℕ) → (97 ∷ 99 ∷ 99 ∷ 101 ∷ 112 ∷ 116 ∷ 101 ∷ 100 ∷ []) ++ counts_text steps sum ≡ header steps sum
 unfolding header line spaced spaced_after counts_text bytes

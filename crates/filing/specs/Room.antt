@@ -44,9 +44,9 @@ counts-room steps sum p q =
       number-room sum q,
     )
 
-refusal-room : (ground steps sum : ℕ) → ground < limit → steps < limit → sum < limit → length (refusal ground steps sum) ≤ 41
-refusal-room ground steps sum g p q =
-    omega (arith, ap length (refusal-laid ground steps sum), length-append (32 ∷ numeral ground) (counts_text steps sum), number-room ground g, counts-room steps sum p q)
+refusal-room : (ground_number steps sum : ℕ) → ground_number < limit → steps < limit → sum < limit → length (refusal ground_number steps sum) ≤ 41
+refusal-room ground_number steps sum g p q =
+    omega (arith, ap length (refusal-laid ground_number steps sum), length-append (32 ∷ numeral ground_number) (counts_text steps sum), number-room ground_number g, counts-room steps sum p q)
 
 header-room : (steps sum : ℕ) → steps < limit → sum < limit → length (header steps sum) ≤ 31
 header-room steps sum p q = omega (arith, ap length (header-laid steps sum), counts-room steps sum p q)

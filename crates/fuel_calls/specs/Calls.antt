@@ -47,7 +47,7 @@ module _ {items : List ℕ} where
 
   ground-is : (c : Call items) (o : Outcome) → (run_of c).outcome ≡ o → call_ground c ≡ ground_of o
   unfolding run_numbers
-  ground-is c o e = ap (λ (n : Numbers). n.ground) c.served.numbers ∙ ap ground_of e
+  ground-is c o e = ap (λ (n : Numbers). n.ground_number) c.served.numbers ∙ ap ground_of e
 
   sum_is : (c : Call items) → call_sum c ≡ (run_of c).sum
   unfolding run_numbers

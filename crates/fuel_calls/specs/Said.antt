@@ -31,7 +31,7 @@ module _ (items : List ℕ) (fuel more : ℕ) (work work₁ core core₁ : List 
     (most' : more ≤ 8192) (work-room' : 24 * (item_count items + more) ≤ length work') (core-room' : 3 * (item_count items + more) ≤ length core')
     (served' : Served items more work' work₂ core' core₂ second)
     -- where the first is not refused on ground 18
-    (enough : (numbers_of first).ground ≡ 18 → ⊥) where
+    (enough : (numbers_of first).ground_number ≡ 18 → ⊥) where
   abbrev once : Call items
   once = called most work-room core-room served
 
@@ -46,6 +46,6 @@ module _ (items : List ℕ) (fuel more : ℕ) (work work₁ core core₁ : List 
   unfolding LeastFuelCalls
   from-sum-calls-said h = (least-fuel-calls items once again enough).from-sum h
 
-  pub below-sum-calls-said : more < (numbers_of first).sum → (numbers_of second).ground ≡ 18
+  pub below-sum-calls-said : more < (numbers_of first).sum → (numbers_of second).ground_number ≡ 18
   unfolding LeastFuelCalls
   below-sum-calls-said h = (least-fuel-calls items once again enough).below-sum h

@@ -22,17 +22,17 @@ pub record Call (items : List ℕ) : Type 0 where
   pub served : Served items fuel work work' core core' answer
 
 -- the grounds of tests, which touch nothing
-abbrev pub Early : (ground : ℕ) → Type 0
+abbrev pub Early : (ground_number : ℕ) → Type 0
 Early g = GroundIn testing g
 
 -- accepted (0), and the grounds of a run that has begun
-abbrev pub Late : (ground : ℕ) → Type 0
+abbrev pub Late : (ground_number : ℕ) → Type 0
 Late g = (g ≡ 0) ⊎ GroundIn begun g
 
 module _ {items : List ℕ} where
   -- the ground and the sum of its answer
   abbrev pub call_ground : Call items → ℕ
-  call_ground c = (numbers_of c.answer).ground
+  call_ground c = (numbers_of c.answer).ground_number
 
   abbrev pub call_sum : Call items → ℕ
   call_sum c = (numbers_of c.answer).sum

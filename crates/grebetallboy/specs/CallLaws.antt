@@ -56,25 +56,25 @@ told-three a b c t h =
 -- reading: ground, both tables, counts; q is the answer as it was taken apart
 module _ {a : Answer Recipe} {words words' bytes bytes' counts' : List ℕ} {r q : Reading} (counts : List ℕ) where
   pub read_told : R.Gives a words words' bytes bytes' r → r ≡ q → counts' ≡ tells_read (R.numbers_of q) counts
-      → ((R.numbers_of q).ground ≡ (read_numbers a).ground) × (words' ≡ items_after a words) × (bytes' ≡ names_after a bytes) × (counts' ≡ tells_read (read_numbers a) counts)
+      → ((R.numbers_of q).ground_number ≡ (read_numbers a).ground_number) × (words' ≡ items_after a words) × (bytes' ≡ names_after a bytes) × (counts' ≡ tells_read (read_numbers a) counts)
   read_told served e told-counts =
       let numbers = ap R.numbers_of (sym e) ∙ served.numbers in
-      (ap (λ (n : Numbers). n.ground) numbers, served.items, served.names, told-counts ∙ ap (λ n. tells_read n counts) numbers)
+      (ap (λ (n : Numbers). n.ground_number) numbers, served.items, served.names, told-counts ∙ ap (λ n. tells_read n counts) numbers)
 
 -- expansion: ground, both tables, counts
 module _ {items work work' core core' counts' : List ℕ} {fuel : ℕ} {r q : Expansion} (counts : List ℕ) where
   pub expand-told : E.Served items fuel work work' core core' r → r ≡ q → counts' ≡ tells_run (E.numbers_of q) counts
-      → ((E.numbers_of q).ground ≡ (E.run_numbers (run items fuel (length work) (length core))).ground)
+      → ((E.numbers_of q).ground_number ≡ (E.run_numbers (run items fuel (length work) (length core))).ground_number)
       × (work' ≡ E.work_after (run items fuel (length work) (length core)) work)
       × (core' ≡ E.core_after (run items fuel (length work) (length core)) core)
       × (counts' ≡ tells_run (E.run_numbers (run items fuel (length work) (length core))) counts)
   expand-told served e told-counts =
       let numbers = ap E.numbers_of (sym e) ∙ served.numbers in
-      (ap (λ (n : E.Numbers). n.ground) numbers, served.work-after, served.core-after, told-counts ∙ ap (λ n. tells_run n counts) numbers)
+      (ap (λ (n : E.Numbers). n.ground_number) numbers, served.work-after, served.core-after, told-counts ∙ ap (λ n. tells_run n counts) numbers)
 
 -- writing: ground, output, length
 module _ {x : Option (List ℕ)} {out out' counts' : List ℕ} {r q : Writing} (counts : List ℕ) where
-  pub write-told : Wrote x out out' r → r ≡ q → counts' ≡ told (W.length_of q ∷ 0 ∷ 0 ∷ []) counts → (W.ground_of q ≡ W.ground (W.outcome out x)) × (out' ≡ W.after (W.outcome out x) out) × (counts' ≡ told (W.size (W.outcome out x) ∷ 0 ∷ 0 ∷ []) counts)
+  pub write-told : Wrote x out out' r → r ≡ q → counts' ≡ told (W.length_of q ∷ 0 ∷ 0 ∷ []) counts → (W.ground_of q ≡ W.ground_number (W.outcome out x)) × (out' ≡ W.after (W.outcome out x) out) × (counts' ≡ told (W.size (W.outcome out x) ∷ 0 ∷ 0 ∷ []) counts)
   write-told wrote e told-counts = (ap W.ground_of (sym e) ∙ wrote.number, wrote.left, told-counts ∙ ap (λ (n : ℕ). told (n ∷ 0 ∷ 0 ∷ []) counts) (ap W.length_of (sym e) ∙ wrote.value))
 
 -- comparing: ground, the text's two tables, answer
@@ -86,16 +86,16 @@ module _ {v : Reply} {a : Answer Recipe} {words words' bytes bytes' counts' : Li
       (ap verdict_ground verdict, served.items, served.names, told-counts ∙ ap (λ w. tells_verdict w counts) verdict)
 
 -- running: ground, table, counts
-module _ {words table table' counts' : List ℕ} {budget ground : ℕ} {r : Running} (counts : List ℕ) where
-  pub ran-told : M.Ran words budget table table' r → (ground ≡ (M.numbers_of r).ground) × (counts' ≡ told (S.of_running (M.numbers_of r)) counts)
-      → RunCalled words budget table table' counts counts' ground
-  ran-told x t = (t.0 ∙ ap (λ (n : M.Numbers). n.ground) x.numbers, x.table-after, t.1 ∙ ap (λ (n : M.Numbers). told (S.of_running n) counts) x.numbers)
+module _ {words table table' counts' : List ℕ} {budget ground_number : ℕ} {r : Running} (counts : List ℕ) where
+  pub ran-told : M.Ran words budget table table' r → (ground_number ≡ (M.numbers_of r).ground_number) × (counts' ≡ told (S.of_running (M.numbers_of r)) counts)
+      → RunCalled words budget table table' counts counts' ground_number
+  ran-told x t = (t.0 ∙ ap (λ (n : M.Numbers). n.ground_number) x.numbers, x.table-after, t.1 ∙ ap (λ (n : M.Numbers). told (S.of_running n) counts) x.numbers)
 
 -- a recipe: ground, three tables, counts; q is the answer as it was taken apart
-module _ {items work work' core core' table table' counts' : List ℕ} {fuel budget ground : ℕ} {r : RecipeRunning} (counts : List ℕ) where
+module _ {items work work' core core' table table' counts' : List ℕ} {fuel budget ground_number : ℕ} {r : RecipeRunning} (counts : List ℕ) where
   pub recipe-told : (q : RecipeRunning) → S.RecipeRan items fuel work work' core core' budget table table' r → r ≡ q
-      → (ground ≡ (S.told_of q).ground) × (counts' ≡ told (S.told_of q).numbers counts)
-      → RecipeRunCalled items fuel work work' core core' budget table table' counts counts' ground
+      → (ground_number ≡ (S.told_of q).ground_number) × (counts' ≡ told (S.told_of q).numbers counts)
+      → RecipeRunCalled items fuel work work' core core' budget table table' counts counts' ground_number
   recipe-told q x e t =
       let numbers = ap S.told_of (sym e) ∙ x.told in
-      (t.0 ∙ ap (λ (n : S.Told). n.ground) numbers, x.work-after, x.core-after, x.table-after, t.1 ∙ ap (λ (n : S.Told). told n.numbers counts) numbers)
+      (t.0 ∙ ap (λ (n : S.Told). n.ground_number) numbers, x.work-after, x.core-after, x.table-after, t.1 ∙ ap (λ (n : S.Told). told n.numbers counts) numbers)

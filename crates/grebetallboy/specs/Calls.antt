@@ -35,7 +35,7 @@ verdict_ground (refused_on g) = g
 -- running's: ground, the lent table, and what the result is, its two words, the units
 abbrev pub RunCalled : (words : List ℕ) (budget : ℕ) (table table' counts counts' : List ℕ) (r : ℕ) → Type 0
 RunCalled words budget table table' counts counts' r =
-    (r ≡ (M.run_numbers (Eval.run words budget (length table))).ground)
+    (r ≡ (M.run_numbers (Eval.run words budget (length table))).ground_number)
     × (table' ≡ Eval.table_after (Eval.run words budget (length table)) table)
     × (counts' ≡ told (S.of_running (M.run_numbers (Eval.run words budget (length table)))) counts)
 
@@ -44,7 +44,7 @@ abbrev pub RecipeRunCalled : (items : List ℕ) (fuel : ℕ) (work work' core co
 RecipeRunCalled items fuel work work' core core' budget table table' counts counts' r =
     let x = X.run items fuel (length work) (length core) in
     let o = recipe_run items fuel (length work) (length core) budget (length table) in
-    (r ≡ (S.recipe_told x o).ground)
+    (r ≡ (S.recipe_told x o).ground_number)
     × (work' ≡ E.work_after x work)
     × (core' ≡ E.core_after x core)
     × (table' ≡ Eval.table_after o table)

@@ -4,7 +4,7 @@
 
 ghost use Rattle.std.specs.Prelude.{◌≡◌, [], ◌∷◌, length};
 ghost use Rattle.reading.specs.Read.{read, read_elements, read_numbers, items_after, names_after};
-ghost use Rattle.writer.specs.Writing.{text_of, outcome, ground, size, after};
+ghost use Rattle.writer.specs.Writing.{text_of, outcome, ground_number, size, after};
 ghost use Rattle.expansion.specs.Run.{run};
 ghost use Rattle.expander.specs.Service.{run_numbers, core_after, work_after};
 ghost use Rattle.comparison.specs.Compare.{compare, items_left, names_left};
@@ -18,7 +18,7 @@ pub extern "C" fn grebetallboy_read(
     names: &mut [u8],
     counts: &mut [u64],
 ) -> u32
-    ensures { (result ≡ (read_numbers (read text.now (length items.old) (length names.old))).ground)
+    ensures { (result ≡ (read_numbers (read text.now (length items.old) (length names.old))).ground_number)
         × (items.new ≡ items_after (read text.now (length items.old) (length names.old)) items.old)
         × (names.new ≡ names_after (read text.now (length items.old) (length names.old)) names.old)
         × (counts.new ≡ tells_read (read_numbers (read text.now (length items.old) (length names.old))) counts.old) }
@@ -35,7 +35,7 @@ pub extern "C" fn grebetallboy_expand(
     core: &mut [u32],
     counts: &mut [u64],
 ) -> u32
-    ensures { (result ≡ (run_numbers (run items.now fuel (length work.old) (length core.old))).ground)
+    ensures { (result ≡ (run_numbers (run items.now fuel (length work.old) (length core.old))).ground_number)
         × (work.new ≡ work_after (run items.now fuel (length work.old) (length core.old)) work.old)
         × (core.new ≡ core_after (run items.now fuel (length work.old) (length core.old)) core.old)
         × (counts.new ≡ tells_run (run_numbers (run items.now fuel (length work.old) (length core.old))) counts.old) }
@@ -52,7 +52,7 @@ pub extern "C" fn grebetallboy_write(
     out: &mut [u8],
     counts: &mut [u64],
 ) -> u32
-    ensures { (result ≡ ground (outcome out.old (text_of words.now operations names.now)))
+    ensures { (result ≡ ground_number (outcome out.old (text_of words.now operations names.now)))
         × (out.new ≡ after (outcome out.old (text_of words.now operations names.now)) out.old)
         × (counts.new ≡ told (size (outcome out.old (text_of words.now operations names.now)) ∷ 0 ∷ 0 ∷ []) counts.old) }
 {

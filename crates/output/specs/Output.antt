@@ -17,8 +17,8 @@ unfoldable pub line : List (List ℕ) → List ℕ
 line ws = spaced ws ++ (10 ∷ [])
 
 -- refused, the ground, the two counts
-unfoldable pub refusal : (ground steps sum : ℕ) → List ℕ
-refusal ground steps sum = line (bytes "refused" ∷ numeral ground ∷ numeral steps ∷ numeral sum ∷ [])
+unfoldable pub refusal : (ground_number steps sum : ℕ) → List ℕ
+refusal ground_number steps sum = line (bytes "refused" ∷ numeral ground_number ∷ numeral steps ∷ numeral sum ∷ [])
 
 -- accepted, the two counts
 unfoldable pub header : (steps sum : ℕ) → List ℕ
@@ -36,12 +36,12 @@ term_text names (some t) = text (name_at names) (told t)
 -- a run, with the name table of its recipe
 unfoldable pub printed : List ℕ → Outcome → Run → List ℕ
 printed names accepted r = acceptance r.steps r.sum (term_text names r.term)
-printed names (refused_on stage ground) r = refusal ground r.steps r.sum
+printed names (refused_on stage ground_number) r = refusal ground_number r.steps r.sum
 printed names unfinished r = []
 
 -- the answer of reading, with the lengths of the work and core tables
 unfoldable pub output_of : (fuel work core : ℕ) → Answer Recipe → List ℕ
-output_of fuel work core (refused_for stage ground) = refusal ground 0 0
+output_of fuel work core (refused_for stage ground_number) = refusal ground_number 0 0
 output_of fuel work core (got recipe) =
     let r = run (item_words recipe) fuel work core in
     printed (name_bytes recipe) r.outcome r

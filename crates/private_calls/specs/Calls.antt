@@ -22,7 +22,7 @@ use Rattle.expander.specs.Service.{Numbers, numbers_of, ground_of, run_numbers, 
 
 -- what a call of a recipe answers is told by outcome, counts and core words
 abbrev numbers_for : Answer → Numbers
-numbers_for a = record { ground = ground_of a.outcome; steps = a.steps; sum = a.sum; length = length a.core }
+numbers_for a = record { ground_number = ground_of a.outcome; steps = a.steps; sum = a.sum; length = length a.core }
 
 -- whatever number stands where a copy does, the words are as many
 with-length : (C : ℕ → Bool) (m n : ℕ) (o : Option (Term Name)) → length (core_with C m o) ≡ length (core_with C n o)
@@ -55,7 +55,7 @@ private-calls ws fuel c work work' work₁ work₂ core core' core₁ core₂ fi
     let e : answer_of (run (renamed ws c) fuel (length work') (length core')) ≡ answer_with C c.new r =
     ap₂ (λ m n. answer_of (run (renamed ws c) fuel m n)) x y ∙ named.1 in
     let same : numbers_for (answer_with C c.new r) ≡ numbers_for (answer_with C c.old r) =
-    ap (λ (n : ℕ). record { ground = ground_of r.outcome; steps = r.steps; sum = r.sum; length = n }) (with-length C c.new c.old r.term) in (
+    ap (λ (n : ℕ). record { ground_number = ground_of r.outcome; steps = r.steps; sum = r.sum; length = n }) (with-length C c.new c.old r.term) in (
       q.numbers ∙ ap numbers_for e ∙ same ∙ sym (ap numbers_for named.0) ∙ sym p.numbers,
       p.core-after ∙ ap (λ (a : Answer). left_at (stage_of a.outcome) a.core core) named.0 ∙ left _ core,
       q.core-after ∙ ap (λ (a : Answer). left_at (stage_of a.outcome) a.core core') e ∙ left _ core' ∙ filled-same (core_with C c.new r.term) core' core y,

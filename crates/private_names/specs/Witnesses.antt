@@ -63,8 +63,8 @@ unfoldable pub turned_back : Answer
 turned_back = record { outcome = refused_on testing 7; steps = 0; sum = 0; core = [] }
 
 -- a refused one: ground, steps, sum
-unfoldable pub refuses : (ground steps sum : ℕ) → Answer
-refuses ground steps sum = record { outcome = refused_on begun ground; steps = steps; sum = sum; core = [] }
+unfoldable pub refuses : (ground_number steps sum : ℕ) → Answer
+refuses ground_number steps sum = record { outcome = refused_on begun ground_number; steps = steps; sum = sum; core = [] }
 
 unfoldable pub finding : List Bool → ℕ → Answer → Answer → Finding
 finding hold lookups first second = record { hold = hold; lookups = lookups; first = first; second = second }

@@ -21,7 +21,7 @@ module _ (items : List ℕ) (fuel work core : ℕ) where
   -- the outcome, by the answer's numbers
   is-accepted : (n m l : ℕ) → numbers_of (Accepted n m l) ≡ run_numbers it → it.outcome ≡ accepted
   unfolding numbers_of run_numbers ground_of
-  is-accepted n m l e = go it.outcome refl (ap (λ (k : Numbers). k.ground) e)
+  is-accepted n m l e = go it.outcome refl (ap (λ (k : Numbers). k.ground_number) e)
     where
       go : (o : Outcome) → it.outcome ≡ o → ◌≡◌ {A = ℕ} 0 (ground_of o) → it.outcome ≡ accepted
       go accepted h z = h
@@ -30,7 +30,7 @@ module _ (items : List ℕ) (fuel work core : ℕ) where
 
   is-refused : (g n m : ℕ) → numbers_of (Refused g n m) ≡ run_numbers it → (w : Stage) × (it.outcome ≡ refused_on w g)
   unfolding numbers_of run_numbers ground_of
-  is-refused g n m e = go it.outcome refl (ap (λ (k : Numbers). k.ground) e) (ap (λ (k : Numbers). k.length) e)
+  is-refused g n m e = go it.outcome refl (ap (λ (k : Numbers). k.ground_number) e) (ap (λ (k : Numbers). k.length) e)
     where
       go : (o : Outcome) → it.outcome ≡ o → g ≡ ground_of o → ◌≡◌ {A = ℕ} 0 (length (core_of it)) → (w : Stage) × (it.outcome ≡ refused_on w g)
       go accepted h z l =

@@ -7,8 +7,8 @@ use Rattle.reading.specs.Read.{Recipe, read_elements, read, Numbers, read_number
 
 -- this paper's numbers for each answer
 unfoldable pub numbers_of : Reading → Numbers
-numbers_of (Read items names) = record { ground = 0; items = items; names = names }
-numbers_of (Refused ground) = record { ground = ground; items = 0; names = 0 }
+numbers_of (Read items names) = record { ground_number = 0; items = items; names = names }
+numbers_of (Refused ground_number) = record { ground_number = ground_number; items = 0; names = 0 }
 
 -- what a call answers and leaves in two lent tables, by the definition's answer
 pub record Gives (a : Answer Recipe) (words words' bytes bytes' : List ℕ) (r : Reading) : Type 0 where

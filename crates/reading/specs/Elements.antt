@@ -9,7 +9,7 @@ use Rattle.reading.specs.Numbering.{number_of, with_name}
 -- an answer, or the stage and the ground at which a call is refused; the grounds of a text come once reading has begun
 pub data Answer (A : Type 0) : Type 0 where
   got : A → Answer A
-  refused_for : (stage : Stage) (ground : ℕ) → Answer A
+  refused_for : (stage : Stage) (ground_number : ℕ) → Answer A
 
 -- on with an answer, or back with the refusal
 unfoldable pub then : {A B : Type 0} → Answer A → (A → Answer B) → Answer B

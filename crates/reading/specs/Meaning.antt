@@ -13,7 +13,7 @@ pub data Meaning : Type 0 where
   begins ends : Meaning
   constant : Constant → Meaning
   name : List ℕ → Meaning
-  refused : (ground : ℕ) → Meaning
+  refused : (ground_number : ℕ) → Meaning
 
 -- ---- numbers
 

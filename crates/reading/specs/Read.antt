@@ -52,14 +52,14 @@ read text items names = read_elements 2 text items names
 
 -- the ground, 0 where it is accepted; N; names, 0 to 7 among them
 pub record Numbers : Type 0 where
-  pub ground : ℕ
+  pub ground_number : ℕ
   pub items : ℕ
   pub names : ℕ
 
 unfoldable pub read_numbers : Answer Recipe → Numbers
 unfolding data_items
-read_numbers (got r) = record { ground = 0; items = data_items r.elements; names = length r.names }
-read_numbers (refused_for stage g) = record { ground = g; items = 0; names = 0 }
+read_numbers (got r) = record { ground_number = 0; items = data_items r.elements; names = length r.names }
+read_numbers (refused_for stage g) = record { ground_number = g; items = 0; names = 0 }
 
 -- ---- the tables
 

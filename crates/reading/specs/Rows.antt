@@ -14,10 +14,10 @@ pub record Row : Type 0 where
 
 -- an accepted text, with its item and name counts; a refused one, with its ground
 unfoldable pub accepted : List ℕ → ℕ → ℕ → Row
-accepted text items names = record { text = text; numbers = record { ground = 0; items = items; names = names } }
+accepted text items names = record { text = text; numbers = record { ground_number = 0; items = items; names = names } }
 
 unfoldable pub refused_on : List ℕ → ℕ → Row
-refused_on text g = record { text = text; numbers = record { ground = g; items = 0; names = 0 } }
+refused_on text g = record { text = text; numbers = record { ground_number = g; items = 0; names = 0 } }
 
 unfoldable pub row_of : List ℕ → Row
 unfolding recipe_of read_numbers
@@ -129,7 +129,7 @@ unfolding recipe_of bytes items_after
 decimals-hold = refl
 
 -- the limits of e, of a call's tables and of its text
-pub limits-hold : map (λ a. (read_numbers a).ground) (
+pub limits-hold : map (λ a. (read_numbers a).ground_number) (
     recipe_of (bytes "() (" ++ repeated 2045 (bytes " 1") ++ bytes ")")
     ∷ recipe_of (bytes "() (" ++ repeated 2046 (bytes " 1") ++ bytes ")")
     ∷ read (bytes "1 2") 12288 65536

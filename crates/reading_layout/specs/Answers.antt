@@ -147,21 +147,21 @@ module _ (wanted : ℕ) (text : List ℕ) (items names : ℕ) where
   abbrev answer : Answer Recipe
   answer = read_elements wanted text items names
 
-  pub numbers-got : (i n : ℕ) → record { ground = 0; items = i; names = n } ≡ read_numbers answer → (x : Recipe) × (answer ≡ got x) × (i ≡ data_items x.elements) × (n ≡ length x.names)
+  pub numbers-got : (i n : ℕ) → record { ground_number = 0; items = i; names = n } ≡ read_numbers answer → (x : Recipe) × (answer ≡ got x) × (i ≡ data_items x.elements) × (n ≡ length x.names)
   unfolding read_numbers
   numbers-got i n k = go answer refl k
     where
-      go : (a : Answer Recipe) → answer ≡ a → record { ground = 0; items = i; names = n } ≡ read_numbers a → (x : Recipe) × (answer ≡ got x) × (i ≡ data_items x.elements) × (n ≡ length x.names)
+      go : (a : Answer Recipe) → answer ≡ a → record { ground_number = 0; items = i; names = n } ≡ read_numbers a → (x : Recipe) × (answer ≡ got x) × (i ≡ data_items x.elements) × (n ≡ length x.names)
       go (got x) e k = (x, e, ap (λ (m : Numbers). m.items) k, ap (λ (m : Numbers). m.names) k)
-      go (refused_for stage g) e k = absurd (omega (arith, (elements-ground wanted text items names stage g e).0, ap (λ (m : Numbers). m.ground) k))
+      go (refused_for stage g) e k = absurd (omega (arith, (elements-ground wanted text items names stage g e).0, ap (λ (m : Numbers). m.ground_number) k))
 
-  pub numbers-refused : (g : ℕ) → record { ground = g; items = 0; names = 0 } ≡ read_numbers answer → (stage : Stage) × (answer ≡ refused_for stage g)
+  pub numbers-refused : (g : ℕ) → record { ground_number = g; items = 0; names = 0 } ≡ read_numbers answer → (stage : Stage) × (answer ≡ refused_for stage g)
   unfolding read_numbers
   numbers-refused g k = go answer refl k
     where
-      go : (a : Answer Recipe) → answer ≡ a → record { ground = g; items = 0; names = 0 } ≡ read_numbers a → (stage : Stage) × (answer ≡ refused_for stage g)
+      go : (a : Answer Recipe) → answer ≡ a → record { ground_number = g; items = 0; names = 0 } ≡ read_numbers a → (stage : Stage) × (answer ≡ refused_for stage g)
       go (got x) e k = absurd (omega (arith, data-positive x.elements, ap (λ (m : Numbers). m.items) k))
-      go (refused_for stage j) e k = (stage, e ∙ ap (refused_for stage) (sym (ap (λ (m : Numbers). m.ground) k)))
+      go (refused_for stage j) e k = (stage, e ∙ ap (refused_for stage) (sym (ap (λ (m : Numbers). m.ground_number) k)))
 
 pub read-slots : (text : List ℕ) (items names : ℕ) (r : Recipe) → read text items names ≡ got r → length (name_bytes r) ≡ 64 * length r.names
 unfolding name_bytes read

@@ -11,7 +11,7 @@ use Rattle.recipe_runner.specs.declared.RecipeRunning.TheVariants.{Ran, Refused}
 
 -- ground (accepted is 0), and four numbers
 pub record Told : Type 0 where
-  pub ground : ℕ
+  pub ground_number : ℕ
   pub numbers : List ℕ
 
 -- of running: what the result is, its two words, the units
@@ -23,8 +23,8 @@ abbrev pub of_expansion : E.Numbers → List ℕ
 of_expansion n = n.steps ∷ n.sum ∷ 0 ∷ 0 ∷ []
 
 unfoldable pub told_of : RecipeRunning → Told
-told_of (Ran r) = record { ground = (R.numbers_of r).ground; numbers = of_running (R.numbers_of r) }
-told_of (Refused g n m) = record { ground = g; numbers = n ∷ m ∷ 0 ∷ 0 ∷ [] }
+told_of (Ran r) = record { ground_number = (R.numbers_of r).ground_number; numbers = of_running (R.numbers_of r) }
+told_of (Refused g n m) = record { ground_number = g; numbers = n ∷ m ∷ 0 ∷ 0 ∷ [] }
 
 unfoldable pub numbers_after : X.Outcome → E.Numbers → R.Numbers → List ℕ
 numbers_after X.accepted e r = of_running r
@@ -33,7 +33,7 @@ numbers_after X.unfinished e r = of_expansion e
 
 -- a recipe's run, by the run of its expansion and by its outcome
 unfoldable pub recipe_told : X.Run → Outcome (Result ℤ) → Told
-recipe_told x o = record { ground = (R.run_numbers o).ground; numbers = numbers_after x.outcome (E.run_numbers x) (R.run_numbers o) }
+recipe_told x o = record { ground_number = (R.run_numbers o).ground_number; numbers = numbers_after x.outcome (E.run_numbers x) (R.run_numbers o) }
 
 -- what a call answers and leaves
 pub record RecipeRan (items : List ℕ) (fuel : ℕ) (work work' core core' : List ℕ) (budget : ℕ) (table table' : List ℕ) (r : RecipeRunning) : Type 0 where

@@ -16,8 +16,8 @@ use Rattle.runner.specs.Service as R
 use Rattle.recipe_runner.specs.declared.RecipeRunning.TheVariants.{Ran, Refused}
 use Rattle.recipe_runner.specs.Service.{Told, of_expansion, told_of, numbers_after, recipe_told, RecipeRan}
 
-abbrev told-as : (ground : ℕ) → List ℕ → Told
-told-as g ns = record { ground = g; numbers = ns }
+abbrev told-as : (ground_number : ℕ) → List ℕ → Told
+told-as g ns = record { ground_number = g; numbers = ns }
 
 module _ (items : List ℕ) (fuel : ℕ) (work work' core core' : List ℕ) (answer : Expansion) (s : Served items fuel work work' core core' answer) where
   -- an accepted expansion: its words are inside the core table, and what they run as is told

@@ -31,4 +31,4 @@ recipe-runs items fuel work work' core core' answer s steps sum size h budget ta
 
 pub recipe-refused : RecipeRefused
 unfolding RecipeRefused recipe_run after_expansion
-recipe-refused items fuel work work' core core' answer s ground steps sum h budget table = rw (ran-refused items fuel work work' core core' answer s ground steps sum h).1
+recipe-refused items fuel work work' core core' answer s ground_number steps sum h budget table = rw (ran-refused items fuel work work' core core' answer s ground_number steps sum h).1

@@ -39,7 +39,7 @@ unfoldable pub RecipeRefused : Type 0
 RecipeRefused =
     (items : List ℕ) (fuel : ℕ) (work work' core core' : List ℕ) (answer : Expansion)
     → Served items fuel work work' core core' answer
-    → (ground steps sum : ℕ)
-    → answer ≡ Refused ground steps sum
+    → (ground_number steps sum : ℕ)
+    → answer ≡ Refused ground_number steps sum
     → (budget table : ℕ)
-    → recipe_run items fuel (length work) (length core) budget table ≡ R.unfit ground
+    → recipe_run items fuel (length work) (length core) budget table ≡ R.unfit ground_number

@@ -23,9 +23,9 @@ pub line-one : (word : List ℕ) → word ++ (10 ∷ []) ≡ line (word ∷ [])
 unfolding line spaced spaced_after
 line-one word = refl
 
-pub refusal-laid : (ground : ℕ) → counted (bytes "refused") ground ≡ refusal ground
+pub refusal-laid : (ground_number : ℕ) → counted (bytes "refused") ground_number ≡ refusal ground_number
 unfolding refusal
-refusal-laid ground = line-counted (bytes "refused") ground
+refusal-laid ground_number = line-counted (bytes "refused") ground_number
 
 -- an integer by its word
 pub number-laid : (w : ℕ) → integer_text w ++ (10 ∷ []) ≡ value_line (number (to_z w32 w))
@@ -66,6 +66,6 @@ unfolding acceptance bytes
 acceptance-room r units h k =
     omega (arith, value_room r h, counted-room (bytes "accepted") units k, length-append (line (bytes "accepted" ∷ numeral units ∷ [])) (value_line r))
 
-pub refusal-room : (ground : ℕ) → ground < 18446744073709551616 → length (refusal ground) ≤ output_most
+pub refusal-room : (ground_number : ℕ) → ground_number < 18446744073709551616 → length (refusal ground_number) ≤ output_most
 unfolding refusal bytes
-refusal-room ground h = omega (arith, counted-room (bytes "refused") ground h)
+refusal-room ground_number h = omega (arith, counted-room (bytes "refused") ground_number h)

@@ -10,8 +10,8 @@ use Rattle.evaluation.specs.Run.{Result, number, boolean, datum, closure, operat
 use Rattle.recipe_runs.specs.RecipeRun.{recipe_run}
 
 -- refused, and the ground
-unfoldable pub refusal : (ground : ℕ) → List ℕ
-refusal ground = line (bytes "refused" ∷ numeral ground ∷ [])
+unfoldable pub refusal : (ground_number : ℕ) → List ℕ
+refusal ground_number = line (bytes "refused" ∷ numeral ground_number ∷ [])
 
 unfoldable pub boolean_text : Bool → List ℕ
 boolean_text true = bytes "#t"
@@ -38,7 +38,7 @@ printed (accepted r units) = acceptance r units
 
 -- the answer of reading, with fuel, the lengths of the work and core tables, the budget, and the length of the runner's table
 unfoldable pub output_of : (fuel work core budget table : ℕ) → Answer Recipe → List ℕ
-output_of fuel work core budget table (refused_for stage ground) = refusal ground
+output_of fuel work core budget table (refused_for stage ground_number) = refusal ground_number
 output_of fuel work core budget table (got recipe) = printed (recipe_run (item_words recipe) fuel work core budget table)
 
 -- ---- the program's tables: the largest, with the most fuel

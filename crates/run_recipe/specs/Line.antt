@@ -65,9 +65,9 @@ pub operation-laid : (units : ℕ) → header units ++ (111 ∷ 112 ∷ 101 ∷ 
 unfolding value_line line spaced spaced_after bytes
 operation-laid units = value-laid operation units
 
-pub refusal-laid : (ground : ℕ) → counted (114 ∷ 101 ∷ 102 ∷ 117 ∷ 115 ∷ 101 ∷ 100 ∷ []) ground ≡ refusal ground
+pub refusal-laid : (ground_number : ℕ) → counted (114 ∷ 101 ∷ 102 ∷ 117 ∷ 115 ∷ 101 ∷ 100 ∷ []) ground_number ≡ refusal ground_number
 unfolding bytes
-refusal-laid ground = Laid.refusal-laid ground
+refusal-laid ground_number = Laid.refusal-laid ground_number
 
 -- ---- room
 

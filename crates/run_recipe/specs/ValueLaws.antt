@@ -27,7 +27,7 @@ use Rattle.run_recipe.specs.Line.{line_of}
 -- ---- the runner
 
 -- what is printed, by the numbers that the runner promises
-unfoldable line_for : (kind ground first units : ℕ) → List ℕ
+unfoldable line_for : (kind ground_number first units : ℕ) → List ℕ
 line_for zero g a u = refusal g
 line_for (suc zero) g a u = acceptance (number (to_z w32 a)) u
 line_for (suc (suc zero)) g a u = acceptance (boolean (eqb a 1)) u
@@ -36,7 +36,7 @@ line_for (suc (suc (suc (suc zero)))) g a u = acceptance closure u
 line_for (suc (suc (suc (suc (suc k))))) g a u = acceptance operation u
 
 abbrev line_by : Numbers → List ℕ
-line_by n = line_for n.kind n.ground n.first n.units
+line_by n = line_for n.kind n.ground_number n.first n.units
 
 answer-line : (r : Running) → line_of r ≡ line_by (numbers_of r)
 unfolding line_of line_for numbers_of

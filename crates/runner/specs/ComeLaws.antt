@@ -11,7 +11,7 @@ use Rattle.core_term.specs.Term.{none_c, more_c, lambda_c, Plain, Plains, count}
 use Rattle.core_term.specs.Node.{node_words}
 use Rattle.core_term.specs.Words.{encode}
 use Rattle.evaluation.specs.Code.{code_at, codes_at}
-use Rattle.evaluation.specs.Computation.{Out, done, refused, M, go_on, ◌>>=◌, ◌>>◌, give, refuse, test, or_refuse, Answer, answer, ground, or_ground}
+use Rattle.evaluation.specs.Computation.{Out, done, refused, M, go_on, ◌>>=◌, ◌>>◌, give, refuse, test, or_refuse, Answer, answer, ground_number, or_ground}
 use Rattle.evaluation.specs.Evaluate.{Value, number_v, boolean_v, datum_v, closure_v, operation_v, Environment, bind, holds, number_of, is_two, operand, operate, apply}
 use Rattle.evaluation.proofs.Steps.{Waiting, test_w, parts_w, value, apply_all, resume, begins, comes-test, comes-part, comes-last}
 use Rattle.runner.specs.declared.rows.Value as R
@@ -475,7 +475,7 @@ module _ {ws t : List ℕ} {budget : ℕ} {whole : Out (Value Number)} (s : Coun
                 go : (r : Answer (Value Number)) → operate numbers v.a (number_in u.a u.b) (number_in w.a w.b) ≡ r
                     → MadeIs r (D.Value o) → Giving ws budget whole t (dropped s base) o
                 go (answer y) q i = leaving-gives (dropped s base) _ (known _ place_of.0) o y (sym answered ∙ ap (λ (r : Answer (Value Number)). or_ground r s.units) q) (i ws t s.cells)
-                go (ground g) q i = absurd i
+                go (ground_number g) q i = absurd i
 
             pub made-ground : (g : ℕ) → m ≡ D.Ground g → Turned ws budget whole (come_fuel s budget) t (Stops g)
             unfolding or_ground
@@ -484,7 +484,7 @@ module _ {ws t : List ℕ} {budget : ℕ} {whole : Out (Value Number)} (s : Coun
                 go : (r : Answer (Value Number)) → operate numbers v.a (number_in u.a u.b) (number_in w.a w.b) ≡ r
                     → MadeIs r (D.Ground g) → Turned ws budget whole (come_fuel s budget) t (Stops g)
                 go (answer y) q i = absurd i
-                go (ground h) q i = stops _ place_of.0 g (sym answered ∙ ap (λ (r : Answer (Value Number)). or_ground r s.units) q ∙ ap (λ (n : ℕ). refused n s.units) (sym i))
+                go (ground_number h) q i = stops _ place_of.0 g (sym answered ∙ ap (λ (r : Answer (Value Number)). or_ground r s.units) q ∙ ap (λ (n : ℕ). refused n s.units) (sym i))
 
 -- ---- nothing waits: the run ends
 

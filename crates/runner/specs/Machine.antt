@@ -51,9 +51,9 @@ module _ (ws : List ℕ) (budget : ℕ) (whole : Out (Value Number)) where
     pub stacked : WaitingIs ws t s.cells budget s.frames (s.values - 1) waiting
     pub goes : whole ≡ resume numbers budget waiting value s.units
 
-  pub record Stopped (ground : ℕ) : Type 0 where
+  pub record Stopped (ground_number : ℕ) : Type 0 where
     pub units : ℕ
-    pub goes : whole ≡ refused ground units
+    pub goes : whole ≡ refused ground_number units
 
   abbrev pub TurnIs : List ℕ → Turn → Type 0
   TurnIs t (Begins s at e) = Beginning t s at e

@@ -2,7 +2,7 @@
 use Rattle.std.specs.Prelude.{◌≡◌, List, ℕ}
 use Rattle.std.proofs.Common.{subst}
 use Rattle.std.proofs.Math.IntN.{sub_ℕ}
-use Rattle.evaluation.specs.Computation.{Answer, answer, ground, map_answer}
+use Rattle.evaluation.specs.Computation.{Answer, answer, ground_number, map_answer}
 use Rattle.evaluation.specs.Numbers.{within32}
 use Rattle.evaluation.specs.Evaluate.{Value, number_v}
 use Rattle.runner.specs.Domain.{Number}
@@ -14,8 +14,8 @@ use Rattle.runner.specs.declared.numbers.Made.TheVariants as M
 abbrev pub MadeIs : Answer (Value Number) → Made → Type 0
 MadeIs (answer v) (M.Value x) = (ws t : List ℕ) (top : ℕ) → ValueIs ws t top x.kind x.a x.b x.environment v
 MadeIs (answer v) (M.Ground g) = ⊥
-MadeIs (ground h) (M.Value x) = ⊥
-MadeIs (ground h) (M.Ground g) = g ≡ h
+MadeIs (ground_number h) (M.Value x) = ⊥
+MadeIs (ground_number h) (M.Ground g) = g ≡ h
 
 -- the same answer
 pub made_by : {o o' : Answer (Value Number)} (r : Made) → o ≡ o' → MadeIs o r → MadeIs o' r

@@ -10,7 +10,7 @@ use Rattle.std.specs.Int.{w32}
 use Rattle.std.proofs.lemmas.Bool.{lt-leb}
 use Rattle.words.specs.ListLaws.{either}
 use Rattle.words.specs.TestLaws.{and_left, and_right, and_both, iff-eq}
-use Rattle.evaluation.specs.Computation.{answer, ground, map_answer}
+use Rattle.evaluation.specs.Computation.{answer, ground_number, map_answer}
 use Rattle.evaluation.specs.Numbers.{in_range, within32, equal_z, integers}
 use Rattle.evaluation.specs.Evaluate.{number_v, boolean_v, operations, operate}
 use Rattle.runner.specs.Made.{number_told}
@@ -114,11 +114,11 @@ lowered-high n h k =
 
 -- ---- a number that is told as 2^32 more: 25 where it leaves 32 bits
 
-pub number-below : (n : ℕ) → n < 2147483648 → number_told n ≡ ground 25
+pub number-below : (n : ℕ) → n < 2147483648 → number_told n ≡ ground_number 25
 unfolding number_told map_answer within32 in_range
 number-below n h = rw (sub-less n 4294967296 (omega arith), le-ltb (4294967296 - suc n) 2147483648 (omega arith))
 
-pub number-above : (n : ℕ) → 6442450944 ≤ n → number_told n ≡ ground 25
+pub number-above : (n : ℕ) → 6442450944 ≤ n → number_told n ≡ ground_number 25
 unfolding number_told map_answer within32 in_range
 number-above n h = rw (sub_more n 4294967296 (omega arith), le-ltb (n - 4294967296) 2147483648 (omega arith))
 

@@ -10,18 +10,18 @@ use Rattle.runner.specs.declared.Running.TheVariants as A
 
 -- ground (accepted is 0); what the result is: 1 number, 2 boolean, 3 quoted datum, 4 closure, 5 operation; its two words; the units
 pub record Numbers : Type 0 where
-  pub ground : ℕ
+  pub ground_number : ℕ
   pub kind : ℕ
   pub first : ℕ
   pub second : ℕ
   pub units : ℕ
 
 abbrev pub told : (kind first second units : ℕ) → Numbers
-told k a b u = record { ground = 0; kind = k; first = a; second = b; units = u }
+told k a b u = record { ground_number = 0; kind = k; first = a; second = b; units = u }
 
 -- a refused call gives zeros
 abbrev pub refusal : ℕ → Numbers
-refusal g = record { ground = g; kind = 0; first = 0; second = 0; units = 0 }
+refusal g = record { ground_number = g; kind = 0; first = 0; second = 0; units = 0 }
 
 abbrev pub bit : Bool → ℕ
 bit b = cond b 1 0

@@ -75,7 +75,7 @@ pub record Fit (words : List ℕ) (budget table : ℕ) : Type 0 where
   pub room : run_rate * (budget + 1) ≤ table
 
 -- ground 0 is none
-abbrev pub Tested : (words : List ℕ) (budget table ground : ℕ) → Type 0
+abbrev pub Tested : (words : List ℕ) (budget table ground_number : ℕ) → Type 0
 Tested words budget table zero = Fit words budget table
 Tested words budget table (suc g) = R.run words budget table ≡ R.unfit (suc g)
 

@@ -6,7 +6,7 @@ use Rattle.expansion.specs.Computation.{State, Out, done, refused, starved}
 
 pub data End (A : Type 0) : Type 0 where
   finished : A → State → End A
-  refused_end : (ground : ℕ) → State → End A
+  refused_end : (ground_number : ℕ) → State → End A
   halted : End A
 
 unfoldable pub end_of : {A : Type 0} → Out A → End A
@@ -21,11 +21,11 @@ then f (refused_end g s) = refused_end g s
 then f halted = halted
 
 -- the end e, where the test of ground g passes
-unfoldable pub needs : {A : Type 0} → (ground : ℕ) → Bool → State → End A → End A
+unfoldable pub needs : {A : Type 0} → (ground_number : ℕ) → Bool → State → End A → End A
 needs g b s e = cond b e (refused_end g s)
 
 -- what f makes of an answer; ground g where it is missing
-unfoldable pub given : {A B : Type 0} → (ground : ℕ) → State → (A → End B) → Option A → End B
+unfoldable pub given : {A B : Type 0} → (ground_number : ℕ) → State → (A → End B) → Option A → End B
 given g s f none = refused_end g s
 given g s f (some a) = f a
 

@@ -134,7 +134,7 @@ module _ (limit : ℕ) (operations : List ℕ) (fuel : ℕ) (t : Tree) (r : Reac
     (turn : (expand : Tree → M (Term Name)) (s : State) → turn_of limit operations fuel expand t s ≡ end_of (expand_lambda limit operations fuel expand t s)) where
   pub lambda-refused : (a : Ended) → LambdaRefused t r a → Ends limit operations fuel t r (tables work core macros) (tables work' core' macros) a
   lambda-refused a x =
-      refused-ends limit operations fuel t r (tables work core macros) (tables work' core' macros) x.ground
+      refused-ends limit operations fuel t r (tables work core macros) (tables work' core' macros) x.ground_number
       (λ expand s. turn expand s ∙ lambda-end limit operations fuel expand t s ∙ x.is _ s)
       a x.refuses
 
@@ -216,11 +216,11 @@ module _ (limit : ℕ) (operations : List ℕ) (fuel : ℕ) (t : Tree) (r : Reac
 module _ (t : Tree) (r : Reached) where
   pub lambda-unshaped : (a : Ended) → is_lambda t ≡ false → Refuses 13 r a → LambdaRefused t r a
   unfolding needs
-  lambda-unshaped a shape e = record { ground = 13; is = λ z s. rw shape; refuses = e }
+  lambda-unshaped a shape e = record { ground_number = 13; is = λ z s. rw shape; refuses = e }
 
   pub lambda-alike : (a : Ended) → is_lambda t ≡ true → distinct (formals t) ≡ false → Refuses 14 r a → LambdaRefused t r a
   unfolding needs
-  lambda-alike a shape same e = record { ground = 14; is = λ z s. rw (shape, same); refuses = e }
+  lambda-alike a shape same e = record { ground_number = 14; is = λ z s. rw (shape, same); refuses = e }
 
   pub lambda-left : (work work' core core' : List ℕ) (a : Turn) → is_lambda t ≡ true → distinct (formals t) ≡ true → BoundLeft t r work work' core core' a → LambdaLeft t r work work' core core' a
   lambda-left work work' core core' (Again n w q) shape apart b = record { shape = shape; apart = apart; bound = b }

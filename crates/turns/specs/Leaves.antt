@@ -26,8 +26,8 @@ pub record Makes (E : State → End (Term Name)) (most : ℕ) (r : Reached) (cor
   pub short : length (words_of term) ≤ most
   pub moves : Moved (words_of term) r core core' q
 
-pub record Stops (E : State → End (Term Name)) (r : Reached) (ground steps sum : ℕ) : Type 0 where
-  pub is : (s : State) → E s ≡ refused_end ground s
+pub record Stops (E : State → End (Term Name)) (r : Reached) (ground_number steps sum : ℕ) : Type 0 where
+  pub is : (s : State) → E s ≡ refused_end ground_number s
   pub steps-are : steps ≡ r.steps
   pub sum_is : sum ≡ r.sum
 

@@ -79,7 +79,7 @@ module _ (limit : ℕ) (operations : List ℕ) (fuel : ℕ) (t : Tree) (inside :
       subst (λ (b : Ended). Ends limit operations fuel t r (tables work core macros) (tables work' core macros') b) (sym x.refuses)
       (record {
         kept = tt;
-        means = λ expand. subst (λ (z : End (Term Name)). Left words_of r core (tables work' core macros') z (Refused x.ground r.steps r.sum)) (sym (macros-turn expand state counted ∙ x.is _ state)) (refl, refl, refl);
+        means = λ expand. subst (λ (z : End (Term Name)). Left words_of r core (tables work' core macros') z (Refused x.ground_number r.steps r.sum)) (sym (macros-turn expand state counted ∙ x.is _ state)) (refl, refl, refl);
       })
 
   module _ (node w : ℕ) (q : Reached) (y : MacrosKnown limit t inside r work work' macros macros' node w q) (good : Proper t)

@@ -245,14 +245,14 @@ module _ (work macros : List ℕ) (node w : ℕ) (inside : Bool) (r : Reached) (
 module _ (limit : ℕ) (t : Tree) (inside : Bool) (r : Reached) where
   pub macros-unshaped : (a : Ended) → is_macros limit t ≡ false → Refuses 13 r a → MacrosRefused limit t inside r a
   unfolding needs
-  macros-unshaped a shape e = record { ground = 13; is = λ f s. rw shape; refuses = e }
+  macros-unshaped a shape e = record { ground_number = 13; is = λ f s. rw shape; refuses = e }
 
   pub macros-alike : (a : Ended) → is_macros limit t ≡ true → distinct (keywords t) ≡ false → Refuses 14 r a → MacrosRefused limit t inside r a
   unfolding needs
-  macros-alike a shape same e = record { ground = 14; is = λ f s. rw (shape, same); refuses = e }
+  macros-alike a shape same e = record { ground_number = 14; is = λ f s. rw (shape, same); refuses = e }
 
   pub macros-left : (work work' macros macros' : List ℕ) (a : Turn) → is_macros limit t ≡ true → distinct (keywords t) ≡ true → KnownLeft t inside r work work' macros macros' a → MacrosLeft limit t inside r work work' macros macros' a
   unfolding needs given
   macros-left work work' macros macros' (Again n w q) shape apart b = record { shape = shape; apart = apart; knows = b }
   macros-left work work' macros macros' (Operands l w q) shape apart b = absurd b
-  macros-left work work' macros macros' (Over a) shape apart b = record { ground = 15; is = λ f s. rw (shape, apart, b.0); refuses = b.1 }
+  macros-left work work' macros macros' (Over a) shape apart b = record { ground_number = 15; is = λ f s. rw (shape, apart, b.0); refuses = b.1 }

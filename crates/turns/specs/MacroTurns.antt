@@ -68,10 +68,10 @@ pub record MacrosKnown (limit : ℕ) (tree : Tree) (inside : Bool) (r : Reached)
   pub knows : Known tree inside r work work' macros macros' node w q
 
 pub record MacrosRefused (limit : ℕ) (tree : Tree) (inside : Bool) (r : Reached) (a : Ended) : Type 0 where
-  pub ground : ℕ
+  pub ground_number : ℕ
   pub is : (f : List (List Rule) → End (Term Name)) (s : State)
-      → needs 13 (is_macros limit tree) s (needs 14 (distinct (keywords tree)) s (given 15 s f (traverse rules_of (forms_of inside tree r.macros)))) ≡ refused_end ground s
-  pub refuses : Refuses ground r a
+      → needs 13 (is_macros limit tree) s (needs 14 (distinct (keywords tree)) s (given 15 s f (traverse rules_of (forms_of inside tree r.macros)))) ≡ refused_end ground_number s
+  pub refuses : Refuses ground_number r a
 
 abbrev pub MacrosLeft : (limit : ℕ) (tree : Tree) (inside : Bool) (r : Reached) (work work' macros macros' : List ℕ) → Turn → Type 0
 MacrosLeft limit tree inside r work work' macros macros' (Again n w q) = MacrosKnown limit tree inside r work work' macros macros' n w q

@@ -74,9 +74,9 @@ pub record LambdaBound (tree : Tree) (r : Reached) (work work' core core' : List
   pub bound : Bound tree r work work' core core' node w q
 
 pub record LambdaRefused (tree : Tree) (r : Reached) (a : Ended) : Type 0 where
-  pub ground : ℕ
-  pub is : (e : End (Term Name)) (s : State) → needs 13 (is_lambda tree) s (needs 14 (distinct (formals tree)) s e) ≡ refused_end ground s
-  pub refuses : Refuses ground r a
+  pub ground_number : ℕ
+  pub is : (e : End (Term Name)) (s : State) → needs 13 (is_lambda tree) s (needs 14 (distinct (formals tree)) s e) ≡ refused_end ground_number s
+  pub refuses : Refuses ground_number r a
 
 abbrev pub LambdaLeft : (tree : Tree) (r : Reached) (work work' core core' : List ℕ) → Turn → Type 0
 LambdaLeft tree r work work' core core' (Again n w q) = LambdaBound tree r work work' core core' n w q

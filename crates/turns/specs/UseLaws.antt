@@ -165,13 +165,13 @@ module _ (work macros : List ℕ) (fuel node w n : ℕ) (r : Reached) (room : Us
       -- ---- no result
 
       pub use-no-rule : a ≡ NoRule → (e : Ended) → Refuses 16 r e → Unused outcome r e
-      use-no-rule h e f = record { ground = 16; is = no-rule last used outcome (subst (λ (b : Applied). Answers last used outcome b) h answers); refuses = f }
+      use-no-rule h e f = record { ground_number = 16; is = no-rule last used outcome (subst (λ (b : Applied). Answers last used outcome b) h answers); refuses = f }
 
       pub use-differs : a ≡ Differ → (e : Ended) → Refuses 17 r e → Unused outcome r e
-      use-differs h e f = record { ground = 17; is = differs last used outcome (subst (λ (b : Applied). Answers last used outcome b) h answers); refuses = f }
+      use-differs h e f = record { ground_number = 17; is = differs last used outcome (subst (λ (b : Applied). Answers last used outcome b) h answers); refuses = f }
 
       pub use-costly : a ≡ Costly → (e : Ended) → Refuses 18 r e → Unused outcome r e
-      use-costly h e f = record { ground = 18; is = costly last used outcome (subst (λ (b : Applied). Answers last used outcome b) h answers); refuses = f }
+      use-costly h e f = record { ground_number = 18; is = costly last used outcome (subst (λ (b : Applied). Answers last used outcome b) h answers); refuses = f }
 
       -- ---- the result
 

@@ -124,7 +124,7 @@ module _ (limit : ℕ) (operations : List ℕ) (fuel n : ℕ) (t : Tree) (r : Re
       (record {
         kept = tt;
         means = λ expand.
-            subst (λ (z : End (Term Name)). Left words_of r core (tables work' core macros) z (Refused x.ground r.steps r.sum))
+            subst (λ (z : End (Term Name)). Left words_of r core (tables work' core macros) z (Refused x.ground_number r.steps r.sum))
             (sym (turn-outcome expand ∙ ap (outcome_end expand state) x.is)) (refl, refl, refl);
       })
 

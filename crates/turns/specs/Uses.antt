@@ -48,9 +48,9 @@ pub record Used (o : Outcome) (fuel : ℕ) (r : Reached) (work work' : List ℕ)
   pub kept : take r.top work' ≡ take r.top work
 
 pub record Unused (o : Outcome) (r : Reached) (a : Ended) : Type 0 where
-  pub ground : ℕ
-  pub is : o ≡ refused ground
-  pub refuses : Refuses ground r a
+  pub ground_number : ℕ
+  pub is : o ≡ refused ground_number
+  pub refuses : Refuses ground_number r a
 
 abbrev pub UseLeft : (o : Outcome) (fuel : ℕ) (r : Reached) (work work' : List ℕ) → Turn → Type 0
 UseLeft o fuel r work work' (Again n w q) = Used o fuel r work work' n w q

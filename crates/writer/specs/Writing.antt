@@ -35,16 +35,16 @@ text_of ws operations names = text_for names (term_of operations (has_name names
 -- a text that is laid, or the stage and the ground at which a call is refused
 pub data Outcome : Type 0 where
   laid : (text : List ℕ) → Outcome
-  refused_on : (stage : Stage) (ground : ℕ) → Outcome
+  refused_on : (stage : Stage) (ground_number : ℕ) → Outcome
 
 -- 19, then 20: both are tests, made before a byte is laid
 unfoldable pub outcome : (out : List ℕ) → Option (List ℕ) → Outcome
 outcome out none = refused_on testing 19
 outcome out (some x) = cond (nat_le (length x) (length out)) (laid x) (refused_on testing 20)
 
-unfoldable pub ground : Outcome → ℕ
-ground (laid x) = 0
-ground (refused_on stage g) = g
+unfoldable pub ground_number : Outcome → ℕ
+ground_number (laid x) = 0
+ground_number (refused_on stage g) = g
 
 unfoldable pub size : Outcome → ℕ
 size (laid x) = length x

@@ -3,11 +3,11 @@ use Rattle.std.specs.Prelude.{◌≡◌, ℕ, ◌*◌, Bool, ◌&&◌, List, len
 use Rattle.std.proofs.Math.Option.{Option}
 use Rattle.core_term.specs.TextRoom.{text_rate, text_words_most}
 use Rattle.writer.specs.declared.Writing.{Writing}
-use Rattle.writer.specs.Writing.{ground_of, length_of, outcome, ground, size, after}
+use Rattle.writer.specs.Writing.{ground_of, length_of, outcome, ground_number, size, after}
 
 -- what a call answers and leaves, where its words have this text or, without one, are no term
 pub record Wrote (x : Option (List ℕ)) (out out' : List ℕ) (r : Writing) : Type 0 where
-  pub number : ground_of r ≡ ground (outcome out x)
+  pub number : ground_of r ≡ ground_number (outcome out x)
   pub value : length_of r ≡ size (outcome out x)
   pub left : out' ≡ after (outcome out x) out
 

@@ -39,24 +39,24 @@ use Rattle.writer.specs.Called.{said}
 use Rattle.writer.specs.Opened.{spelled, named}
 use Rattle.writer.specs.Walk.{spelling, Fits, Begins, Walked}
 use Rattle.writer.specs.WalkLaws.{walked_by, stopped_by}
-use Rattle.writer.specs.Writing.{ground_of, length_of, text_for, text_of, Outcome, laid, refused_on, outcome, ground, size, after}
+use Rattle.writer.specs.Writing.{ground_of, length_of, text_for, text_of, Outcome, laid, refused_on, outcome, ground_number, size, after}
 use Rattle.writer.specs.Wrote.{has_room, Measured, Wrote}
 
 -- ---- no term
 
 pub no-term : (ws : List ℕ) (operations : ℕ) (names out : List ℕ) → term_of operations (has_name names) ws ≡ none → Wrote (text_of ws operations names) out out NoTerm
-unfolding text_of text_for ground_of length_of outcome ground size after
+unfolding text_of text_for ground_of length_of outcome ground_number size after
 no-term ws operations names out h = rw h (record { number = refl; value = refl; left = refl })
 
 -- ---- a text
 
 module _ (x out : List ℕ) where
   pub wrote-all : length x ≤ length out → (n : ℕ) (out' : List ℕ) → n ≡ length x → out' ≡ x ++ drop (length x) out → Wrote (some x) out out' (Written n)
-  unfolding ground_of length_of outcome ground size after
+  unfolding ground_of length_of outcome ground_number size after
   wrote-all h n out' e l = let k = le-leb (length x) (length out) h in record { number = rw k; value = rw k e; left = rw k l }
 
   pub wrote_none : length out < length x → (out' : List ℕ) → out' ≡ out → Wrote (some x) out out' NoRoom
-  unfolding ground_of length_of outcome ground size after
+  unfolding ground_of length_of outcome ground_number size after
   wrote_none h out' l = let k = lt-leb (length x) (length out) h in record { number = rw k; value = rw k; left = rw k l }
 
 -- ---- what an answer says
@@ -76,27 +76,27 @@ module _ (x out out' : List ℕ) where
   by fits = cond fits (laid x) (refused_on testing 20)
 
   pub written_is : (n : ℕ) → Wrote (some x) out out' (Written n) → (n ≡ length x) × (length x ≤ length out) × (out' ≡ x ++ drop (length x) out)
-  unfolding ground_of length_of outcome ground size after
+  unfolding ground_of length_of outcome ground_number size after
   written_is n w = go (nat_le (length x) (length out)) refl w.number w.value w.left
     where
-      go : (b : Bool) → nat_le (length x) (length out) ≡ b → ◌≡◌ {A = ℕ} 0 (ground (by b)) → n ≡ size (by b) → out' ≡ after (by b) out
+      go : (b : Bool) → nat_le (length x) (length out) ≡ b → ◌≡◌ {A = ℕ} 0 (ground_number (by b)) → n ≡ size (by b) → out' ≡ after (by b) out
           → (n ≡ length x) × (length x ≤ length out) × (out' ≡ x ++ drop (length x) out)
       go true k g v l = (v, leb-true (length x) (length out) k, l)
       go false k g v l = absurd (omega arith)
 
   pub no-room-is : Wrote (some x) out out' NoRoom → (length out < length x) × (out' ≡ out)
-  unfolding ground_of outcome ground after
+  unfolding ground_of outcome ground_number after
   no-room-is w = go (nat_le (length x) (length out)) refl w.number w.left
     where
-      go : (b : Bool) → nat_le (length x) (length out) ≡ b → ◌≡◌ {A = ℕ} 20 (ground (by b)) → out' ≡ after (by b) out → (length out < length x) × (out' ≡ out)
+      go : (b : Bool) → nat_le (length x) (length out) ≡ b → ◌≡◌ {A = ℕ} 20 (ground_number (by b)) → out' ≡ after (by b) out → (length out < length x) × (out' ≡ out)
       go true k g l = absurd (omega arith)
       go false k g l = (leb-false (length x) (length out) k, l)
 
   pub not-no-term : Wrote (some x) out out' NoTerm → ⊥
-  unfolding ground_of outcome ground
+  unfolding ground_of outcome ground_number
   not-no-term w = go (nat_le (length x) (length out)) w.number
     where
-      go : (b : Bool) → ◌≡◌ {A = ℕ} 19 (ground (by b)) → ⊥
+      go : (b : Bool) → ◌≡◌ {A = ℕ} 19 (ground_number (by b)) → ⊥
       go true g = omega arith
       go false g = omega arith
 

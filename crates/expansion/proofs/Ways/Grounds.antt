@@ -22,5 +22,5 @@ run-ground items fuel work core w h =
     run_holds (λ r. r.outcome ≡ refused_on w h → GroundIn w h) items fuel work core (λ b. expand-keeps _ _ _ fuel _ _ start)
     (λ g l e. told testing w g h e l)
     (λ b t s l q e. absurd (accepted≢refused_on w h e))
-    (λ b g s l q e. told begun w g h e q.ground)
+    (λ b g s l q e. told begun w g h e q.ground_number)
     (λ b l x e. absurd (refused_on≢unfinished w h (sym e)))
