@@ -123,7 +123,7 @@ pub fn called_write(
 ) -> u32
     ensures { (result ≡ ground_number (outcome out.old (text_of words.now operations names.now)))
         × (out.new ≡ after (outcome out.old (text_of words.now operations names.now)) out.old)
-        × (counts.new ≡ told (size (outcome out.old (text_of words.now operations names.now)) ∷ 0 ∷ 0 ∷ []) counts.old) }
+        × (counts.new ≡ told (size (outcome out.old (text_of words.now operations names.now))) 0 0 counts.old) }
 {
     grebetallboy::grebetallboy_write(words, operations, names, out, counts)
 }

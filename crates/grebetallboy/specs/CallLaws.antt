@@ -20,16 +20,34 @@ use Rattle.runner.specs.declared.Running.{Running}
 use Rattle.runner.specs.Service as M
 use Rattle.recipe_runner.specs.declared.RecipeRunning.{RecipeRunning}
 use Rattle.recipe_runner.specs.Service as S
-use Rattle.grebetallboy.specs.Calls.{RunCalled, RecipeRunCalled, told, tells_read, tells_run, tells_verdict, verdict_ground}
+use Rattle.grebetallboy.specs.Calls.{RunCalled, RecipeRunCalled, told, told_numbers, tells_read, tells_run, tells_verdict, verdict_ground}
+
+module _ (a b c : ℕ) where
+  pub told-short : (t : List ℕ) → length t < 3 → t ≡ told a b c t
+  unfolding told
+  told-short t h = rw (lt-ltb (length t) 3 h)
+
+  pub told-long : (t : List ℕ) → 3 ≤ length t → set (set (set t 0 a) 1 b) 2 c ≡ told a b c t
+  unfolding told
+  told-long [] h = absurd (omega arith)
+  told-long (x ∷ []) h = absurd (omega arith)
+  told-long (x ∷ y ∷ []) h = absurd (omega arith)
+  told-long (x ∷ y ∷ z ∷ t) h = rw (le-ltb (length (x ∷ y ∷ z ∷ t)) 3 h)
+
+  pub told-numbers : (t : List ℕ) → told a b c t ≡ told_numbers (a ∷ b ∷ c ∷ []) t
+  unfolding told told_numbers
+  told-numbers t = refl
+
+-- ---- any numbers
 
 -- a table too short
-pub told-short : (ns t : List ℕ) → length t < length ns → t ≡ told ns t
-unfolding told
-told-short ns t h = rw (lt-ltb (length t) (length ns) h)
+pub told_numbers-short : (ns t : List ℕ) → length t < length ns → t ≡ told_numbers ns t
+unfolding told_numbers
+told_numbers-short ns t h = rw (lt-ltb (length t) (length ns) h)
 
-pub told_none : (t : List ℕ) → t ≡ told [] t
-unfolding told
-told_none t = let h : 0 ≤ length t = omega arith in rw (le-ltb (length t) 0 h)
+pub told_numbers-none : (t : List ℕ) → t ≡ told_numbers [] t
+unfolding told_numbers
+told_numbers-none t = let h : 0 ≤ length t = omega arith in rw (le-ltb (length t) 0 h)
 
 -- one number more
 over-more : (ns : List ℕ) (n : ℕ) (t : List ℕ) → length ns < length t
@@ -39,19 +57,12 @@ over-more [] n (x ∷ t) h = refl
 over-more (m ∷ ns) n [] h = absurd (omega arith)
 over-more (m ∷ ns) n (x ∷ t) h = ap (λ (l : List ℕ). m ∷ l) (over-more ns n t (omega arith))
 
-pub told_more : (ns : List ℕ) (n : ℕ) (t : List ℕ) → length ns < length t → set (told ns t) (length ns) n ≡ told (ns ++ (n ∷ [])) t
-unfolding told
-told_more ns n t h =
+pub told_numbers-more : (ns : List ℕ) (n : ℕ) (t : List ℕ) → length ns < length t → set (told_numbers ns t) (length ns) n ≡ told_numbers (ns ++ (n ∷ [])) t
+unfolding told_numbers
+told_numbers-more ns n t h =
     let i : length ns ≤ length t = omega arith in
     let j : length (ns ++ (n ∷ [])) ≤ length t = omega (arith, length-append ns (n ∷ [])) in
     rw (le-ltb (length t) (length ns) i, le-ltb (length t) (length (ns ++ (n ∷ []))) j) (over-more ns n t h)
-
-pub told-three : (a b c : ℕ) (t : List ℕ) → 3 ≤ length t → set (set (set t 0 a) 1 b) 2 c ≡ told (a ∷ b ∷ c ∷ []) t
-told-three a b c t h =
-    ap (λ (z : List ℕ). set (set (set z 0 a) 1 b) 2 c) (told_none t)
-    ∙ ap (λ (z : List ℕ). set (set z 1 b) 2 c) (told_more [] a t (omega arith))
-    ∙ ap (λ (z : List ℕ). set z 2 c) (told_more (a ∷ []) b t (omega arith))
-    ∙ told_more (a ∷ b ∷ []) c t (omega arith)
 
 -- reading: ground, both tables, counts; q is the answer as it was taken apart
 module _ {a : Answer Recipe} {words words' bytes bytes' counts' : List ℕ} {r q : Reading} (counts : List ℕ) where
@@ -74,8 +85,8 @@ module _ {items work work' core core' counts' : List ℕ} {fuel : ℕ} {r q : Ex
 
 -- writing: ground, output, length
 module _ {x : Option (List ℕ)} {out out' counts' : List ℕ} {r q : Writing} (counts : List ℕ) where
-  pub write-told : Wrote x out out' r → r ≡ q → counts' ≡ told (W.length_of q ∷ 0 ∷ 0 ∷ []) counts → (W.ground_of q ≡ W.ground_number (W.outcome out x)) × (out' ≡ W.after (W.outcome out x) out) × (counts' ≡ told (W.size (W.outcome out x) ∷ 0 ∷ 0 ∷ []) counts)
-  write-told wrote e told-counts = (ap W.ground_of (sym e) ∙ wrote.number, wrote.left, told-counts ∙ ap (λ (n : ℕ). told (n ∷ 0 ∷ 0 ∷ []) counts) (ap W.length_of (sym e) ∙ wrote.value))
+  pub write-told : Wrote x out out' r → r ≡ q → counts' ≡ told (W.length_of q) 0 0 counts → (W.ground_of q ≡ W.ground_number (W.outcome out x)) × (out' ≡ W.after (W.outcome out x) out) × (counts' ≡ told (W.size (W.outcome out x)) 0 0 counts)
+  write-told wrote e told-counts = (ap W.ground_of (sym e) ∙ wrote.number, wrote.left, told-counts ∙ ap (λ (n : ℕ). told n 0 0 counts) (ap W.length_of (sym e) ∙ wrote.value))
 
 -- comparing: ground, the text's two tables, answer
 module _ {v : Reply} {a : Answer Recipe} {words words' bytes bytes' counts' : List ℕ} {r q : Comparison} (counts : List ℕ) where
@@ -87,15 +98,15 @@ module _ {v : Reply} {a : Answer Recipe} {words words' bytes bytes' counts' : Li
 
 -- running: ground, table, counts
 module _ {words table table' counts' : List ℕ} {budget ground_number : ℕ} {r : Running} (counts : List ℕ) where
-  pub ran-told : M.Ran words budget table table' r → (ground_number ≡ (M.numbers_of r).ground_number) × (counts' ≡ told (S.of_running (M.numbers_of r)) counts)
+  pub ran-told : M.Ran words budget table table' r → (ground_number ≡ (M.numbers_of r).ground_number) × (counts' ≡ told_numbers (S.of_running (M.numbers_of r)) counts)
       → RunCalled words budget table table' counts counts' ground_number
-  ran-told x t = (t.0 ∙ ap (λ (n : M.Numbers). n.ground_number) x.numbers, x.table-after, t.1 ∙ ap (λ (n : M.Numbers). told (S.of_running n) counts) x.numbers)
+  ran-told x t = (t.0 ∙ ap (λ (n : M.Numbers). n.ground_number) x.numbers, x.table-after, t.1 ∙ ap (λ (n : M.Numbers). told_numbers (S.of_running n) counts) x.numbers)
 
 -- a recipe: ground, three tables, counts; q is the answer as it was taken apart
 module _ {items work work' core core' table table' counts' : List ℕ} {fuel budget ground_number : ℕ} {r : RecipeRunning} (counts : List ℕ) where
   pub recipe-told : (q : RecipeRunning) → S.RecipeRan items fuel work work' core core' budget table table' r → r ≡ q
-      → (ground_number ≡ (S.told_of q).ground_number) × (counts' ≡ told (S.told_of q).numbers counts)
+      → (ground_number ≡ (S.told_of q).ground_number) × (counts' ≡ told_numbers (S.told_of q).numbers counts)
       → RecipeRunCalled items fuel work work' core core' budget table table' counts counts' ground_number
   recipe-told q x e t =
       let numbers = ap S.told_of (sym e) ∙ x.told in
-      (t.0 ∙ ap (λ (n : S.Told). n.ground_number) numbers, x.work-after, x.core-after, x.table-after, t.1 ∙ ap (λ (n : S.Told). told n.numbers counts) numbers)
+      (t.0 ∙ ap (λ (n : S.Told). n.ground_number) numbers, x.work-after, x.core-after, x.table-after, t.1 ∙ ap (λ (n : S.Told). told_numbers n.numbers counts) numbers)

@@ -11,7 +11,7 @@ ghost use Rattle.expander.specs.Service.{run_numbers, core_after, work_after};
 ghost use Rattle.comparison.specs.Compare.{compare, items_left, names_left};
 ghost use Rattle.runner.specs.Service as M;
 ghost use Rattle.recipe_runner.specs.Service.{of_running};
-ghost use Rattle.grebetallboy.specs.Calls.{told, tells_read, tells_run, tells_verdict, verdict_ground, RunCalled, RecipeRunCalled};
+ghost use Rattle.grebetallboy.specs.Calls.{told, told_numbers, tells_read, tells_run, tells_verdict, verdict_ground, RunCalled, RecipeRunCalled};
 
 use expander::Expansion;
 use reader::Reading;
@@ -22,7 +22,7 @@ use writer::Writing;
 
 // Three numbers, where the table has three words for them.
 fn tell(counts: &mut [u64], a: u64, b: u64, c: u64)
-    ensures { counts.new ≡ told (a ∷ b ∷ c ∷ []) counts.old }
+    ensures { counts.new ≡ told a b c counts.old }
 {
     if counts.len() < 3 {
         return;
@@ -34,7 +34,7 @@ fn tell(counts: &mut [u64], a: u64, b: u64, c: u64)
 
 // Four.
 fn tell_four(counts: &mut [u64], a: u64, b: u64, c: u64, d: u64)
-    ensures { counts.new ≡ told (a ∷ b ∷ c ∷ d ∷ []) counts.old }
+    ensures { counts.new ≡ told_numbers (a ∷ b ∷ c ∷ d ∷ []) counts.old }
 {
     if counts.len() < 4 {
         return;
@@ -110,7 +110,7 @@ pub fn grebetallboy_write(
 ) -> u32
     ensures { (result ≡ ground_number (outcome out.old (text_of words.now operations names.now)))
         × (out.new ≡ after (outcome out.old (text_of words.now operations names.now)) out.old)
-        × (counts.new ≡ told (size (outcome out.old (text_of words.now operations names.now)) ∷ 0 ∷ 0 ∷ []) counts.old) }
+        × (counts.new ≡ told (size (outcome out.old (text_of words.now operations names.now))) 0 0 counts.old) }
 {
     match writer::write(words, operations, names, out) {
         Writing::Written(n) => {
@@ -170,7 +170,7 @@ fn bit(b: bool) -> u64
 
 // The numbers of a run, and its ground.
 fn tell_running(running: Running, counts: &mut [u64]) -> u32
-    ensures { (result ≡ (M.numbers_of running).ground_number) × (counts.new ≡ told (of_running (M.numbers_of running)) counts.old) }
+    ensures { (result ≡ (M.numbers_of running).ground_number) × (counts.new ≡ told_numbers (of_running (M.numbers_of running)) counts.old) }
 {
     match running {
         Running::Integer(w, u) => tell_four(counts, 1, w as u64, 0, u as u64),

@@ -293,7 +293,7 @@ module _ {ws t : List ℕ} {budget : ℕ} {whole : Out (Value Number)} (s : Coun
 
     -- its unit is spent
     pub begin-spent : (node : Node) → s.units < budget → NodeIs ws at b.term node → Spent ws budget whole t (spent s) node at e
-    begin-spent node h i =
+    begin-spent n h i =
         let u : s.units + 1 ≡ suc s.units = add-one s.units in
         record {
           term = b.term;

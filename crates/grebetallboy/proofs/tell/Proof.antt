@@ -6,12 +6,12 @@ use Rattle.grebetallboy.proofs.tell.Lts as lts
 use mathlib.Core.List.{[], ◌∷◌}
 use native.Mathlib.Omega.{arith}
 use lib.ListN.{length-set}
-use Rattle.grebetallboy.specs.CallLaws.{told-short, told-three}
+use Rattle.grebetallboy.specs.CallLaws.{told-short, told-long}
 
 returns : tie.Need-returns-then-counts-lt3
 returns c =
     let a = c.args in
-    told-short (a.a ∷ a.b ∷ a.c ∷ []) a.counts.now c.if-counts-lt3.true
+    told-short a.a a.b a.c a.counts.now c.if-counts-lt3.true
 
 slice-write-counts : tie.Need-bounds-counts-0
 slice-write-counts c =
@@ -31,7 +31,7 @@ same_length c =
 
 returns-2 : tie.Need-returns
 returns-2 c =
-    told-three c.args.a c.args.b c.args.c c.args.counts.now c.if-counts-lt3.false
+    told-long c.args.a c.args.b c.args.c c.args.counts.now c.if-counts-lt3.false
 
 pub tell_spec : {M : Type 1} → statement M
 tell_spec =

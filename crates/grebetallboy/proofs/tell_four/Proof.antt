@@ -7,12 +7,12 @@ use mathlib.Core.List.{List, [], ◌∷◌}
 use Prim.Native.Nat.{ℕ}
 use native.Mathlib.Omega.{arith}
 use lib.ListN.{set}
-use Rattle.grebetallboy.specs.CallLaws.{told-short, told_more}
+use Rattle.grebetallboy.specs.CallLaws.{told-numbers, told_numbers-short, told_numbers-more}
 
 -- src/lib.rt:25:9
 returns : tie.Need-returns-then-counts-lt4
 returns c =
-    told-short (c.args.a ∷ c.args.b ∷ c.args.c ∷ c.args.d ∷ []) _ c.if-counts-lt4.true
+    told_numbers-short (c.args.a ∷ c.args.b ∷ c.args.c ∷ c.args.d ∷ []) _ c.if-counts-lt4.true
 
 -- src/lib.rt:27:5
 tell-requires : tie.Need-tell-requires
@@ -30,7 +30,7 @@ same_length c = search rules
 returns-2 : tie.Need-returns
 returns-2 c =
     let args' = c.args in
-    ap (λ (l : List ℕ). set l 3 args'.d) c.tell.ensures ∙ told_more (args'.a ∷ args'.b ∷ args'.c ∷ []) args'.d _ c.if-counts-lt4.false
+    ap (λ (l : List ℕ). set l 3 args'.d) (c.tell.ensures ∙ told-numbers args'.a args'.b args'.c _) ∙ told_numbers-more (args'.a ∷ args'.b ∷ args'.c ∷ []) args'.d _ c.if-counts-lt4.false
 
 pub tell_four_spec : {M : Type 1} → statement M
 tell_four_spec =

@@ -1,7 +1,7 @@
 -- A token that is past its offset ends in the text.
 use Rattle.std.proofs.Common.{arith, ◌∙◌}
 use Rattle.tokens.proofs.print_tokens.Goals as goal
-use Rattle.reading.specs.Laws.Offsets.{start-low}
+use Rattle.reading.proofs.Laws.Offsets.{start-low}
 use Rattle.lexer.specs.AnsweredLaws.{answered-past}
 
 pub print_line-requires : goal.print_line-requires
