@@ -1,17 +1,17 @@
 -- Laws of a binder that is met by the name in hand, one for each way through the code.
-use Rattle.std.specs.Prelude.{◌≡◌, refl, Bool, ◌&&◌, List, ℕ, ◌+◌, ◌-◌, ◌≤◌, ◌<◌, eqb, length, take}
+use Rattle.std.specs.Prelude.{◌≡◌, refl, Bool, ◌&&◌, List, ℕ, ◌+◌, ◌-◌, ◌≤◌, ◌<◌, eqb, ltb, length, take}
 use Rattle.std.proofs.Math.Path.{sym}
-use Rattle.std.proofs.Common.{ap, ap₂, ◌∙◌, arith, ne_eqb, lt-ltb, le-ltb}
-use Rattle.std.proofs.Math.Bool.{true, false}
+use Rattle.std.proofs.Common.{ap, ap₂, ◌∙◌, arith}
+use Rattle.std.proofs.Math.Bool.{true, false, or-true}
+use borrow.Author.Tests.{eq-eqb, ne_eqb, lt-ltb, le-ltb}
 use Rattle.words.specs.Lists.{equal}
 use Rattle.recipe.specs.Name.{Name, binding_key, plain_name}
-use Rattle.arena.specs.Offsets.{INNER, KEY, BOUND-KEY, BOUND-NUMBER, BOUND-COUNT, BOUND-NEWEST, BOUND-PENDING, BOUND-OWN}
+use Rattle.arena.specs.Offsets.{KEY, BOUND-KEY, BOUND-NUMBER, BOUND-COUNT, BOUND-NEWEST, BOUND-PENDING, BOUND-OWN}
 use Rattle.arena.specs.Arena.{word_at, reference_at, newest, give_key, own_marks, same_marks, is_own, rebound, wrap_at}
-use Rattle.words.specs.ListLaws.{either, equal-true, equal-refl}
+use Rattle.words.specs.ListLaws.{either, equal-true}
 use Rattle.arena.specs.ArenaLaws.{take_less, binding_key-of}
-use Rattle.resolution.specs.Marks.{marks_in, says, Hand, MarksAfter, Holds, NameAfter, OwnMarks, MarksOwn, OwnIs}
+use Rattle.resolution.specs.Marks.{marks_in, Hand, MarksAfter, Holds, NameAfter, OwnMarks, OwnIs}
 use Rattle.resolution.specs.MarkLaws.{marks_in-length, marks_in-below}
-use Rattle.resolution.specs.Alike.{Stands, Told}
 
 -- ---- the marks of its own name
 
@@ -26,91 +26,140 @@ own-both work w own pending p q old mid new s k r f g =
 
 -- ---- the tests
 
-says-and : (a b c d e : Bool) → (a && (b && (c && (d && e)))) ≡ ((a && (b && (c && d))) && e)
-says-and true true true d e = refl
-says-and true true false d e = refl
-says-and true false c d e = refl
-says-and false b c d e = refl
+-- one test of five fails
+second-fails : (b c d e : Bool) (a : Bool) → b ≡ false → (a && (b && (c && (d && e)))) ≡ false
+second-fails b c d e true h = rw h
+second-fails b c d e false h = refl
+
+third-fails : (c d e : Bool) (a b : Bool) → c ≡ false → (a && (b && (c && (d && e)))) ≡ false
+third-fails c d e true true h = rw h
+third-fails c d e true false h = refl
+third-fails c d e false b h = refl
+
+fourth-fails : (d e : Bool) (a b c : Bool) → d ≡ false → (a && (b && (c && (d && e)))) ≡ false
+fourth-fails d e true true true h = rw h
+fourth-fails d e true true false h = refl
+fourth-fails d e true false c h = refl
+fourth-fails d e false b c h = refl
+
+fifth-fails : (e : Bool) (a b c d : Bool) → e ≡ false → (a && (b && (c && (d && e)))) ≡ false
+fifth-fails e true true true true h = h
+fifth-fails e true true true false h = refl
+fifth-fails e true true false d h = refl
+fifth-fails e true false c d h = refl
+fifth-fails e false b c d h = refl
 
 pub equal-lengths : (a b : List ℕ) → (length a ≡ length b → ⊥) → equal a b ≡ false
 equal-lengths a b h = either (equal a b) (λ t. absurd (h (ap length (equal-true a b t)))) (λ t. t)
 
 module _ (work : List ℕ) (w : ℕ) (x : Name) where
-  -- what the binder says, and whether it says so of x
-  abbrev pub Said : Bool
-  Said = says work w x.number (binding_key x.binding) (length x.marks) (newest x.marks)
+  abbrev pub Not-own : Type 0
+  Not-own = is_own work (wrap_at work) w x ≡ false
 
-  own_is : is_own work (wrap_at work) w x ≡ (Said && same_marks work (wrap_at work) w x.marks)
-  unfolding is_own says
-  own_is =
-      says-and (eqb (word_at work w BOUND-NUMBER) x.number) (eqb (word_at work w BOUND-KEY) (binding_key x.binding)) (eqb (word_at work w BOUND-COUNT) (length x.marks)) (eqb (word_at work w BOUND-NEWEST) (newest x.marks))
-      (same_marks work (wrap_at work) w x.marks)
+  abbrev number-test : Bool
+  number-test = eqb (word_at work w BOUND-NUMBER) x.number
 
-  pub own-number : (word_at work w BOUND-NUMBER ≡ x.number → ⊥) → is_own work (wrap_at work) w x ≡ false
+  abbrev binding-test : Bool
+  binding-test = eqb (word_at work w BOUND-KEY) (binding_key x.binding)
+
+  abbrev count-test : Bool
+  count-test = eqb (word_at work w BOUND-COUNT) (length x.marks)
+
+  abbrev newest-test : Bool
+  newest-test = eqb (word_at work w BOUND-NEWEST) (newest x.marks)
+
+  abbrev marks-test : Bool
+  marks-test = same_marks work (wrap_at work) w x.marks
+
+  pub own-number : (word_at work w BOUND-NUMBER ≡ x.number → ⊥) → Not-own
   unfolding is_own
   own-number h = rw (ne_eqb _ _ h)
 
-  pub own-unsaid : Said ≡ false → is_own work (wrap_at work) w x ≡ false
-  own-unsaid h = own_is ∙ ap (λ (b : Bool). b && same_marks work (wrap_at work) w x.marks) h
+  pub own-binding : (word_at work w BOUND-KEY ≡ binding_key x.binding → ⊥) → Not-own
+  unfolding is_own
+  own-binding h = second-fails binding-test count-test newest-test marks-test number-test (ne_eqb _ _ h)
 
-  pub own-said : Said ≡ true → (b : Bool) → same_marks work (wrap_at work) w x.marks ≡ b → is_own work (wrap_at work) w x ≡ b
-  own-said h b e = own_is ∙ ap₂ ◌&&◌ h e
+  pub own-count : (word_at work w BOUND-COUNT ≡ length x.marks → ⊥) → Not-own
+  unfolding is_own
+  own-count h = third-fails count-test newest-test marks-test number-test binding-test (ne_eqb _ _ h)
+
+  pub own-newest : (word_at work w BOUND-NEWEST ≡ newest x.marks → ⊥) → Not-own
+  unfolding is_own
+  own-newest h = fourth-fails newest-test marks-test number-test binding-test count-test (ne_eqb _ _ h)
+
+  own-marks : 2 ≤ length x.marks → equal (own_marks work (wrap_at work) w) x.marks ≡ false → Not-own
+  unfolding is_own same_marks
+  own-marks l h = fifth-fails marks-test number-test binding-test count-test newest-test (rw (le-ltb (length x.marks) 2 l, h))
 
   -- at most one mark is the newest
   pub few-same : length x.marks < 2 → same_marks work (wrap_at work) w x.marks ≡ true
   unfolding same_marks
   few-same h = rw (lt-ltb (length x.marks) 2 h)
 
-  many-same : 2 ≤ length x.marks → same_marks work (wrap_at work) w x.marks ≡ equal (own_marks work (wrap_at work) w) x.marks
+  equal-same : equal (own_marks work (wrap_at work) w) x.marks ≡ true → same_marks work (wrap_at work) w x.marks ≡ true
   unfolding same_marks
-  many-same h = rw (le-ltb (length x.marks) 2 h)
+  equal-same h = rw h (or-true (ltb (length x.marks) 2))
 
--- ---- the marks of the own name against those in hand
-
-module _ (work : List ℕ) (w : ℕ) (old : List ℕ) (s n : ℕ) (new : List ℕ) (r : ℕ) (own : OwnMarks work w old new (s + n) r) where
-  pub own-length : (r ≡ n → ⊥) → MarksOwn work w old new s n false
-  own-length h =
-      record {
-        told = rw own.marks-are (equal-lengths _ _ (λ z. h (sym (marks_in-length new (s + n) r) ∙ z ∙ marks_in-length old s n)));
-        kept = own.kept;
-      }
-
-  pub own-equal : r ≡ n → (b : Bool) → b ≡ equal (marks_in new (s + n) n) (marks_in new s n) → MarksOwn work w old new s n b
-  own-equal e b h = record { told = rw (own.marks-are, ← marks_in-below new old s n own.kept, e) (sym h); kept = own.kept }
+  pub own-all : word_at work w BOUND-NUMBER ≡ x.number → word_at work w BOUND-KEY ≡ binding_key x.binding → word_at work w BOUND-COUNT ≡ length x.marks → word_at work w BOUND-NEWEST ≡ newest x.marks → same_marks work (wrap_at work) w x.marks ≡ true → is_own work (wrap_at work) w x ≡ true
+  unfolding is_own
+  own-all a b c d e = rw (eq-eqb _ _ a, eq-eqb _ _ b, eq-eqb _ _ c, eq-eqb _ _ d, e)
 
 -- ---- what the tests tell of the name in hand
 
 module _ (work : List ℕ) (w : ℕ) (old : List ℕ) (s number n binding : ℕ) where
-  abbrev pub Judged : List ℕ → Bool → Type 0
-  Judged new b = OwnIs work w old new s number n binding b
+  abbrev pub Told : List ℕ → Bool → Type 0
+  Told new b = OwnIs work w old new s number n binding b
 
   count-is : (x : Name) → Holds x old s n number binding → length x.marks ≡ n
   count-is x o = ap length o.marks-are ∙ marks_in-length old s n
 
-  -- r: whether the binder says what is in hand
-  module _ (m : ℕ) (m-is : m ≡ newest (marks_in old s n)) (r : Bool) (r-is : r ≡ says work w number binding n m) where
-    said-is : (x : Name) → Holds x old s n number binding → Said work w x ≡ r
-    said-is x o = rw (o.number_is, o.binding-is, count-is x o, ap newest o.marks-are, ← m-is) (sym r-is)
+  pub other-number : (v : ℕ) → v ≡ word_at work w BOUND-NUMBER → (v ≡ number → ⊥) → Told old false
+  other-number v e h = record { told = λ x o. own-number work w x (λ z. h (e ∙ z ∙ o.number_is)); kept = refl }
 
-    pub other-words : r ≡ false → Judged old false
-    other-words h = record { told = λ x o. own-unsaid work w x (said-is x o ∙ h); kept = refl }
+  pub other-binding : (v : ℕ) → v ≡ word_at work w BOUND-KEY → (v ≡ binding → ⊥) → Told old false
+  other-binding v e h = record { told = λ x o. own-binding work w x (λ z. h (e ∙ z ∙ o.binding-is)); kept = refl }
 
-    module _ (h : r ≡ true) where
-      pub same-few : n < 2 → Judged old true
-      same-few l = record { told = λ x o. own-said work w x (said-is x o ∙ h) true (few-same work w x (omega (arith, count-is x o))); kept = refl }
+  pub other-count : (v : ℕ) → v ≡ word_at work w BOUND-COUNT → (v ≡ n → ⊥) → Told old false
+  other-count v e h = record { told = λ x o. own-count work w x (λ z. h (e ∙ z ∙ count-is x o)); kept = refl }
 
-      pub by-marks : 2 ≤ n → (new : List ℕ) (b : Bool) → MarksOwn work w old new s n b → Judged new b
-      by-marks l new b own =
+  pub other-newest : (v u : ℕ) → v ≡ word_at work w BOUND-NEWEST → u ≡ newest (marks_in old s n) → (v ≡ u → ⊥) → Told old false
+  other-newest v u e d h = record { told = λ x o. own-newest work w x (λ z. h (e ∙ z ∙ ap newest o.marks-are ∙ sym d)); kept = refl }
+
+  -- the binder's own marks stand behind those in hand
+  module _ (new : List ℕ) (r : ℕ) (own : OwnMarks work w old new (s + n) r) where
+    equal_is : (x : Name) → Holds x old s n number binding → r ≡ n → equal (own_marks work (wrap_at work) w) x.marks ≡ equal (marks_in new (s + n) n) (marks_in new s n)
+    equal_is x o e = rw (own.marks-are, o.marks-are, marks_in-below new old s n own.kept, e)
+
+    -- more than one mark, and they differ
+    module _ (many : 2 ≤ n) where
+      pub other_length : (r ≡ n → ⊥) → Told new false
+      other_length h =
           record {
-            told = λ x o. own-said work w x (said-is x o ∙ h) b (many-same work w x (omega (arith, count-is x o)) ∙ ap (equal (own_marks work (wrap_at work) w)) o.marks-are ∙ own.told);
+            told = λ x o.
+                own-marks work w x (omega (arith, count-is x o))
+                (rw (own.marks-are, o.marks-are)
+                (equal-lengths _ _ (λ z. h (sym (marks_in-length new (s + n) r) ∙ z ∙ marks_in-length old s n))));
             kept = own.kept;
           }
 
-      -- the cells tell it
-      pub same-told : 2 ≤ n → (base : ℕ) → Stands work base (reference_at work w INNER) old s n → Told work base w → Judged old true
-      same-told l base stands told =
-          by-marks l old true
-          (record { told = rw (told.marks-are, ← stands told.some-base) (equal-refl (marks_in old s n)); kept = refl })
+      pub other-marks : r ≡ n → false ≡ equal (marks_in new (s + n) n) (marks_in new s n) → Told new false
+      other-marks e h = record { told = λ x o. own-marks work w x (omega (arith, count-is x o)) (equal_is x o e ∙ sym h); kept = own.kept }
+
+  -- all tests hold
+  module _ (a b c d u : ℕ) (ea : a ≡ word_at work w BOUND-NUMBER) (fa : a ≡ number) (eb : b ≡ word_at work w BOUND-KEY) (fb : b ≡ binding) (ec : c ≡ word_at work w BOUND-COUNT) (fc : c ≡ n) (ed : d ≡ word_at work w BOUND-NEWEST) (eu : u ≡ newest (marks_in old s n)) (fd : d ≡ u) where
+    same-as : (x : Name) → Holds x old s n number binding → same_marks work (wrap_at work) w x.marks ≡ true → is_own work (wrap_at work) w x ≡ true
+    same-as x o =
+        own-all work w x
+        (sym ea ∙ fa ∙ sym o.number_is)
+        (sym eb ∙ fb ∙ sym o.binding-is)
+        (sym ec ∙ fc ∙ sym (count-is x o))
+        (sym ed ∙ fd ∙ eu ∙ sym (ap newest o.marks-are))
+
+    pub same-few : n < 2 → Told old true
+    same-few h = record { told = λ x o. same-as x o (few-same work w x (omega (arith, count-is x o))); kept = refl }
+
+    pub same-all : (new : List ℕ) (r : ℕ) → OwnMarks work w old new (s + n) r → r ≡ n → true ≡ equal (marks_in new (s + n) n) (marks_in new s n) → Told new true
+    same-all new r own e h = record { told = λ x o. same-as x o (equal-same work w x (equal_is new r own x o e ∙ sym h)); kept = own.kept }
 
 -- ---- what the binder leaves in hand
 

@@ -1,16 +1,16 @@
 -- Laws of bindings found from the outside in, one for each way through the code.
-use Rattle.std.specs.Prelude.{◌≡◌, refl, Bool, true, false, List, ℕ, ◌<◌, eqb, length}
+use Rattle.std.specs.Prelude.{◌≡◌, refl, false, List, ℕ, ◌<◌, eqb, length}
 use Rattle.std.proofs.Math.Path.{sym, ap}
 use Rattle.std.proofs.Common.{◌∙◌, ne_eqb, eqb-true}
+use Rattle.std.proofs.Math.Bool.{true}
 use Rattle.std.proofs.Math.Option.{none}
 use native.Mathlib.Omega.{arith}
 use Rattle.recipe.specs.Name.{Name, binding_key, mark_name, toggle}
-use Rattle.arena.specs.Offsets.{OWN, TAG, INNER, STEP, KEY, BOUND-NUMBER}
+use Rattle.arena.specs.Offsets.{OWN, TAG, INNER, STEP, KEY, BOUND-KEY, BOUND-NUMBER, BOUND-COUNT, BOUND-NEWEST}
 use Rattle.arena.specs.Arena.{word_at, reference_at, step_limit, newest, give_key, marked, is_own, rebound, wrap_at, origin_name, node_name, name_at, number_of}
 use Rattle.words.specs.ListLaws.{either}
 use Rattle.arena.specs.ArenaLaws.{word_at-some, wrap_at-none, wrap_at-mark, wrap_at-binder, wrap_at-number, marked-is, marked-binding, binding_key-of}
-use Rattle.resolution.specs.BinderLaws.{Said, own-number, own-unsaid, own-said, few-same}
-use Rattle.resolution.specs.Marks.{says}
+use Rattle.resolution.specs.BinderLaws.{own-number, own-binding, own-count, own-newest, few-same, own-all}
 use Rattle.resolution.specs.Names.{Summed}
 use Rattle.resolution.specs.Direct.{SkipsTo, Passes, MarkCell, OneMark, mark_once, count_of, LoneMark, OnlyMark, Bare, Gives, Finds, unknown}
 
@@ -146,24 +146,38 @@ marked-summed work node w number own m k n o f l e =
 -- ---- binders
 
 module _ (work : List ℕ) (number w mark : ℕ) where
-  -- r: whether the binder says a bare name with that mark
-  module _ (count : ℕ) (count-is : count ≡ count_of mark) (r : Bool) (r-is : r ≡ says work w number 0 count mark) where
-    said-once : (x : Name) → Bare number x → Said work w (mark_once mark x) ≡ r
-    unfolding binding_key
-    said-once x b = rw (once-number number mark x b, ap binding_key (once-binding number mark x b), once-count number mark x b, once-newest number mark x b, ← count-is) (sym r-is)
+  gives_nothing : ((x : Name) → Bare number x → is_own work (wrap_at work) w (mark_once mark x) ≡ false) → Gives work number w mark 0
+  unfolding binding_key
+  gives_nothing h x b = sym (ap (λ (y : Name). binding_key y.binding) (rebound-idle work w (mark_once mark x) (h x b)) ∙ ap binding_key (once-binding number mark x b))
 
-    pub gives_nothing : r ≡ false → Gives work number w mark 0
-    unfolding binding_key
-    gives_nothing h x b =
-        sym (ap (λ (y : Name). binding_key y.binding) (rebound-idle work w (mark_once mark x) (own-unsaid work w _ (said-once x b ∙ h))) ∙ ap binding_key (once-binding number mark x b))
+  pub gives-number : (v : ℕ) → v ≡ word_at work w BOUND-NUMBER → (v ≡ number → ⊥) → Gives work number w mark 0
+  gives-number v e h = gives_nothing λ x b. own-number work w _ (λ z. h (e ∙ z ∙ once-number number mark x b))
 
-    given-key : (x : Name) → is_own work (wrap_at work) w x ≡ true → binding_key (rebound work (wrap_at work) w x).binding ≡ word_at work w KEY
-    unfolding rebound give_key
-    given-key x h = rw h (binding_key-of (word_at work w KEY))
+  pub gives-binding : (v : ℕ) → v ≡ word_at work w BOUND-KEY → (v ≡ 0 → ⊥) → Gives work number w mark 0
+  unfolding binding_key
+  gives-binding v e h = gives_nothing λ x b. own-binding work w _ (λ z. h (e ∙ z ∙ ap binding_key (once-binding number mark x b)))
 
-    pub gives_key : r ≡ true → (k : ℕ) → k ≡ word_at work w KEY → Gives work number w mark k
-    gives_key h k e x b =
-        e ∙ sym (given-key (mark_once mark x) (own-said work w (mark_once mark x) (said-once x b ∙ h) true (few-same work w (mark_once mark x) (once-few number mark x b))))
+  pub gives-count : (v u : ℕ) → v ≡ word_at work w BOUND-COUNT → u ≡ count_of mark → (v ≡ u → ⊥) → Gives work number w mark 0
+  gives-count v u e f h = gives_nothing λ x b. own-count work w _ (λ z. h (e ∙ z ∙ once-count number mark x b ∙ sym f))
+
+  pub gives-newest : (v : ℕ) → v ≡ word_at work w BOUND-NEWEST → (v ≡ mark → ⊥) → Gives work number w mark 0
+  gives-newest v e h = gives_nothing λ x b. own-newest work w _ (λ z. h (e ∙ z ∙ once-newest number mark x b))
+
+  given-key : (x : Name) → is_own work (wrap_at work) w x ≡ true → binding_key (rebound work (wrap_at work) w x).binding ≡ word_at work w KEY
+  unfolding rebound give_key
+  given-key x h = rw h (binding_key-of (word_at work w KEY))
+
+  pub gives_key : (a b c u d r : ℕ) → a ≡ word_at work w BOUND-NUMBER → a ≡ number → b ≡ word_at work w BOUND-KEY → b ≡ 0 → c ≡ word_at work w BOUND-COUNT → u ≡ count_of mark → c ≡ u → d ≡ word_at work w BOUND-NEWEST → d ≡ mark → r ≡ word_at work w STEP → Gives work number w mark r
+  unfolding binding_key
+  gives_key a b c u d r ea fa eb fb ec eu fc ed fd er x bare =
+      let own : is_own work (wrap_at work) w (mark_once mark x) ≡ true =
+      own-all work w (mark_once mark x)
+      (sym ea ∙ fa ∙ sym (once-number number mark x bare))
+      (sym eb ∙ fb ∙ sym (ap binding_key (once-binding number mark x bare)))
+      (sym ec ∙ fc ∙ eu ∙ sym (once-count number mark x bare))
+      (sym ed ∙ fd ∙ sym (once-newest number mark x bare))
+      (few-same work w (mark_once mark x) (once-few number mark x bare)) in
+      er ∙ sym (given-key (mark_once mark x) own)
 
 -- ---- what is found
 

@@ -44,11 +44,6 @@ module _ {t : List ℕ} {most : ℕ} {P : Bool → Type 0} where
   full_is : Tells t most P Full → length t ≤ most
   full_is (is-full l) = l
 
-  pub tells-then : {Q : Bool → Type 0} {r : Compared} → ((b : Bool) → P b → Q b) → Tells t most P r → Tells t most Q r
-  tells-then f (is_same p) = is_same (f true p)
-  tells-then f (is-other p) = is-other (f false p)
-  tells-then f (is-full l) = is-full l
-
   module _ {r : Compared} (h : Tells t most P r) where
     pub told_same : r ≡ Same → P true
     told_same e = same-is (subst (Tells t most P) e h)

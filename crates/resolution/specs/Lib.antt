@@ -2,13 +2,10 @@
 pub mod Marks
 pub mod MarkLaws
 pub mod HandLaws
-pub mod Alike
 pub mod BinderLaws
-pub mod BinderTests
 pub mod WalkLaws
 pub mod Names
 pub mod NameLaws
 pub mod Direct
 pub mod DirectLaws
-pub mod DirectTests
 pub mod Rows

@@ -1,9 +1,7 @@
 -- Marks in hand: a part of a table that holds a name's marks, the oldest first, so that the newest come and go at its end.
-use Rattle.std.specs.Prelude.{◌≡◌, Bool, true, false, ◌&&◌, List, [], ◌∷◌, ℕ, zero, suc, ◌+◌, ◌≤◌, ◌<◌, eqb, length, get_or, take}
-use Rattle.words.specs.Lists.{equal}
+use Rattle.std.specs.Prelude.{◌≡◌, Bool, true, false, List, [], ◌∷◌, ℕ, zero, suc, ◌+◌, ◌≤◌, ◌<◌, length, get_or, take}
 use Rattle.recipe.specs.Name.{Name, binding_key, toggle}
-use Rattle.arena.specs.Offsets.{BOUND-KEY, BOUND-NUMBER, BOUND-COUNT, BOUND-NEWEST}
-use Rattle.arena.specs.Arena.{word_at, step_limit, own_marks, is_own, wrap_at}
+use Rattle.arena.specs.Arena.{step_limit, own_marks, is_own, wrap_at}
 use Rattle.resolution.specs.declared.marks.Compared.{Compared}
 use Rattle.resolution.specs.declared.marks.Compared.TheVariants.{Same, Other, Full}
 
@@ -67,16 +65,6 @@ pub record OwnMarks (work : List ℕ) (w : ℕ) (old new : List ℕ) (start r : 
   pub marks-are : own_marks work (wrap_at work) w ≡ marks_in new start r
   pub room : start + r ≤ length new
   pub kept : take start new ≡ take start old
-
--- what a binder says of its own name: number, binding's key, count of marks and newest mark
-unfoldable pub says : List ℕ → (w number binding count mark : ℕ) → Bool
-says work w number binding count mark =
-    eqb (word_at work w BOUND-NUMBER) number && (eqb (word_at work w BOUND-KEY) binding && (eqb (word_at work w BOUND-COUNT) count && eqb (word_at work w BOUND-NEWEST) mark))
-
--- whether the marks in hand are those of a binder's own name
-pub record MarksOwn (work : List ℕ) (w : ℕ) (old new : List ℕ) (start count : ℕ) (b : Bool) : Type 0 where
-  pub told : equal (own_marks work (wrap_at work) w) (marks_in old start count) ≡ b
-  pub kept : take (start + count) new ≡ take (start + count) old
 
 -- whether the name in hand is the same as a binder's own
 pub record OwnIs (work : List ℕ) (w : ℕ) (old new : List ℕ) (start number count binding : ℕ) (b : Bool) : Type 0 where

@@ -9,17 +9,16 @@ use Rattle.std.proofs.Math.ListN.{length, get_or-eq_default}
 use borrow.Author.Tests.{lt-ltb, le-ltb, eq-eqb, ne_eqb}
 use Rattle.words.specs.Lists.{equal}
 use Rattle.words.specs.Parts.{rest}
-use Rattle.words.specs.ListLaws.{either, equal-refl, rest-is}
+use Rattle.words.specs.ListLaws.{rest-is}
 use Rattle.recipe.specs.Name.{Binding, variable, macro, Name, plain_name, binding_key, is_bound, same}
 use Rattle.expansion.specs.Lookup.{or_unbound, agree}
 use Rattle.arena.specs.Offsets.{OWN}
-use Rattle.arena.specs.Arena.{reference_at, newest, binding_of, give_key, marked, is_own, rebound, wrap_at, origin_name, node_name, name_at, number_of}
-use Rattle.arena.specs.ArenaLaws.{binding_of-key, marked-number, marked-marks, marked-binding, rebound-number, rebound-marks, wrap_at-keeps, wrap_at-marks}
+use Rattle.arena.specs.Arena.{reference_at, newest, binding_of, wrap_at, origin_name, node_name, name_at, number_of}
+use Rattle.arena.specs.ArenaLaws.{binding_of-key, wrap_at-marks}
 use Rattle.arena.specs.NodeLaws.{name_at-number}
 use Rattle.resolution.specs.Marks.{marks_in, Holds, NameAfter}
 use Rattle.resolution.specs.MarkLaws.{marks_in-length, marks_in-below}
 use Rattle.resolution.specs.HandLaws.{count_most}
-use Rattle.resolution.specs.Alike.{Alike}
 use Rattle.resolution.specs.BinderLaws.{equal-lengths}
 use Rattle.arena.specs.declared.cells.Binder.{Binder}
 use Rattle.arena.specs.Cells.{Described, Bound, Binds}
@@ -87,54 +86,6 @@ pub binds-name : (node w : ℕ) (b : Binder) (old new : List ℕ) (top r : ℕ) 
     → Summed (name_at old node w) b.binding b.count b.newest → Bound b old new top r → Binds node w b.key b.parent old new top r
 binds-name node w b old new top r own number pending h c =
     record { end = c.end; kept = c.kept; means = λ to e x. c.means (name_at old node w) to (described old node w b own number pending h) e x }
-
--- ---- names that lookups and comparisons cannot tell apart
-
-pub record Looks (x y : Name) : Type 0 where
-  pub number_is : x.number ≡ y.number
-  pub marks-are : x.marks ≡ y.marks
-  pub binding-is : x.binding ≡ y.binding
-
-looks-marked : (m : ℕ) (x y : Name) → Looks x y → Looks (marked m x) (marked m y)
-looks-marked m x y l =
-    record {
-      number_is = marked-number m x ∙ l.number_is ∙ sym (marked-number m y);
-      marks-are = marked-marks m x y l.marks-are;
-      binding-is = marked-binding m x ∙ l.binding-is ∙ sym (marked-binding m y);
-    }
-
-module _ (work : List ℕ) where
-  looks-own : (f : ℕ → Name → Name) (w : ℕ) (x y : Name) → Looks x y → is_own work f w x ≡ is_own work f w y
-  unfolding is_own
-  looks-own f w x y l = rw (l.number_is, l.marks-are, l.binding-is)
-
-  looks-bound : (f : ℕ → Name → Name) (w : ℕ) (x y : Name) → Looks x y → (rebound work f w x).binding ≡ (rebound work f w y).binding
-  unfolding rebound give_key
-  looks-bound f w x y l = either (is_own work f w y) (λ t. rw (looks-own f w x y l, t)) (λ t. rw (looks-own f w x y l, t) l.binding-is)
-
-  looks-rebound : (f : ℕ → Name → Name) (w : ℕ) (x y : Name) → Looks x y → Looks (rebound work f w x) (rebound work f w y)
-  looks-rebound f w x y l =
-      record {
-        number_is = rebound-number work f w x ∙ l.number_is ∙ sym (rebound-number work f w y);
-        marks-are = rebound-marks work f w x ∙ l.marks-are ∙ sym (rebound-marks work f w y);
-        binding-is = looks-bound f w x y l;
-      }
-
-  looks-wrapped : (w : ℕ) (x y : Name) → Looks x y → Looks (wrap_at work w x) (wrap_at work w y)
-  looks-wrapped = wrap_at-keeps work Looks looks-marked looks-rebound
-
-looks-same : (x y : Name) → Looks x y → true ≡ same x y
-unfolding same
-looks-same x y l = sym (rw (eq-eqb _ _ l.number_is, l.marks-are, equal-refl y.marks, eq-eqb _ _ (ap binding_key l.binding-is)))
-
--- names of one number with own wraps that do the same, under one wrap
-pub copies-same : (work : List ℕ) (a v b w m n p q : ℕ) → v ≡ w → m ≡ number_of work a → n ≡ number_of work b → m ≡ n → p ≡ reference_at work a OWN → q ≡ reference_at work b OWN → Alike work p q
-    → true ≡ same (name_at work a v) (name_at work b w)
-unfolding name_at number_of node_name origin_name
-copies-same work a v b w m n p q e m-is n-is f p-is q-is alike =
-    let plain : Looks (node_name work a) (node_name work b) = record { number_is = sym m-is ∙ f ∙ n-is; marks-are = refl; binding-is = refl } in
-    let own : Looks (wrap_at work p (node_name work a)) (wrap_at work q (node_name work b)) = rw (← alike (node_name work b)) (looks-wrapped work p _ _ plain) in
-    rw (← p-is, ← q-is, e) (looks-same _ _ (looks-wrapped work w _ _ own))
 
 -- ---- sameness
 

@@ -1,15 +1,11 @@
 -- Laws of the walk of a wrap by the name in hand, one for each way through the code.
-use Rattle.std.specs.Prelude.{◌≡◌, refl, false, List, ℕ, eqb}
-use Rattle.std.proofs.Math.Path.{sym, ap}
-use Rattle.std.proofs.Common.{◌∙◌, arith}
-use borrow.Author.Tests.{eqb-true}
-use Rattle.words.specs.ListLaws.{either}
-use Rattle.recipe.specs.Name.{Name, plain_name, binding_key}
+use Rattle.std.specs.Prelude.{◌≡◌, refl, List, ℕ}
+use Rattle.std.proofs.Common.{ap, ◌∙◌}
+use Rattle.recipe.specs.Name.{Name, binding_key}
 use Rattle.arena.specs.Offsets.{TAG, INNER, STEP, OUTER}
-use Rattle.arena.specs.Arena.{word_at, reference_at, binding_of, marked, rebound, wrap_at}
-use Rattle.arena.specs.ArenaLaws.{binding_key-of, marked-number, marked-binding, wrap_at-none, wrap_at-marks}
-use Rattle.resolution.specs.Marks.{marks_in, Hand, MarksAfter, Holds, NameAfter}
-use Rattle.resolution.specs.Alike.{marks_on, Stands, base_outside}
+use Rattle.arena.specs.Arena.{word_at, reference_at, marked, rebound, wrap_at}
+use Rattle.arena.specs.ArenaLaws.{marked-number, marked-binding}
+use Rattle.resolution.specs.Marks.{Hand, MarksAfter, NameAfter}
 use Rattle.resolution.specs.HandLaws.{wrap-mark, wrap-join, wrap-binder}
 
 -- ---- one after another
@@ -31,41 +27,6 @@ name-marked m old new s number n b r p =
       hand = p.hand;
       kept = p.kept;
     }
-
--- ---- what the marks in hand stand on
-
-pub stands-none : (work table : List ℕ) (s : ℕ) → Stands work 0 0 table s 0
-unfolding marks_in plain_name
-stands-none work table s h = sym (ap (λ (x : Name). x.marks) (wrap_at-none work (wrap_at work 0 (plain_name 0 0)) ∙ wrap_at-none work (plain_name 0 0)))
-
--- a name that is in hand
-held : List ℕ → (s n number b : ℕ) → Name
-held table s n number b = record { number = number; item = 0; produced = false; marks = marks_in table s n; binding = binding_of b }
-
-held-holds : (table : List ℕ) (s n number b : ℕ) → Holds (held table s n number b) table s n number b
-unfolding held
-held-holds table s n number b = record { number_is = refl; marks-are = refl; binding-is = binding_key-of b }
-
-module _ (work : List ℕ) (base v : ℕ) where
-  -- after a wrap, the marks are that wrap's on the same base
-  pub stands_after : (old mid : List ℕ) (s number n b k c : ℕ) → NameAfter (wrap_at work v) old mid s number n b k c → Stands work base 0 old s n → Stands work base v mid s k
-  unfolding held
-  stands_after old mid s number n b k c after stands h =
-      sym (after.holds _ (held-holds old s n number b)).marks-are
-      ∙ wrap_at-marks work v (held old s n number b) (wrap_at work base (plain_name 0 0)) (stands h ∙ ap (λ (x : Name). x.marks) (wrap_at-none work _))
-
-  pub stands-outside : (table : List ℕ) (s n : ℕ) → Stands work base v table s n → Stands work (base_outside base v) 0 table s n
-  unfolding base_outside
-  stands-outside table s n stands =
-      either (eqb base 0)
-      (λ t. rw t
-      (λ h.
-      let z : base ≡ 0 = eqb-true base 0 t in
-      stands (λ q. omega arith)
-      ∙ ap (λ (u : ℕ). marks_on work u v) z
-      ∙ ap (λ (x : Name). (wrap_at work v x).marks) (wrap_at-none work (plain_name 0 0))
-      ∙ sym (ap (λ (x : Name). x.marks) (wrap_at-none work _))))
-      (λ t. rw t (λ h. absurd (h refl)))
 
 -- ---- wraps
 

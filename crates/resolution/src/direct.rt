@@ -6,7 +6,7 @@ ghost use Rattle.arena.specs.Offsets.{INNER};
 ghost use Rattle.arena.specs.Arena.{reference_at};
 ghost use Rattle.resolution.specs.Direct.{SkipsTo, Passes, MarkCell, OneMark, LoneMark, OnlyMark, count_of, Gives, Finds};
 
-use crate::{marks, wraps};
+use crate::marks;
 use arena::cells;
 
 // Answered where the binding is not found so.
@@ -116,7 +116,16 @@ pub fn count_of(mark: u32) -> u32
 fn given_key(work: &[u32], number: u32, at: u32, mark: u32) -> u32
     ensures { Gives work.now number at mark result }
 {
-    if !wraps::says(work, at, number, 0, count_of(mark) as usize, mark) {
+    if cells::word(work, at, cells::BOUND_NUMBER) != number {
+        return 0;
+    }
+    if cells::word(work, at, cells::BOUND_KEY) != 0 {
+        return 0;
+    }
+    if cells::word(work, at, cells::BOUND_COUNT) != count_of(mark) {
+        return 0;
+    }
+    if cells::word(work, at, cells::BOUND_NEWEST) != mark {
         return 0;
     }
     cells::word(work, at, cells::KEY)

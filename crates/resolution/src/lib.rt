@@ -1,7 +1,6 @@
 // Names in the arena, with the marks and binders that wait on them: looked up, compared and bound.
 #![tactic(auto)]
 
-mod alike;
 mod direct;
 mod marks;
 pub mod names;

@@ -3,7 +3,7 @@
 // more than that has room for, into larger ones. Slices that are handed on to a walk that is seldom made are handed on as parts, so
 // that they are put into memory there alone.
 
-ghost use Rattle.std.specs.Prelude.{◌≡◌, ◌+◌, ◌*◌, ◌≤◌, ◌<◌, length, true};
+ghost use Rattle.std.specs.Prelude.{◌≡◌, ◌+◌, ◌*◌, ◌≤◌, ◌<◌, length};
 ghost use Rattle.std.proofs.Math.Option.{some};
 ghost use Rattle.recipe.specs.Name.{variable, macro, same, binding_key};
 ghost use Rattle.recipe.specs.Tree.{is_ordinary_name};
@@ -15,7 +15,7 @@ ghost use Rattle.resolution.specs.Names.{Resolved, Summed, found_of, lookup_in, 
 
 use crate::marks::Compared;
 use crate::wraps::InHand;
-use crate::{alike, direct, marks, wraps};
+use crate::{direct, marks, wraps};
 use arena::cells::Binder;
 use arena::{cells, origins};
 use datum::base_names;
@@ -39,7 +39,7 @@ const BASE_NAMES: u32 = words::BASE_NAMES as u32;
 
 // Room for the marks of two names, and for those of a binder's own name behind them: as many as most names have, 512 of each,
 // however many they are.
-const FEW_WORDS: usize = 128;
+const FEW_WORDS: usize = 32;
 
 const MORE_WORDS: usize = 1536;
 
@@ -91,15 +91,16 @@ fn resolve(work: &[u32], table: &mut [u32], start: usize, node: u32, w: u32) -> 
 {
     let number = number_of(work, node);
     let own = cells::reference(work, node, cells::OWN);
-    let bare = InHand {
-        count: 0,
-        binding: 0,
-    };
-    let x = wraps::walked(work, table, start, number, bare, 0, own);
-    if table.len() < x.count {
-        return x;
+    let s = wraps::walked(work, table, start, 0, number, 0, own);
+    let n = s.count;
+    let b = s.binding;
+    if table.len() < n {
+        return InHand {
+            count: n,
+            binding: b,
+        };
     }
-    wraps::walk(work, table, start, number, x, own, w)
+    wraps::walk(work, table, start, n, number, b, w)
 }
 
 // Whether a node is a name that may be bound: other than `...` and `_`, which are known by number alone.
@@ -259,31 +260,12 @@ fn same_walked(work: &[u32], a: u32, v: u32, b: u32, w: u32) -> bool
     }
 }
 
-// Whether two names of one number lie under one wrap and have own wraps of the same cells, as copies of one node have: they are the same,
-// and nothing that waits on them is walked.
-pub fn are_copies(work: &[u32], a: u32, v: u32, b: u32, w: u32) -> bool
-    ensures { result ≡ true → true ≡ same (name_at work.now a v) (name_at work.now b w) }
-{
-    if v != w {
-        return false;
-    }
-    if number_of(work, a) != number_of(work, b) {
-        return false;
-    }
-    let own = cells::reference(work, a, cells::OWN);
-    let other = cells::reference(work, b, cells::OWN);
-    alike::same_cells(work, own, other)
-}
-
-// Whether two names are the same. Their numbers tell most apart, and their cells most of the others; else it takes what waits on both.
+// Whether two names are the same. Their numbers tell most apart.
 pub fn same_names(work: &[u32], a: u32, v: u32, b: u32, w: u32) -> bool
     ensures { result ≡ same (name_at work.now a v) (name_at work.now b w) }
 {
     if number_of(work, a) != number_of(work, b) {
         return false;
-    }
-    if are_copies(work, a, v, b, w) {
-        return true;
     }
     same_walked(&work[0..], a, v, b, w)
 }

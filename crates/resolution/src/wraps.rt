@@ -1,14 +1,12 @@
 // Walking a wrap: what waits on a name, carried out on the name in hand, from the inside out.
 // The marks in hand are lent a table of their own, so that the arena is only read.
 
-ghost use Rattle.std.specs.Prelude.{◌≡◌, ◌+◌, ◌≤◌, length};
-ghost use Rattle.arena.specs.Offsets.{INNER};
-ghost use Rattle.arena.specs.Arena.{reference_at, wrap_at, rebound, step_limit};
-ghost use Rattle.resolution.specs.Marks.{says, Hand, MarksAfter, OwnMarks, MarksOwn, NameAfter, Fits, Tells, OwnIs};
-ghost use Rattle.resolution.specs.Alike.{Stands, base_outside};
+ghost use Rattle.std.specs.Prelude.{◌+◌, ◌≤◌, length};
+ghost use Rattle.arena.specs.Arena.{wrap_at, rebound, step_limit};
+ghost use Rattle.resolution.specs.Marks.{Hand, MarksAfter, OwnMarks, NameAfter, Fits, Tells, OwnIs};
 
+use crate::marks;
 use crate::marks::Compared;
-use crate::{alike, marks};
 use arena::cells;
 
 // The marks of a name after wrap w, where there is one; answers their count. The walk is spared where no wrap is left.
@@ -66,27 +64,36 @@ fn own_marks(work: &[u32], table: &mut [u32], start: usize, w: u32) -> usize
     marks_after(work, table, start, n, pending)
 }
 
-// Whether binder w says this number, binding, count of marks and newest mark of its own name.
-pub fn says(work: &[u32], w: u32, number: u32, binding: u32, count: usize, newest: u32) -> bool
-    ensures { result ≡ says work.now w number binding count newest }
+// Whether the name in hand is the same as the own name of binder w, judged with the marks of its time. Number, binding, count
+// and newest mark tell most names apart, and settle it where there is at most one mark; else the wraps of the binder's own
+// name are walked.
+fn is_own(
+    work: &[u32],
+    table: &mut [u32],
+    start: usize,
+    count: usize,
+    number: u32,
+    binding: u32,
+    w: u32,
+) -> Compared
+    requires { Hand table.old start count }
+    ensures { Tells table.new (start + step_limit + step_limit) (OwnIs work.now w table.old table.new start number count binding) result }
 {
     if cells::word(work, w, cells::BOUND_NUMBER) != number {
-        return false;
+        return Compared::Other;
     }
     if cells::word(work, w, cells::BOUND_KEY) != binding {
-        return false;
+        return Compared::Other;
     }
     if cells::word(work, w, cells::BOUND_COUNT) as usize != count {
-        return false;
+        return Compared::Other;
     }
-    cells::word(work, w, cells::BOUND_NEWEST) == newest
-}
-
-// Whether the marks in hand are those of the own name of binder w, by walking its wraps.
-fn has_own_marks(work: &[u32], table: &mut [u32], start: usize, count: usize, w: u32) -> Compared
-    requires { Hand table.old start count }
-    ensures { Tells table.new (start + step_limit + step_limit) (MarksOwn work.now w table.old table.new start count) result }
-{
+    if cells::word(work, w, cells::BOUND_NEWEST) != marks::newest_of(table, start, count) {
+        return Compared::Other;
+    }
+    if count < 2 {
+        return Compared::Same;
+    }
     let behind = start + count;
     let own = own_marks(work, table, behind, w);
     if table.len() < own {
@@ -108,71 +115,36 @@ pub struct InHand {
     pub binding: u32,
 }
 
-// Whether the name in hand is the same as the own name of binder w, judged with the marks of its time. What the binder says tells most
-// names apart, and settles it where there is at most one mark. Else it is told by the cells of the wrap `base` that the chain of w
-// stands on; only where they differ are the wraps of the binder's own name walked.
-fn is_own(
-    work: &[u32],
-    table: &mut [u32],
-    start: usize,
-    number: u32,
-    x: InHand,
-    base: u32,
-    w: u32,
-) -> Compared
-    requires { (Hand table.old start x.count) × (Stands work.now base (reference_at work.now w INNER) table.old start x.count) }
-    ensures { Tells table.new (start + step_limit + step_limit) (OwnIs work.now w table.old table.new start number x.count x.binding) result }
-{
-    let newest = marks::newest_of(table, start, x.count);
-    if !says(work, w, number, x.binding, x.count, newest) {
-        return Compared::Other;
-    }
-    if x.count < 2 {
-        return Compared::Same;
-    }
-    if alike::is_told(work, base, w) {
-        return Compared::Same;
-    }
-    has_own_marks(work, table, start, x.count, w)
-}
-
 // The name in hand after binder w: the binder's own name gets the new binding.
 fn rebind(
     work: &[u32],
     table: &mut [u32],
     start: usize,
+    count: usize,
     number: u32,
-    x: InHand,
-    base: u32,
+    binding: u32,
     w: u32,
 ) -> InHand
-    requires { (Hand table.old start x.count) × (Stands work.now base (reference_at work.now w INNER) table.old start x.count) }
-    ensures { Fits table.new (start + step_limit + step_limit) result.count (NameAfter (rebound work.now (wrap_at work.now) w) table.old table.new start number x.count x.binding result.count result.binding) }
+    requires { Hand table.old start count }
+    ensures { Fits table.new (start + step_limit + step_limit) result.count (NameAfter (rebound work.now (wrap_at work.now) w) table.old table.new start number count binding result.count result.binding) }
 {
-    match is_own(work, table, start, number, x, base, w) {
+    match is_own(work, table, start, count, number, binding, w) {
         Compared::Same => {
             let key = cells::word(work, w, cells::KEY);
             InHand {
-                count: x.count,
+                count: count,
                 binding: key,
             }
         }
-        Compared::Other => x,
+        Compared::Other => InHand {
+            count: count,
+            binding: binding,
+        },
         Compared::Full => InHand {
             count: table.len() + 1,
-            binding: x.binding,
+            binding: binding,
         },
     }
-}
-
-// The base of a join's outer wrap: the inner one, where that stands on nothing.
-fn base_outside(base: u32, inner: u32) -> u32
-    ensures { result ≡ base_outside base inner }
-{
-    if base == 0 {
-        return inner;
-    }
-    alike::NO_BASE
 }
 
 // The name in hand after wrap w, where there is one. Most wraps are a cell or two: the walk is spared where none is left.
@@ -181,67 +153,72 @@ pub fn walked(
     work: &[u32],
     table: &mut [u32],
     start: usize,
+    count: usize,
     number: u32,
-    x: InHand,
-    base: u32,
+    binding: u32,
     w: u32,
 ) -> InHand
-    requires { (Hand table.old start x.count) × (Stands work.now base 0 table.old start x.count) }
-    ensures { Fits table.new (start + step_limit + step_limit) result.count (NameAfter (wrap_at work.now w) table.old table.new start number x.count x.binding result.count result.binding) }
+    requires { Hand table.old start count }
+    ensures { Fits table.new (start + step_limit + step_limit) result.count (NameAfter (wrap_at work.now w) table.old table.new start number count binding result.count result.binding) }
 {
     if w == 0 {
-        return x;
+        return InHand {
+            count: count,
+            binding: binding,
+        };
     }
-    walk(work, table, start, number, x, base, w)
+    walk(work, table, start, count, number, binding, w)
 }
 
 // The name in hand after wrap w: a mark toggles, a binder gives its binding to the same name, a join is one wrap after
-// another. It recurses through joined pending wraps, the reference falling: each cell that waits is met once, and each binder
-// of the name costs a cell or two more. `base` is the wrap whose marks are in hand, where that is known.
+// another. It recurses through joined pending wraps, the reference falling.
 #[cycle(walk_walked)]
 pub fn walk(
     work: &[u32],
     table: &mut [u32],
     start: usize,
+    count: usize,
     number: u32,
-    x: InHand,
-    base: u32,
+    binding: u32,
     w: u32,
 ) -> InHand
-    requires { (Hand table.old start x.count) × (Stands work.now base 0 table.old start x.count) }
-    ensures { Fits table.new (start + step_limit + step_limit) result.count (NameAfter (wrap_at work.now w) table.old table.new start number x.count x.binding result.count result.binding) }
+    requires { Hand table.old start count }
+    ensures { Fits table.new (start + step_limit + step_limit) result.count (NameAfter (wrap_at work.now w) table.old table.new start number count binding result.count result.binding) }
 {
     let tag = cells::word(work, w, cells::TAG);
     if tag == 0 {
-        return x;
+        return InHand {
+            count: count,
+            binding: binding,
+        };
     }
     if cells::BINDER < tag {
-        return x;
+        return InHand {
+            count: count,
+            binding: binding,
+        };
     }
     let inner = cells::reference(work, w, cells::INNER);
-    let y = walked(work, table, start, number, x, base, inner);
-    if table.len() < y.count {
-        return y;
+    let s = walked(work, table, start, count, number, binding, inner);
+    let n = s.count;
+    let b = s.binding;
+    if table.len() < n {
+        return InHand {
+            count: n,
+            binding: b,
+        };
     }
     if tag == cells::MARK {
         let m = cells::word(work, w, cells::STEP);
-        let k = marks::mark(table, start, y.count, m);
+        let k = marks::mark(table, start, n, m);
         return InHand {
             count: k,
-            binding: y.binding,
+            binding: b,
         };
     }
     if tag == cells::JOIN {
         let outer = cells::reference(work, w, cells::OUTER);
-        return walked(
-            work,
-            table,
-            start,
-            number,
-            y,
-            base_outside(base, inner),
-            outer,
-        );
+        return walked(work, table, start, n, number, b, outer);
     }
-    rebind(work, table, start, number, y, base, w)
+    rebind(work, table, start, n, number, b, w)
 }

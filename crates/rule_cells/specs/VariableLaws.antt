@@ -46,11 +46,6 @@ module _ (work : List ℕ) (list w : ℕ) (f : Name → Bool) where
   any-rest r s b e g k h j =
       rw (tree_at-pair work list w e, ← g, ← k, any_append f (names (tree_at work r w)) (names (tree_at work s w)), ← h) j
 
-  pub any-tail : (s : ℕ) → word_at work list KIND ≡ 4 → s ≡ reference_at work list TAIL → true ≡ any_of f (names (tree_at work s w)) → true ≡ any_of f (names (tree_at work list w))
-  unfolding names
-  any-tail s e g h =
-      rw (tree_at-pair work list w e, ← g, any_append f (names (tree_at work (reference_at work list HEAD) w)) (names (tree_at work s w))) (sym (or_right (any_of f (names (tree_at work (reference_at work list HEAD) w))) _ (sym h)))
-
   pub any-other : (word_at work list KIND ≡ 3 → ⊥) → (word_at work list KIND ≡ 4 → ⊥) → false ≡ any_of f (names (tree_at work list w))
   unfolding names any_of
   any-other m n = tree-cases work list w (λ t. false ≡ any_of f (names t)) (λ e. refl) (λ e. absurd (m e)) (λ e. absurd (n e)) (λ p q r. refl)

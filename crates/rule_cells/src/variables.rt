@@ -1,7 +1,7 @@
 // The variables of a pattern: names other than the ellipsis, `_` and the listed literals, gathered from the left into a small table,
 // node and depth of each. specs/Variables.antt says what the table holds. All names here lie under one pending wrap.
 
-ghost use Rattle.std.specs.Prelude.{◌≡◌, true, cond, [], ◌∷◌, ◌+◌, ◌*◌, ◌^◌, ◌≤◌, ◌<◌, length};
+ghost use Rattle.std.specs.Prelude.{◌≡◌, cond, [], ◌∷◌, ◌+◌, ◌*◌, ◌^◌, ◌≤◌, ◌<◌, length};
 ghost use Rattle.words.specs.Lists.{any_of};
 ghost use Rattle.recipe.specs.Name.{same};
 ghost use Rattle.recipe.specs.Tree.{name, names};
@@ -26,7 +26,7 @@ pub enum Known {
     Not,
 }
 
-// Whether a name is the same as one of the names of a list: for each of its number, at most 8, what waits on both.
+// Whether a name is the same as one of the names of a list.
 fn is_literal(work: &[u32], list: u32, node: u32, w: u32) -> bool
     ensures { result ≡ any_of (same (name_at work.now node w)) (names (tree_at work.now list w)) }
 {
@@ -46,32 +46,6 @@ fn is_literal(work: &[u32], list: u32, node: u32, w: u32) -> bool
     false
 }
 
-// Whether a tree is a name of which this name is a copy.
-fn is_copy(work: &[u32], first: u32, node: u32, w: u32) -> bool
-    ensures { result ≡ true → true ≡ any_of (same (name_at work.now node w)) (names (tree_at work.now first w)) }
-{
-    if cells::word(work, first, cells::KIND) != cells::NAME {
-        return false;
-    }
-    names::are_copies(work, node, w, first, w)
-}
-
-// Whether a name is a copy of one of the elements of a list. A literal of a pattern mostly is, and then nothing that waits on the
-// others of its number is walked.
-fn is_copied(work: &[u32], list: u32, node: u32, w: u32) -> bool
-    ensures { result ≡ true → true ≡ any_of (same (name_at work.now node w)) (names (tree_at work.now list w)) }
-{
-    let mut at = list;
-    while cells::word(work, at, cells::KIND) == cells::PAIR {
-        let first = cells::reference(work, at, cells::HEAD);
-        if is_copy(work, first, node, w) {
-            return true;
-        }
-        at = cells::reference(work, at, cells::TAIL);
-    }
-    false
-}
-
 // Whether a pattern's name is a variable: neither the ellipsis nor `_` nor the same as a listed literal.
 pub fn is_variable(work: &[u32], form: Form, node: u32) -> bool
     ensures { result ≡ is_variable (dots_of work.now form) (literals_of work.now form) (name_at work.now node form.wrap) }
@@ -80,9 +54,6 @@ pub fn is_variable(work: &[u32], form: Form, node: u32) -> bool
         return false;
     }
     if names::number_of(work, node) == names::WILDCARD {
-        return false;
-    }
-    if is_copied(work, form.literals, node, form.wrap) {
         return false;
     }
     if is_literal(work, form.literals, node, form.wrap) {

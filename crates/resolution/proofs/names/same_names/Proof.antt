@@ -1,4 +1,4 @@
--- `names::same_names`: by number, by cells, else as the walk tells.
+-- `names::same_names`: by number, else as the walk tells.
 use borrow.Author.Rules.{rules}
 use Rattle.resolution.proofs.names.same_names.Statement.{statement}
 use Rattle.resolution.proofs.names.same_names.Tie as tie
@@ -10,11 +10,8 @@ returns c =
     let a = c.args in
     differ-numbers a.work.now a.a a.v a.b a.w _ _ c.number_of.ensures c.number_of-2.ensures c.if-number_of.true
 
-returns-2 : tie.Need-returns-then-are_copies
-returns-2 c = c.are_copies.ensures c.if-are_copies.true
-
-returns-3 : tie.Need-returns
-returns-3 c =
+returns-2 : tie.Need-returns
+returns-2 c =
     let a = c.args in
     c.same_walked.ensures ∙ whole_same a.work.now a.a a.v a.b a.w
 
@@ -25,10 +22,8 @@ same_names_spec =
     (λ c κs. search rules)  -- number-of-requires
     (λ c κs. search rules)  -- number-of-requires-2
     returns
-    (λ c κs. search rules)  -- are-copies-requires
-    returns-2
     (λ c. search rules)  -- sub-same-walked
     (λ c. search rules)  -- part-same-walked-start
     (λ c. search rules)  -- part-same-walked-end
     (λ c κs. search rules)  -- same-walked-requires
-    returns-3)
+    returns-2)

@@ -11,15 +11,12 @@ use Rattle.resolution.proofs.wraps.+walk_walked.Lts-walked as walked-lts
 use Rattle.arena.proofs.cells.reference.Reads as reference-reads
 use Rattle.arena.proofs.cells.word.Reads as word-reads
 use Rattle.resolution.proofs.marks.mark.Reads as mark-reads
-use Rattle.resolution.proofs.wraps.base_outside.Reads as base-outside-reads
 use Rattle.resolution.proofs.wraps.rebind.Reads as rebind-reads
 use Rattle.resolution.proofs.wraps.+walk_walked.{statement}
 use Rattle.resolution.proofs.wraps.+walk_walked.Tie.{close}
-use mathlib.Core.Path.{subst}
 use Rattle.arena.specs.Arena.{step_limit}
 use Rattle.resolution.specs.HandLaws.{fits-within, fits_on, fits-then, fits_wider, wrap-none, wrap-idle, wrap-falls}
-use Rattle.resolution.specs.WalkLaws.{name-idle, stands_after, stands-outside, walk-mark, walk-join, walk-binder}
-use Rattle.resolution.specs.Alike.{Stands}
+use Rattle.resolution.specs.WalkLaws.{name-idle, walk-mark, walk-join, walk-binder}
 use borrow.Author.Rules.{rules}
 use native.Mathlib.Omega.{arith}
 
@@ -44,71 +41,75 @@ abbrev walked-below : ℕ → In 2 walked-kinds.ps
 walked-below t = and 2 walked-kinds.ps (falls 2 walked-kinds.ps ◌<◌ μ-walked t) walked.Pre
 
 abbrev walk-claims : ℕ → walk-lts.Claims
-walk-claims t =
-    (word-reads.Asked, word-reads.Learnt, reference-reads.Asked, reference-reads.Learnt, walked-below t, walked.Post, mark-reads.Asked, mark-reads.Learnt, base-outside-reads.Asked, base-outside-reads.Learnt, rebind-reads.Asked, rebind-reads.Learnt)
+walk-claims t = (word-reads.Asked, word-reads.Learnt, reference-reads.Asked, reference-reads.Learnt, walked-below t, walked.Post, mark-reads.Asked, mark-reads.Learnt, rebind-reads.Asked, rebind-reads.Learnt)
 
 walk-returns : (t : ℕ) → walk-lts.Need-returns-then-tag-eq0 (walk-claims t) (walk_at t) walk.Post
 walk-returns t c =
-    fits-within c.args.table.now (c.args.start + step_limit + step_limit) c.args.x.count (omega (arith, c.requires.1.0.room)) (name-idle _ c.args.table.now c.args.start c.args.number c.args.x.count c.args.x.binding c.requires.1.0 (wrap-idle c.args.work.now c.args.w _ c.word-tag.ensures (λ z. omega arith) (λ z. omega arith) (λ z. omega arith)))
+    let a = c.args in
+    let pre = c.requires in
+    fits-within a.table.now (a.start + step_limit + step_limit) a.count (omega (arith, pre.1.room)) (name-idle _ a.table.now a.start a.number a.count a.binding pre.1 (wrap-idle a.work.now a.w _ c.word-tag.ensures (λ z. omega arith) (λ z. omega arith) (λ z. omega arith)))
 
 walk-returns-2 : (t : ℕ) → walk-lts.Need-returns-then-tag-gt-BINDER (walk-claims t) (walk_at t) walk.Post
 walk-returns-2 t c =
-    fits-within c.args.table.now (c.args.start + step_limit + step_limit) c.args.x.count (omega (arith, c.requires.1.0.room)) (name-idle _ c.args.table.now c.args.start c.args.number c.args.x.count c.args.x.binding c.requires.1.0 (wrap-idle c.args.work.now c.args.w _ c.word-tag.ensures (λ z. omega arith) (λ z. omega arith) (λ z. omega arith)))
+    let a = c.args in
+    let pre = c.requires in
+    fits-within a.table.now (a.start + step_limit + step_limit) a.count (omega (arith, pre.1.room)) (name-idle _ a.table.now a.start a.number a.count a.binding pre.1 (wrap-idle a.work.now a.w _ c.word-tag.ensures (λ z. omega arith) (λ z. omega arith) (λ z. omega arith)))
 
-walk-walked-requires : (t : ℕ) → walk-lts.Need-walked-y-requires (walk-claims t) (walk_at t) walk.Post
+walk-walked-requires : (t : ℕ) → walk-lts.Need-walked-s-requires (walk-claims t) (walk_at t) walk.Post
 walk-walked-requires t c κs =
-    (omega (arith, wrap-falls c.args.work.now c.args.w _ c.word-tag.ensures 2 _ c.if-tag-eq0.false c.reference-inner.ensures, c.requires.0), c.requires.1)
+    let a = c.args in
+    let pre = c.requires in
+    (omega (arith, wrap-falls a.work.now a.w _ c.word-tag.ensures 2 _ c.if-tag-eq0.false c.reference-inner.ensures), pre.1)
 
-walk-returns-3 : (t : ℕ) → walk-lts.Need-returns-then-table-y (walk-claims t) (walk_at t) walk.Post
+walk-returns-3 : (t : ℕ) → walk-lts.Need-returns-then-table-n (walk-claims t) (walk_at t) walk.Post
 walk-returns-3 t c =
-    fits_on c.if-table-y.true c.walked-y.ensures
+    fits_on c.if-table-n.true c.walked-s.ensures
 
 walk-mark-requires : (t : ℕ) → walk-lts.Need-mark-k-requires (walk-claims t) (walk_at t) walk.Post
 walk-mark-requires t c κs =
-    (c.walked-y.ensures.within c.if-table-y.false).hand
+    (c.walked-s.ensures.within c.if-table-n.false).hand
 
 walk-returns-4 : (t : ℕ) → walk-lts.Need-returns-then-tag-eq-MARK (walk-claims t) (walk_at t) walk.Post
 walk-returns-4 t c =
-    let args' = c.args in
-    fits_wider c.mark-k.new.marks (args'.start + step_limit) (args'.start + step_limit + step_limit) c.mark-k.result (omega arith) (fits-then c.mark-k.ensures (walk-mark args'.work.now args'.w _ c.word-tag.ensures _ c.reference-inner.ensures args'.table.now _ args'.start args'.number args'.x.count args'.x.binding _ _ (c.walked-y.ensures.within c.if-table-y.false) _ c.if-tag-eq-MARK.true c.word-m.ensures _ _))
+    let a = c.args in
+    fits_wider c.mark-k.new.marks (a.start + step_limit) (a.start + step_limit + step_limit) c.mark-k.result (omega arith) (fits-then c.mark-k.ensures (walk-mark a.work.now a.w _ c.word-tag.ensures _ c.reference-inner.ensures a.table.now _ a.start a.number a.count a.binding _ _ (c.walked-s.ensures.within c.if-table-n.false) _ c.if-tag-eq-MARK.true c.word-m.ensures _ _))
 
 walk-walked-requires-2 : (t : ℕ) → walk-lts.Need-walked-requires (walk-claims t) (walk_at t) walk.Post
 walk-walked-requires-2 t c κs =
-    let stands = stands_after c.args.work.now c.args.base _ c.args.table.now _ c.args.start c.args.number c.args.x.count c.args.x.binding _ _ (c.walked-y.ensures.within c.if-table-y.false) c.requires.1.1 in
-    let outside = stands-outside c.args.work.now c.args.base _ _ c.args.start _ stands in (
-      omega (arith, wrap-falls c.args.work.now c.args.w _ c.word-tag.ensures 3 _ c.if-tag-eq0.false c.reference-outer.ensures, c.requires.0),
-      ((c.walked-y.ensures.within c.if-table-y.false).hand, rw c.base_outside.ensures outside),
-    )
+    let a = c.args in
+    let pre = c.requires in
+    (omega (arith, wrap-falls a.work.now a.w _ c.word-tag.ensures 3 _ c.if-tag-eq0.false c.reference-outer.ensures, pre.0), (c.walked-s.ensures.within c.if-table-n.false).hand)
 
 walk-returns-5 : (t : ℕ) → walk-lts.Need-returns-then-tag-eq-JOIN (walk-claims t) (walk_at t) walk.Post
 walk-returns-5 t c =
-    let args' = c.args in
-    fits-then c.walked.ensures (walk-join args'.work.now args'.w _ c.word-tag.ensures _ c.reference-inner.ensures args'.table.now _ args'.start args'.number args'.x.count args'.x.binding _ _ (c.walked-y.ensures.within c.if-table-y.false) _ c.if-tag-eq-JOIN.true c.reference-outer.ensures _ _ _)
+    let a = c.args in
+    fits-then c.walked.ensures (walk-join a.work.now a.w _ c.word-tag.ensures _ c.reference-inner.ensures a.table.now _ a.start a.number a.count a.binding _ _ (c.walked-s.ensures.within c.if-table-n.false) _ c.if-tag-eq-JOIN.true c.reference-outer.ensures _ _ _)
 
 walk-rebind-requires : (t : ℕ) → walk-lts.Need-rebind-requires (walk-claims t) (walk_at t) walk.Post
 walk-rebind-requires t c κs =
-    let stands = stands_after c.args.work.now c.args.base _ c.args.table.now _ c.args.start c.args.number c.args.x.count c.args.x.binding _ _ (c.walked-y.ensures.within c.if-table-y.false) c.requires.1.1 in
-    ((c.walked-y.ensures.within c.if-table-y.false).hand, rw (← c.reference-inner.ensures) stands)
+    (c.walked-s.ensures.within c.if-table-n.false).hand
 
 walk-returns-6 : (t : ℕ) → walk-lts.Need-returns (walk-claims t) (walk_at t) walk.Post
 walk-returns-6 t c =
-    let args' = c.args in
-    fits-then c.rebind.ensures (walk-binder args'.work.now args'.w _ c.word-tag.ensures _ c.reference-inner.ensures args'.table.now _ args'.start args'.number args'.x.count args'.x.binding _ _ (c.walked-y.ensures.within c.if-table-y.false) (omega (arith, c.if-tag-eq0.false, c.if-tag-gt-BINDER.false, c.if-tag-eq-MARK.false, c.if-tag-eq-JOIN.false)) _ _ _)
+    let a = c.args in
+    fits-then c.rebind.ensures (walk-binder a.work.now a.w _ c.word-tag.ensures _ c.reference-inner.ensures a.table.now _ a.start a.number a.count a.binding _ _ (c.walked-s.ensures.within c.if-table-n.false) (omega (arith, c.if-tag-eq0.false, c.if-tag-gt-BINDER.false, c.if-tag-eq-MARK.false, c.if-tag-eq-JOIN.false)) _ _ _)
 
 abbrev walked-claims : ℕ → walked-lts.Claims
 walked-claims t = (walk-below t, walk.Post)
 
 walked-returns : (t : ℕ) → walked-lts.Need-returns-then-w-eq0 (walked-claims t) (walked_at t) walked.Post
 walked-returns t c =
-    fits-within c.args.table.now (c.args.start + step_limit + step_limit) c.args.x.count (omega (arith, c.requires.1.0.room)) (name-idle _ c.args.table.now c.args.start c.args.number c.args.x.count c.args.x.binding c.requires.1.0 (wrap-none c.args.work.now c.args.w c.if-w-eq0.true))
+    let a = c.args in
+    let pre = c.requires in
+    fits-within a.table.now (a.start + step_limit + step_limit) a.count (omega (arith, pre.1.room)) (name-idle _ a.table.now a.start a.number a.count a.binding pre.1 (wrap-none a.work.now a.w c.if-w-eq0.true))
 
 walked-walk-requires : (t : ℕ) → walked-lts.Need-walk-requires (walked-claims t) (walked_at t) walked.Post
 walked-walk-requires t c κs =
-    (omega (arith, c.requires.0), c.requires.1)
+    let pre = c.requires in
+    (omega (arith, pre.0), pre.1)
 
 walked-returns-2 : (t : ℕ) → walked-lts.Need-returns (walked-claims t) (walked_at t) walked.Post
-walked-returns-2 t c =
-    c.walk.ensures
+walked-returns-2 t c = c.walk.ensures
 
 pub +walk_walked_spec : {M : Type 1} → statement M
 +walk_walked_spec = close μ-walk μ-walked (λ t. walk-lts.spec (walk-claims t) (walk_at t)
@@ -125,7 +126,6 @@ pub +walk_walked_spec : {M : Type 1} → statement M
     (λ c. search rules)  -- walk-same-length-2
     (walk-returns-4 t)
     (λ c κs. search rules)  -- walk-reference-requires-2
-    (λ c κs. search rules)  -- walk-base-outside-requires
     (walk-walked-requires-2 t)
     (λ c. search rules)  -- walk-same-length-3
     (walk-returns-5 t)

@@ -2,6 +2,11 @@
 use borrow.Author.Rules.{rules}
 use Rattle.rule_cells.proofs.variables.is_variable.Statement.{statement}
 use Rattle.rule_cells.proofs.variables.is_variable.Tie as tie
+use Rattle.rule_cells.proofs.variables.is_variable.Reads as reads
+use Rattle.rule_cells.proofs.variables.is_variable.Lts as lts
+use Rattle.resolution.proofs.names.number_of.Reads as number-of-reads
+use Rattle.rule_cells.proofs.dots.is_ellipsis.Reads as is-ellipsis-reads
+use Rattle.rule_cells.proofs.variables.is_literal.Reads as is-literal-reads
 use mathlib.Core.Path.{refl, sym, ap, ◌∙◌}
 use Rattle.arena.specs.Arena.{word_at, name_at, tree_at}
 use Rattle.rule_cells.specs.GatherLaws.{dots-no-variable, wildcard-no-variable, literal-no-variable, a-variable}
@@ -18,20 +23,14 @@ returns-2 c =
     let number_is = name_at-number a.work.now a.node a.form.wrap ∙ sym c.number_of.ensures in
     sym (wildcard-no-variable (dots_of a.work.now a.form) (literals_of a.work.now a.form) (name_at a.work.now a.node a.form.wrap) (sym c.is_ellipsis.ensures ∙ c.if-is_ellipsis.false) (number_is ∙ c.if-number_of-eq-WILDCARD.true))
 
-returns-3 : tie.Need-returns-then-is_copied
+returns-3 : tie.Need-returns-then-is_literal
 returns-3 c =
-    let a = c.args in
-    let number_is = name_at-number a.work.now a.node a.form.wrap ∙ sym c.number_of.ensures in
-    sym (literal-no-variable (dots_of a.work.now a.form) (literals_of a.work.now a.form) (name_at a.work.now a.node a.form.wrap) (sym c.is_ellipsis.ensures ∙ c.if-is_ellipsis.false) (λ z. c.if-number_of-eq-WILDCARD.false (sym number_is ∙ z)) (c.is_copied.ensures c.if-is_copied.true))
-
-returns-4 : tie.Need-returns-then-is_literal
-returns-4 c =
     let a = c.args in
     let number_is = name_at-number a.work.now a.node a.form.wrap ∙ sym c.number_of.ensures in
     sym (literal-no-variable (dots_of a.work.now a.form) (literals_of a.work.now a.form) (name_at a.work.now a.node a.form.wrap) (sym c.is_ellipsis.ensures ∙ c.if-is_ellipsis.false) (λ z. c.if-number_of-eq-WILDCARD.false (sym number_is ∙ z)) (sym c.if-is_literal.true ∙ c.is_literal.ensures))
 
-returns-5 : tie.Need-returns
-returns-5 c =
+returns-4 : tie.Need-returns
+returns-4 c =
     let a = c.args in
     let number_is = name_at-number a.work.now a.node a.form.wrap ∙ sym c.number_of.ensures in
     sym (a-variable (dots_of a.work.now a.form) (literals_of a.work.now a.form) (name_at a.work.now a.node a.form.wrap) (sym c.is_ellipsis.ensures ∙ c.if-is_ellipsis.false) (λ z. c.if-number_of-eq-WILDCARD.false (sym number_is ∙ z)) (sym c.if-is_literal.false ∙ c.is_literal.ensures))
@@ -44,8 +43,6 @@ is_variable_spec =
     returns
     (λ c κs. search rules)  -- number-of-requires
     returns-2
-    (λ c κs. search rules)  -- is-copied-requires
-    returns-3
     (λ c κs. search rules)  -- is-literal-requires
-    returns-4
-    returns-5)
+    returns-3
+    returns-4)
