@@ -3,7 +3,7 @@ use Rattle.std.specs.Prelude.{◌≡◌, refl, true, List, [], ◌∷◌, ◌++�
 use Rattle.std.proofs.Common.{subst, ◌∙◌, append_assoc, arith, eqb-true, length-append}
 use Rattle.std.proofs.lemmas.Bool.{eqb-false}
 use Rattle.words.specs.Text.{bytes}
-use Rattle.core_term.specs.Decimal.{numeral}
+use Rattle.core_term.specs.Decimal.{decimal}
 use Rattle.core_term.specs.Text.{spaced_after, spaced}
 use Rattle.core_term.specs.TextRoom.{limit}
 use Rattle.core_term.proofs.TextRoomLaws.{number-room}
@@ -25,7 +25,7 @@ line_most = 26
 
 -- refused, the ground, and what stands behind it
 abbrev pub refusal : (ground_number : ℕ) (behind : List ℕ) → List ℕ
-refusal ground_number behind = (114 ∷ 101 ∷ 102 ∷ 117 ∷ 115 ∷ 101 ∷ 100 ∷ []) ++ ((32 ∷ numeral ground_number) ++ behind)
+refusal ground_number behind = (114 ∷ 101 ∷ 102 ∷ 117 ∷ 115 ∷ 101 ∷ 100 ∷ []) ++ ((32 ∷ decimal ground_number) ++ behind)
 
 -- what is printed for an answer
 unfoldable pub line_of : Answer → List ℕ
@@ -50,7 +50,7 @@ recipe-laid ground_number = simp append_assoc
 
 -- the room of a refusal
 pub refusal-room : (ground_number : ℕ) (behind : List ℕ) → ground_number < limit → length behind ≤ 8 → length (refusal ground_number behind) ≤ line_most
-refusal-room ground_number behind h k = omega (arith, length-append (32 ∷ numeral ground_number) behind, number-room ground_number h)
+refusal-room ground_number behind h k = omega (arith, length-append (32 ∷ decimal ground_number) behind, number-room ground_number h)
 
 pub printed-is : (y x d e : List ℕ) (n : ℕ) → x ≡ y → Printed x d e n → Printed y d e n
 printed-is y x d e n same p = subst (λ (z : List ℕ). Printed z d e n) same p

@@ -4,7 +4,7 @@ use Rattle.words.specs.Limits.{item_words_least, name_bytes_least, fuel_most, wo
 use Rattle.words.specs.Text.{bytes}
 use Rattle.reading.specs.Elements.{Answer, got, refused_for}
 use Rattle.reading.specs.Read.{Recipe, read, read_elements, item_words, name_bytes}
-use Rattle.core_term.specs.Decimal.{numeral}
+use Rattle.core_term.specs.Decimal.{decimal}
 use Rattle.expansion.specs.Run.{Outcome, accepted, refused_on, unfinished, Run, core_of, run}
 use Rattle.comparison.specs.Compare as C
 use Rattle.comparison.specs.Compare.{Verdict, yes, no, comparison}
@@ -12,7 +12,7 @@ use Rattle.output.specs.Output.{line}
 
 -- refused, the ground, and whose text it is about
 unfoldable pub refused_line : (ground_number : ℕ) (whose : List ℕ) → List ℕ
-refused_line ground_number whose = line (bytes "refused" ∷ numeral ground_number ∷ whose ∷ [])
+refused_line ground_number whose = line (bytes "refused" ∷ decimal ground_number ∷ whose ∷ [])
 
 unfoldable pub recipe_refused : (ground_number : ℕ) → List ℕ
 unfolding refused_line

@@ -25,7 +25,7 @@ unfoldable pub output_for : Row → List ℕ
 unfolding
     bytes NameTable.slot NameTable.slots Read.read Read.read_elements Read.item_words Read.name_bytes
     computed compared
-    Decimal.leading Decimal.digits_by Decimal.numeral Text.spaced_after Text.spaced
+    Decimal.leading Decimal.digits_by Decimal.decimal Text.spaced_after Text.spaced
     line refused_line recipe_refused verdict_line printed printed_for output_of output
 output_for r = output (bytes r.recipe) (bytes r.text)
 

@@ -9,7 +9,7 @@ use mir.Syntax.{w32}
 use Rattle.std.proofs.Math.Facts.{to_z_pos, sfits_to_z}
 use borrow.Author.Tests.{ltb-true, ltb-false}
 use Rattle.words.specs.ListLaws.{either}
-use Rattle.core_term.specs.Decimal.{leading, digits_by, numeral, value_after, value, padded, pointed, signed, integer_text, decimal_text}
+use Rattle.core_term.specs.Decimal.{leading, digits_by, decimal, value_after, value, padded, pointed, signed, integer_text, decimal_text}
 
 -- one digit or more
 digits-case : {X : Type 0} (n : ℕ) → (n < 10 → X) → (10 ≤ n → X) → X
@@ -41,38 +41,38 @@ digits-any (suc f) (suc g) n h k =
 
 -- ---- decimal
 
-numeral-by : (n : ℕ) → digits_by (suc n) n ≡ numeral n
-unfolding numeral
-numeral-by n = refl
+decimal-by : (n : ℕ) → digits_by (suc n) n ≡ decimal n
+unfolding decimal
+decimal-by n = refl
 
-digits_of : (n : ℕ) → numeral n ≡ leading (digits_by n) (n / 10) ++ ((48 + n % 10) ∷ [])
-unfolding numeral digits_by
+digits_of : (n : ℕ) → decimal n ≡ leading (digits_by n) (n / 10) ++ ((48 + n % 10) ∷ [])
+unfolding decimal digits_by
 digits_of n = refl
 
-pub numeral-one : (n : ℕ) → n < 10 → numeral n ≡ (48 + n) ∷ []
-unfolding numeral digits_by leading
-numeral-one n h =
+pub decimal-one : (n : ℕ) → n < 10 → decimal n ≡ (48 + n) ∷ []
+unfolding decimal digits_by leading
+decimal-one n h =
     let e : n / 10 ≡ 0 = omega arith in
     let g : n % 10 ≡ n = omega arith in
     rw (e, g)
 
-pub numeral-more : (n : ℕ) → 10 ≤ n → numeral n ≡ numeral (n / 10) ++ ((48 + n % 10) ∷ [])
-numeral-more n h =
+pub decimal-more : (n : ℕ) → 10 ≤ n → decimal n ≡ decimal (n / 10) ++ ((48 + n % 10) ∷ [])
+decimal-more n h =
     let l : 1 ≤ n / 10 = omega arith in
-    digits_of n ∙ ap (λ (s : List ℕ). s ++ ((48 + n % 10) ∷ [])) (leading-some (digits_by n) (n / 10) l ∙ digits-any n (suc (n / 10)) (n / 10) (omega arith) (omega arith) ∙ numeral-by (n / 10))
+    digits_of n ∙ ap (λ (s : List ℕ). s ++ ((48 + n % 10) ∷ [])) (leading-some (digits_by n) (n / 10) l ∙ digits-any n (suc (n / 10)) (n / 10) (omega arith) (omega arith) ∙ decimal-by (n / 10))
 
 -- a number below 10 to the k + 1 has at most k + 1 digits
-pub numeral-count : (k n : ℕ) → n < 10 ^ suc k → length (numeral n) ≤ suc k
-numeral-count zero n h = rw (numeral-one n h) (omega arith)
-numeral-count (suc k) n h =
+pub decimal-count : (k n : ℕ) → n < 10 ^ suc k → length (decimal n) ≤ suc k
+decimal-count zero n h = rw (decimal-one n h) (omega arith)
+decimal-count (suc k) n h =
     digits-case n
-    (λ l. rw (numeral-one n l) (omega arith))
+    (λ l. rw (decimal-one n l) (omega arith))
     (λ l. let d : n / 10 < 10 ^ suc k = omega (arith, pow-succ' 10 (suc k)) in
-    rw (numeral-more n l) (omega (arith, length-append (numeral (n / 10)) ((48 + n % 10) ∷ []), numeral-count k (n / 10) d)))
+    rw (decimal-more n l) (omega (arith, length-append (decimal (n / 10)) ((48 + n % 10) ∷ []), decimal-count k (n / 10) d)))
 
 -- a word's number has at most ten
-pub numeral-word : (n : ℕ) → n < 4294967296 → length (numeral n) ≤ 10
-numeral-word n h = numeral-count 9 n (omega arith)
+pub decimal-word : (n : ℕ) → n < 4294967296 → length (decimal n) ≤ 10
+decimal-word n h = decimal-count 9 n (omega arith)
 
 -- ---- value
 
@@ -81,25 +81,25 @@ unfolding value_after
 value-append m [] ys = refl
 value-append m (c ∷ xs) ys = value-append (10 * m + (c - 48)) xs ys
 
-value-by : (f n : ℕ) → n < f → value (numeral n) ≡ n
+value-by : (f n : ℕ) → n < f → value (decimal n) ≡ n
 unfolding value value_after
 value-by zero n h = absurd (omega arith)
 value-by (suc f) n h =
     digits-case n
-    (λ l. rw (numeral-one n l) (omega arith))
-    (λ l. rw (numeral-more n l) (value-append 0 (numeral (n / 10)) ((48 + n % 10) ∷ [])
+    (λ l. rw (decimal-one n l) (omega arith))
+    (λ l. rw (decimal-more n l) (value-append 0 (decimal (n / 10)) ((48 + n % 10) ∷ [])
     ∙ ap (λ (v : ℕ). 10 * v + (48 + n % 10 - 48)) (value-by f (n / 10) (omega arith)) ∙ last n))
   where
     last : (n : ℕ) → 10 * (n / 10) + (48 + n % 10 - 48) ≡ n
     last n = omega arith
 
 -- the digits' value is the number
-pub value-numeral : (n : ℕ) → value (numeral n) ≡ n
-value-numeral n = value-by (suc n) n (omega arith)
+pub value-decimal : (n : ℕ) → value (decimal n) ≡ n
+value-decimal n = value-by (suc n) n (omega arith)
 
 -- ---- with a sign
 
-pub integer-plain : (w : ℕ) → w < 2147483648 → integer_text w ≡ numeral w
+pub integer-plain : (w : ℕ) → w < 2147483648 → integer_text w ≡ decimal w
 unfolding integer_text signed
 integer-plain w h = rw (to_z_pos w32 h)
 
@@ -126,7 +126,7 @@ module _ (text : ℕ → List ℕ) where
 
 pub integer-room : (w : ℕ) → length (integer_text w) ≤ 11
 unfolding integer_text
-integer-room w = signed-length numeral w 10 numeral-word
+integer-room w = signed-length decimal w 10 decimal-word
 
 pub padded-length : (k n : ℕ) → length (padded k n) ≡ suc k
 unfolding padded
@@ -142,8 +142,8 @@ decimal-room w places h =
           let whole = n / 10 ^ places in
           omega (
             arith,
-            numeral-word whole (omega (arith, div-le_self n (10 ^ places))),
-            length-append (numeral whole) (46 ∷ padded (places - 1) (n % 10 ^ places)),
+            decimal-word whole (omega (arith, div-le_self n (10 ^ places))),
+            length-append (decimal whole) (46 ∷ padded (places - 1) (n % 10 ^ places)),
             padded-length (places - 1) (n % 10 ^ places),
           )),
     )
@@ -162,13 +162,13 @@ module _ (w : ℕ) (word : Fits w32 w) (z : ℤ) (value : z ≡ to_z w32 w) (n :
     word-above : lt_z (to_z w32 (of_z w32 z)) (pos 0) ≡ false → text n ≡ signed text (to_z w32 w)
     word-above h = ap text size ∙ signed_above text (to_z w32 (of_z w32 z)) h ∙ ap (signed text) back
 
-  pub integer-below : lt_z (to_z w32 (of_z w32 z)) (pos 0) ≡ true → 45 ∷ numeral n ≡ integer_text w
+  pub integer-below : lt_z (to_z w32 (of_z w32 z)) (pos 0) ≡ true → 45 ∷ decimal n ≡ integer_text w
   unfolding integer_text
-  integer-below = word_below numeral
+  integer-below = word_below decimal
 
-  pub integer-above : lt_z (to_z w32 (of_z w32 z)) (pos 0) ≡ false → numeral n ≡ integer_text w
+  pub integer-above : lt_z (to_z w32 (of_z w32 z)) (pos 0) ≡ false → decimal n ≡ integer_text w
   unfolding integer_text
-  integer-above = word-above numeral
+  integer-above = word-above decimal
 
   pub decimal-below : (places : ℕ) → lt_z (to_z w32 (of_z w32 z)) (pos 0) ≡ true → 45 ∷ pointed places n ≡ decimal_text w places
   unfolding decimal_text

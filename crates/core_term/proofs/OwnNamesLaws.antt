@@ -15,7 +15,7 @@ use Rattle.core_term.specs.Node.{lambda_n}
 use Rattle.core_term.specs.NodeLaws.{both}
 use Rattle.core_term.specs.Term.{variable_c, operation_c, datum_c, if_c, lambda_c, application_c, none_c, more_c, Plain, Plains, variables, formals_of, formals_all}
 use Rattle.core_term.specs.TermLaws.{formals-count}
-use Rattle.core_term.specs.Decimal.{numeral}
+use Rattle.core_term.specs.Decimal.{decimal}
 use Rattle.core_term.specs.Every.{every, every_term}
 use Rattle.core_term.specs.Check.{Scope, outside, inside, variable_inside, first_number, asked, scoped, numbered, term_of}
 use Rattle.core_term.proofs.OfCode.CheckLaws.{accepted}
@@ -56,7 +56,7 @@ module _ (called : List ℕ) where
   module _ (spell : ℕ → List ℕ) where
     own-variable : (n name : ℕ) → get_or called n 0 ≡ name → variable_text spell called n ≡ variable_as spell n name
     unfolding variable_text variable_as
-    own-variable n name e = ap (λ (m : ℕ). 118 ∷ (numeral n ++ (46 ∷ spell m))) e
+    own-variable n name e = ap (λ (m : ℕ). 118 ∷ (decimal n ++ (46 ∷ spell m))) e
 
     -- a lambda's formals have its own names
     own-formals : (names : List ℕ) (b : ℕ) → Holds b names → formal_texts spell called b (length names) ≡ formals_as spell b names

@@ -22,7 +22,7 @@ use Rattle.core_term.specs.Term.{variable_c, operation_c, datum_c, if_c, lambda_
 use Rattle.core_term.specs.TermLaws.{formals-count}
 use Rattle.core_term.specs.Words.{datum_words, data_words, encode, encode_all}
 use Rattle.core_term.specs.Decimal as N
-use Rattle.core_term.proofs.DecimalLaws.{numeral-count, integer-room, decimal-room}
+use Rattle.core_term.proofs.DecimalLaws.{decimal-count, integer-room, decimal-room}
 use Rattle.core_term.specs.Text.{spaced_after, spaced, parenthesized, variable_text, operation_text, formal_texts, constant_text, bare, bares, outermost, text_in, texts_in, text}
 use Rattle.core_term.specs.Every.{Asked, every_datum, every_data, every, every_term, proper, well_formed}
 use Rattle.core_term.specs.EveryLaws.{every-from}
@@ -30,8 +30,8 @@ use Rattle.core_term.specs.Check.{Scope, outside, inside, variable_inside, first
 use Rattle.core_term.proofs.OfCode.CheckLaws.{Accepted}
 use Rattle.core_term.specs.TextRoom.{limit, narrow, narrow_node, text_rate, text_words_most}
 
-pub number-room : (n : ℕ) → n < limit → length (N.numeral n) ≤ 10
-number-room n h = numeral-count 9 n h
+pub number-room : (n : ℕ) → n < limit → length (N.decimal n) ≤ 10
+number-room n h = decimal-count 9 n h
 
 -- ---- texts in a list
 
@@ -81,7 +81,7 @@ module _ (names called : List ℕ) (few : length called < limit) (good : (k : �
   variable-room : (n : ℕ) → n < length called → length (variable_text spell called n) ≤ 75
   unfolding variable_text
   variable-room n h =
-      omega (arith, number-room n (omega arith), name-room names (get_or called n 0) (good n h), length-append (N.numeral n) (46 ∷ spell (get_or called n 0)))
+      omega (arith, number-room n (omega arith), name-room names (get_or called n 0) (good n h), length-append (N.decimal n) (46 ∷ spell (get_or called n 0)))
 
   formals-room : (first n : ℕ) → first + n ≤ length called → widths (formal_texts spell called first n) ≤ 76 * n
   unfolding formal_texts widths

@@ -13,8 +13,8 @@ unfoldable pub digits_by : ℕ → ℕ → List ℕ
 digits_by zero n = []
 digits_by (suc gas) n = leading (digits_by gas) (n / 10) ++ ((48 + n % 10) ∷ [])
 
-unfoldable pub numeral : ℕ → List ℕ
-numeral n = digits_by (suc n) n
+unfoldable pub decimal : ℕ → List ℕ
+decimal n = digits_by (suc n) n
 
 -- the number that digits show, after a number that earlier ones show
 unfoldable pub value_after : ℕ → List ℕ → ℕ
@@ -31,7 +31,7 @@ padded (suc k) n = (48 + n / 10 ^ suc k) ∷ padded k (n % 10 ^ suc k)
 
 -- the whole part, with no zero that leads but its own, a dot, and as many digits as places
 unfoldable pub pointed : (places n : ℕ) → List ℕ
-pointed places n = numeral (n / 10 ^ places) ++ (46 ∷ padded (places - 1) (n % 10 ^ places))
+pointed places n = decimal (n / 10 ^ places) ++ (46 ∷ padded (places - 1) (n % 10 ^ places))
 
 -- a size's text, with a minus below 0
 unfoldable pub signed : (ℕ → List ℕ) → ℤ → List ℕ
@@ -40,7 +40,7 @@ signed text (negsuc n) = 45 ∷ text (suc n)
 
 -- the integer with a word's two's complement bits
 unfoldable pub integer_text : ℕ → List ℕ
-integer_text w = signed numeral (to_z w32 w)
+integer_text w = signed decimal (to_z w32 w)
 
 -- the decimal whose value without the dot has these bits
 unfoldable pub decimal_text : (w places : ℕ) → List ℕ

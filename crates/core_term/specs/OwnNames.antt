@@ -3,7 +3,7 @@
 use Rattle.std.specs.Prelude.{cond, ◌&&◌, List, [], ◌∷◌, ◌++◌, ℕ, suc, ◌+◌, ◌-◌, leb, ltb, length, get_or}
 use Rattle.words.specs.Text.{bytes}
 use Rattle.core_term.specs.Term.{variable_c, operation_c, datum_c, if_c, lambda_c, application_c, none_c, more_c, Plain, Plains}
-use Rattle.core_term.specs.Decimal.{numeral}
+use Rattle.core_term.specs.Decimal.{decimal}
 use Rattle.core_term.specs.Text.{parenthesized, operation_text, outermost}
 
 -- the name of each variable whose lambda is around
@@ -20,7 +20,7 @@ bound e first names n = cond (leb first n && ltb n (first + length names)) (get_
 module _ (spell : ℕ → List ℕ) where
   -- v0.t
   unfoldable pub variable_as : ℕ → ℕ → List ℕ
-  variable_as n name = 118 ∷ (numeral n ++ (46 ∷ spell name))
+  variable_as n name = 118 ∷ (decimal n ++ (46 ∷ spell name))
 
   -- v0.t v1.u: numbers from the first on, and a lambda's names
   unfoldable pub formals_as : ℕ → List ℕ → List (List ℕ)

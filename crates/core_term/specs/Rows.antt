@@ -7,7 +7,7 @@ use Rattle.words.specs.Text.{bytes}
 use Rattle.datum.specs.NameTable.{has_name, length_at, name_at, slot}
 use Rattle.core_term.specs.Term.{Plain}
 use Rattle.core_term.specs.Check.{term_of}
-use Rattle.core_term.specs.Decimal.{leading, digits_by, numeral, padded, pointed, signed, integer_text, decimal_text}
+use Rattle.core_term.specs.Decimal.{leading, digits_by, decimal, padded, pointed, signed, integer_text, decimal_text}
 use Rattle.core_term.specs.Text.{spaced_after, spaced, parenthesized, variable_text, operation_text, formal_texts, constant_text, bare, outermost, text_in, text}
 
 -- nine slots, of which the last is x
@@ -25,7 +25,7 @@ text_or19 table none = bytes "ground 19"
 text_or19 table (some t) = text (name_at table) t
 
 unfoldable shown : ℕ → List ℕ → List ℕ → List ℕ
-unfolding has_name within length_at name_at bytes term_of leading digits_by numeral padded pointed signed integer_text decimal_text spaced_after spaced parenthesized variable_text operation_text formal_texts constant_text bare outermost text_in text text_or19
+unfolding has_name within length_at name_at bytes term_of leading digits_by decimal padded pointed signed integer_text decimal_text spaced_after spaced parenthesized variable_text operation_text formal_texts constant_text bare outermost text_in text text_or19
 shown operations table ws = text_or19 table (term_of operations (has_name table) ws)
 
 record Row : Type 0 where

@@ -4,7 +4,7 @@ use Rattle.words.specs.Text.{bytes}
 use Rattle.datum.specs.Constant.{Constant, decimal_kind}
 use Rattle.datum.specs.Datum.{Datum, constant_d, name_d, list_d, Data, none_d, more_d}
 use Rattle.core_term.specs.Term.{variable_c, operation_c, datum_c, if_c, lambda_c, application_c, none_c, more_c, Plain, Plains, formals_of}
-use Rattle.core_term.specs.Decimal.{numeral, integer_text, decimal_text}
+use Rattle.core_term.specs.Decimal.{decimal, integer_text, decimal_text}
 
 -- single spaces between
 unfoldable pub spaced_after : List ℕ → List (List ℕ) → List ℕ
@@ -20,7 +20,7 @@ parenthesized ts = 40 ∷ (spaced ts ++ (41 ∷ []))
 
 -- o0
 unfoldable pub operation_text : ℕ → List ℕ
-operation_text n = 111 ∷ numeral n
+operation_text n = 111 ∷ decimal n
 
 -- an integer, a decimal with its places, #t or #f
 unfoldable pub constant_text : Constant → List ℕ
@@ -50,7 +50,7 @@ module _ (spell : ℕ → List ℕ) where
 module _ (spell : ℕ → List ℕ) (called : List ℕ) where
   -- v0.t, at formals and at every use
   unfoldable pub variable_text : ℕ → List ℕ
-  variable_text n = 118 ∷ (numeral n ++ (46 ∷ spell (get_or called n 0)))
+  variable_text n = 118 ∷ (decimal n ++ (46 ∷ spell (get_or called n 0)))
 
   -- v0.t v1.u: n variables from the first
   unfoldable pub formal_texts : ℕ → ℕ → List (List ℕ)

@@ -11,7 +11,7 @@ use Rattle.datum.specs.NameTable.{has_name}
 use Rattle.reading.specs.Elements.{Answer, got, refused_for}
 use Rattle.reading.specs.Read.{Recipe, read, item_words, name_bytes}
 use Rattle.reading_layout.specs.Answers.{read-ground}
-use Rattle.core_term.specs.Decimal.{numeral}
+use Rattle.core_term.specs.Decimal.{decimal}
 use Rattle.core_term.specs.Text.{spaced_after, spaced}
 use Rattle.core_term.proofs.OfCode.CheckLaws as C
 use Rattle.core_term.specs.TextRoom.{limit}
@@ -38,15 +38,15 @@ unfolding counts_text
 counts-room steps sum p q =
     omega (
       arith,
-      length-append (32 ∷ numeral steps) ((32 ∷ numeral sum) ++ (10 ∷ [])),
-      length-append (32 ∷ numeral sum) (10 ∷ []),
+      length-append (32 ∷ decimal steps) ((32 ∷ decimal sum) ++ (10 ∷ [])),
+      length-append (32 ∷ decimal sum) (10 ∷ []),
       number-room steps p,
       number-room sum q,
     )
 
 refusal-room : (ground_number steps sum : ℕ) → ground_number < limit → steps < limit → sum < limit → length (refusal ground_number steps sum) ≤ 41
 refusal-room ground_number steps sum g p q =
-    omega (arith, ap length (refusal-laid ground_number steps sum), length-append (32 ∷ numeral ground_number) (counts_text steps sum), number-room ground_number g, counts-room steps sum p q)
+    omega (arith, ap length (refusal-laid ground_number steps sum), length-append (32 ∷ decimal ground_number) (counts_text steps sum), number-room ground_number g, counts-room steps sum p q)
 
 header-room : (steps sum : ℕ) → steps < limit → sum < limit → length (header steps sum) ≤ 31
 header-room steps sum p q = omega (arith, ap length (header-laid steps sum), counts-room steps sum p q)

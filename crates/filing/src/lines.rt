@@ -1,6 +1,6 @@
 // The lines that open an output, laid from a place on. Without ink nothing is laid: the same call then tells the length.
 ghost use Rattle.std.specs.Prelude.{◌∷◌, ◌≤◌, length};
-ghost use Rattle.core_term.specs.Decimal.{numeral};
+ghost use Rattle.core_term.specs.Decimal.{decimal};
 ghost use Rattle.output.specs.Output.{refusal, header};
 ghost use Rattle.writer.specs.Put.{put_of};
 ghost use Rattle.writer.specs.Laid.{Left};
@@ -12,7 +12,7 @@ use writer::numbers::{numbered, wide};
 // A space and a number.
 fn number(n: u32, out: &mut [u8], at: usize, ink: bool) -> usize
     requires { at ≤ length out.old }
-    ensures { Left ink (32 ∷ numeral n) at out.old out.new (put_of result) }
+    ensures { Left ink (32 ∷ decimal n) at out.old out.new (put_of result) }
 {
     numbered(b' ', wide(n), out, at, ink)
 }

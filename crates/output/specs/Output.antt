@@ -8,7 +8,7 @@ use Rattle.reading.specs.Elements.{Answer, got, refused_for}
 use Rattle.reading.specs.Read.{Recipe, read, item_words, name_bytes}
 use Rattle.recipe.specs.Name.{Name}
 use Rattle.core_term.specs.Term.{Term}
-use Rattle.core_term.specs.Decimal.{numeral}
+use Rattle.core_term.specs.Decimal.{decimal}
 use Rattle.core_term.specs.Text.{spaced, text}
 use Rattle.expansion.specs.Run.{Outcome, accepted, refused_on, unfinished, Run, told, run}
 
@@ -18,11 +18,11 @@ line ws = spaced ws ++ (10 ∷ [])
 
 -- refused, the ground, the two counts
 unfoldable pub refusal : (ground_number steps sum : ℕ) → List ℕ
-refusal ground_number steps sum = line (bytes "refused" ∷ numeral ground_number ∷ numeral steps ∷ numeral sum ∷ [])
+refusal ground_number steps sum = line (bytes "refused" ∷ decimal ground_number ∷ decimal steps ∷ decimal sum ∷ [])
 
 -- accepted, the two counts
 unfoldable pub header : (steps sum : ℕ) → List ℕ
-header steps sum = line (bytes "accepted" ∷ numeral steps ∷ numeral sum ∷ [])
+header steps sum = line (bytes "accepted" ∷ decimal steps ∷ decimal sum ∷ [])
 
 -- that, and the text of a term in a line of its own
 unfoldable pub acceptance : (steps sum : ℕ) → List ℕ → List ℕ

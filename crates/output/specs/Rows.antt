@@ -30,7 +30,7 @@ unfolding
     NameTable.slot NameTable.slots NameTable.length_at NameTable.name_at
     Read.read Read.item_words Read.name_bytes
     computed
-    Decimal.leading Decimal.digits_by Decimal.numeral Decimal.padded Decimal.pointed Decimal.signed Decimal.integer_text Decimal.decimal_text
+    Decimal.leading Decimal.digits_by Decimal.decimal Decimal.padded Decimal.pointed Decimal.signed Decimal.integer_text Decimal.decimal_text
     Text.spaced_after Text.spaced Text.parenthesized Text.variable_text Text.operation_text Text.formal_texts Text.constant_text
     Text.bare Text.outermost Text.text_in Text.text
     line refusal header acceptance term_text printed output_of filed output

@@ -3,8 +3,8 @@ use Rattle.std.specs.Prelude.{◌≡◌, refl, true, false, List, [], ◌∷◌,
 use Rattle.std.proofs.Common.{sym, ap, append_assoc, arith, length-append, ltb-true, to_z}
 use Rattle.std.specs.Int.{w32}
 use Rattle.words.specs.Text.{bytes}
-use Rattle.core_term.specs.Decimal.{numeral, signed, integer_text}
-use Rattle.core_term.proofs.DecimalLaws.{numeral-count, numeral-word}
+use Rattle.core_term.specs.Decimal.{decimal, signed, integer_text}
+use Rattle.core_term.proofs.DecimalLaws.{decimal-count, decimal-word}
 use Rattle.core_term.specs.Text.{spaced_after, spaced}
 use Rattle.output.specs.Output.{line}
 use Rattle.evaluation.specs.Numbers.{in_range}
@@ -14,9 +14,9 @@ use Rattle.run_output.specs.Laid.{Fits, counted, output_most}
 
 -- ---- pieces
 
-pub line-counted : (word : List ℕ) (n : ℕ) → counted word n ≡ line (word ∷ numeral n ∷ [])
+pub line-counted : (word : List ℕ) (n : ℕ) → counted word n ≡ line (word ∷ decimal n ∷ [])
 unfolding line spaced spaced_after
-line-counted word n = sym (append_assoc word (32 ∷ numeral n) (10 ∷ []))
+line-counted word n = sym (append_assoc word (32 ∷ decimal n) (10 ∷ []))
 
 -- a word and LF
 pub line-one : (word : List ℕ) → word ++ (10 ∷ []) ≡ line (word ∷ [])
@@ -42,19 +42,19 @@ acceptance-laid r units = ap (λ (x : List ℕ). x ++ value_line r) (line-counte
 
 -- ---- room
 
-counted-room : (word : List ℕ) (n : ℕ) → n < 18446744073709551616 → length (line (word ∷ numeral n ∷ [])) ≤ length word + 22
+counted-room : (word : List ℕ) (n : ℕ) → n < 18446744073709551616 → length (line (word ∷ decimal n ∷ [])) ≤ length word + 22
 unfolding line spaced spaced_after
 counted-room word n h =
-    omega (arith, numeral-count 19 n (omega arith), length-append (word ++ (32 ∷ numeral n)) (10 ∷ []), length-append word (32 ∷ numeral n))
+    omega (arith, decimal-count 19 n (omega arith), length-append (word ++ (32 ∷ decimal n)) (10 ∷ []), length-append word (32 ∷ decimal n))
 
-signed-room : (z : ℤ) → in_range z ≡ true → length (signed numeral z) ≤ 11
+signed-room : (z : ℤ) → in_range z ≡ true → length (signed decimal z) ≤ 11
 unfolding signed in_range
-signed-room (pos n) h = let l : n < 2147483648 = ltb-true n 2147483648 h in omega (arith, numeral-word n (omega arith))
-signed-room (negsuc n) h = let l : n < 2147483648 = ltb-true n 2147483648 h in omega (arith, numeral-word (suc n) (omega arith))
+signed-room (pos n) h = let l : n < 2147483648 = ltb-true n 2147483648 h in omega (arith, decimal-word n (omega arith))
+signed-room (negsuc n) h = let l : n < 2147483648 = ltb-true n 2147483648 h in omega (arith, decimal-word (suc n) (omega arith))
 
 value_room : (r : Result ℤ) → Fits r → length (value_line r) ≤ 27
 unfolding value_line boolean_text line spaced spaced_after bytes
-value_room (number z) h = omega (arith, signed-room z h, length-append (signed numeral z) (10 ∷ []))
+value_room (number z) h = omega (arith, signed-room z h, length-append (signed decimal z) (10 ∷ []))
 value_room (boolean true) h = omega arith
 value_room (boolean false) h = omega arith
 value_room (datum at) h = counted-room (bytes "datum") at h
@@ -64,7 +64,7 @@ value_room operation h = omega arith
 pub acceptance-room : (r : Result ℤ) (units : ℕ) → Fits r → units < 18446744073709551616 → length (acceptance r units) ≤ output_most
 unfolding acceptance bytes
 acceptance-room r units h k =
-    omega (arith, value_room r h, counted-room (bytes "accepted") units k, length-append (line (bytes "accepted" ∷ numeral units ∷ [])) (value_line r))
+    omega (arith, value_room r h, counted-room (bytes "accepted") units k, length-append (line (bytes "accepted" ∷ decimal units ∷ [])) (value_line r))
 
 pub refusal-room : (ground_number : ℕ) → ground_number < 18446744073709551616 → length (refusal ground_number) ≤ output_most
 unfolding refusal bytes

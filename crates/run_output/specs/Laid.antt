@@ -1,6 +1,6 @@
 -- The output as a program lays it, piece by piece; and that any output fits.
 use Rattle.std.specs.Prelude.{◌≡◌, true, List, [], ◌∷◌, ◌++◌, ℕ, ◌+◌, ◌≤◌, ◌<◌, ℤ}
-use Rattle.core_term.specs.Decimal.{numeral}
+use Rattle.core_term.specs.Decimal.{decimal}
 use Rattle.evaluation.specs.Numbers.{in_range}
 use Rattle.evaluation.specs.Run.{Result, number, boolean, datum, closure, operation}
 
@@ -12,7 +12,7 @@ output_most = 57
 
 -- a word, a number behind a space, and LF
 abbrev pub counted : (word : List ℕ) (n : ℕ) → List ℕ
-counted word n = word ++ ((32 ∷ numeral n) ++ (10 ∷ []))
+counted word n = word ++ ((32 ∷ decimal n) ++ (10 ∷ []))
 
 -- ---- room
 

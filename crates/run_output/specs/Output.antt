@@ -4,14 +4,14 @@ use Rattle.words.specs.Limits.{item_words_least, name_bytes_least, fuel_most, wo
 use Rattle.words.specs.Text.{bytes}
 use Rattle.reading.specs.Elements.{Answer, got, refused_for}
 use Rattle.reading.specs.Read.{Recipe, read, item_words}
-use Rattle.core_term.specs.Decimal.{numeral, signed}
+use Rattle.core_term.specs.Decimal.{decimal, signed}
 use Rattle.output.specs.Output.{line}
 use Rattle.evaluation.specs.Run.{Result, number, boolean, datum, closure, operation, Outcome, unfit, refused_on, accepted}
 use Rattle.recipe_runs.specs.RecipeRun.{recipe_run}
 
 -- refused, and the ground
 unfoldable pub refusal : (ground_number : ℕ) → List ℕ
-refusal ground_number = line (bytes "refused" ∷ numeral ground_number ∷ [])
+refusal ground_number = line (bytes "refused" ∷ decimal ground_number ∷ [])
 
 unfoldable pub boolean_text : Bool → List ℕ
 boolean_text true = bytes "#t"
@@ -21,15 +21,15 @@ boolean_text false = bytes "#f"
 -- operation is named as such
 unfoldable pub value_line : Result ℤ → List ℕ
 unfolding boolean_text
-value_line (number z) = line (signed numeral z ∷ [])
+value_line (number z) = line (signed decimal z ∷ [])
 value_line (boolean b) = line (boolean_text b ∷ [])
-value_line (datum at) = line (bytes "datum" ∷ numeral at ∷ [])
+value_line (datum at) = line (bytes "datum" ∷ decimal at ∷ [])
 value_line closure = line (bytes "closure" ∷ [])
 value_line operation = line (bytes "operation" ∷ [])
 
 -- accepted and the units, then the value
 unfoldable pub acceptance : Result ℤ → (units : ℕ) → List ℕ
-acceptance r units = line (bytes "accepted" ∷ numeral units ∷ []) ++ value_line r
+acceptance r units = line (bytes "accepted" ∷ decimal units ∷ []) ++ value_line r
 
 unfoldable pub printed : Outcome (Result ℤ) → List ℕ
 printed (unfit g) = refusal g

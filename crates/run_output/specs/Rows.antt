@@ -23,7 +23,7 @@ unfoldable pub output_for : Row → List ℕ
 unfolding
     bytes NameTable.slot NameTable.slots Read.read Read.item_words Read.name_bytes
     computed
-    Decimal.leading Decimal.digits_by Decimal.numeral Decimal.signed Text.spaced_after Text.spaced
+    Decimal.leading Decimal.digits_by Decimal.decimal Decimal.signed Text.spaced_after Text.spaced
     line refusal boolean_text value_line acceptance printed output_of output
 output_for r = output (bytes r.recipe)
 

@@ -5,8 +5,8 @@ use Rattle.std.proofs.Common.{sym, subst, ◌∙◌, add-one, add-zero, zero-add
 use native.Mathlib.Omega.{arith}
 use Rattle.std.proofs.Math.Nat.{div-eq_of_lt, div-div-eq-div-mul, pow-succ', pow-le-pow_right}
 use Rattle.std.proofs.Math.Arith.{digits_div, digits_mod, mod-mul}
-use Rattle.core_term.specs.Decimal.{numeral, padded}
-use Rattle.core_term.proofs.DecimalLaws.{numeral-one, numeral-more, padded-length}
+use Rattle.core_term.specs.Decimal.{decimal, padded}
+use Rattle.core_term.proofs.DecimalLaws.{decimal-one, decimal-more, padded-length}
 use Rattle.writer.specs.Put.{no_place, put_of}
 use Rattle.writer.specs.Laid.{laid, Left, done, full}
 use Rattle.writer.specs.LaidLaws.{laid-dry, laid-byte, laid-append, place-holds, full-holds}
@@ -150,20 +150,20 @@ padded-last (suc k) n =
     ap₂ (λ (x : ℕ) (t : List ℕ). (48 + x) ∷ t) a
     (padded-last k (n % 10 ^ suc (suc k)) ∙ ap₂ (λ (x y : ℕ). padded k x ++ ((48 + y) ∷ [])) b c)
 
-padded-one : (n : ℕ) → n < 10 → padded 0 n ≡ numeral n
+padded-one : (n : ℕ) → n < 10 → padded 0 n ≡ decimal n
 unfolding padded
-padded-one n h = sym (numeral-one n h)
+padded-one n h = sym (decimal-one n h)
 
 -- a number with no zero before its digits
-pub padded-numeral : (k n : ℕ) → 10 ≤ n → 10 ^ k ≤ n → n < 10 ^ suc k → padded k n ≡ numeral n
-padded-numeral zero n o h l = absurd (omega arith)
-padded-numeral (suc zero) n o h l =
-    padded-last zero n ∙ ap (λ (t : List ℕ). t ++ ((48 + n % 10) ∷ [])) (padded-one (n / 10) (omega arith)) ∙ sym (numeral-more n o)
-padded-numeral (suc (suc k)) n o h l =
+pub padded-decimal : (k n : ℕ) → 10 ≤ n → 10 ^ k ≤ n → n < 10 ^ suc k → padded k n ≡ decimal n
+padded-decimal zero n o h l = absurd (omega arith)
+padded-decimal (suc zero) n o h l =
+    padded-last zero n ∙ ap (λ (t : List ℕ). t ++ ((48 + n % 10) ∷ [])) (padded-one (n / 10) (omega arith)) ∙ sym (decimal-more n o)
+padded-decimal (suc (suc k)) n o h l =
     padded-last (suc k) n
     ∙ ap (λ (t : List ℕ). t ++ ((48 + n % 10) ∷ []))
-    (padded-numeral (suc k) (n / 10) (omega (arith, power-more (suc k), power-more k, power-some k)) (omega (arith, power-more (suc k))) (omega (arith, power-more (suc (suc k)))))
-    ∙ sym (numeral-more n o)
+    (padded-decimal (suc k) (n / 10) (omega (arith, power-more (suc k), power-more k, power-some k)) (omega (arith, power-more (suc k))) (omega (arith, power-more (suc (suc k)))))
+    ∙ sym (decimal-more n o)
 
 -- twenty digits in 64 bits begin with 1
 pub padded-most : (n : ℕ) → 10000000000000000000 ≤ n → n < 18446744073709551616 → 49 ∷ padded 18 (n - 10000000000000000000) ≡ padded 19 n
@@ -207,24 +207,24 @@ lay-last i left at to o e t h = rw (e, t) (laid-byte (48 + left) at o h)
 -- ---- the whole number, with k digits after the first
 
 module _ (n k : ℕ) (some : 10 ≤ n) (least : 10 ^ k ≤ n) (most : n < 10 ^ (k + 1)) where
-  pub digits_are : padded k n ≡ numeral n
-  digits_are = padded-numeral k n some least (subst (λ (x : ℕ). n < 10 ^ x) (add-one k) most)
+  pub digits_are : padded k n ≡ decimal n
+  digits_are = padded-decimal k n some least (subst (λ (x : ℕ). n < 10 ^ x) (add-one k) most)
 
-  digits-count : length (numeral n) ≡ k + 1
+  digits-count : length (decimal n) ≡ k + 1
   digits-count = ap length (sym digits_are) ∙ padded-length k n ∙ sym (add-one k)
 
   module _ (ink : Bool) (at : ℕ) (d : List ℕ) where
-    pub digits-full : length d ≤ at + k → Left ink (numeral n) at d d (put_of no_place)
-    digits-full h = full-holds (Left ink (numeral n) at d d) (full (omega (arith, digits-count)) (λ i. refl))
+    pub digits-full : length d ≤ at + k → Left ink (decimal n) at d d (put_of no_place)
+    digits-full h = full-holds (Left ink (decimal n) at d d) (full (omega (arith, digits-count)) (λ i. refl))
 
     module _ (room : at + k < length d) (short : length d < no_place) where
-      pub digits-dry : ink ≡ false → Left ink (numeral n) at d d (put_of (at + k + 1))
+      pub digits-dry : ink ≡ false → Left ink (decimal n) at d d (put_of (at + k + 1))
       digits-dry i =
-          place-holds (Left ink (numeral n) at d d) (omega arith) (done (omega (arith, digits-count)) (omega arith) (sym (laid-dry ink (numeral n) at d i)))
+          place-holds (Left ink (decimal n) at d d) (omega arith) (done (omega (arith, digits-count)) (omega arith) (sym (laid-dry ink (decimal n) at d i)))
 
-      pub digits-laid : (e : List ℕ) → ink ≡ true → e ≡ laid true (padded k n) at d → Left ink (numeral n) at d e (put_of (at + k + 1))
+      pub digits-laid : (e : List ℕ) → ink ≡ true → e ≡ laid true (padded k n) at d → Left ink (decimal n) at d e (put_of (at + k + 1))
       digits-laid e i l =
-          place-holds (Left ink (numeral n) at d e) (omega arith)
+          place-holds (Left ink (decimal n) at d e) (omega arith)
           (done (omega (arith, digits-count)) (omega arith) (l ∙ ap₂ (λ (b : Bool) (x : List ℕ). laid b x at d) (sym i) digits_are))
 
 -- twenty digits

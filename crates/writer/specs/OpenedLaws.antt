@@ -16,7 +16,7 @@ use Rattle.core_term.specs.declared.nodes.Node as C
 use Rattle.core_term.specs.declared.nodes.Node.TheVariants.{Variable, Operation, Integer, Boolean, Decimal, Name, List as Several, If, Lambda, Application, None}
 use Rattle.core_term.specs.Code.Opened.{node_in, shape_in, shape_by, OpenedAs}
 use Rattle.words.specs.Text.{bytes}
-use Rattle.core_term.specs.Decimal.{numeral, integer_text, decimal_text}
+use Rattle.core_term.specs.Decimal.{decimal, integer_text, decimal_text}
 use Rattle.core_term.specs.Text.{variable_text, operation_text, constant_text}
 use Rattle.core_term.proofs.TextRoomLaws.{all-at}
 use Rattle.writer.specs.Pieces.{formals_text, opening, closing}
@@ -126,7 +126,7 @@ module _ (n : C.Node) (x : Node) (s : Stands n x) where
     unfolding opening
     opens-variable k e = rw (is-variable k e)
 
-    pub opens-operation : (k : ℕ) → n ≡ Operation k → 111 ∷ numeral k ≡ opening said inner x
+    pub opens-operation : (k : ℕ) → n ≡ Operation k → 111 ∷ decimal k ≡ opening said inner x
     unfolding opening operation_text
     opens-operation k e = rw (is-operation k e)
 

@@ -8,7 +8,7 @@ use Rattle.datum.specs.Constant.{boolean}
 use Rattle.datum.specs.Datum.{Datum, constant_d, name_d, list_d, Data, none_d, more_d}
 use Rattle.core_term.specs.Node.{is_datum_node, is_list_node, name_n, list_n}
 use Rattle.core_term.specs.Term.{variable_c, operation_c, datum_c, if_c, lambda_c, application_c, none_c, more_c, Plain, Plains}
-use Rattle.core_term.specs.Decimal.{numeral}
+use Rattle.core_term.specs.Decimal.{decimal}
 use Rattle.core_term.specs.Text.{variable_text, constant_text, spaced_after, spaced, parenthesized, formal_texts, bare, bares, outermost, texts_in}
 use Rattle.core_term.specs.Text as Text
 use Rattle.writer.specs.Called.{Said, spell_of}
@@ -101,7 +101,7 @@ module _ (said : Said) where
 -- ---- variables as code lays them
 
 -- v0, a dot, its name
-pub variable-text : (said : Said) (n : ℕ) → variable_text (spell_of said) said.called n ≡ (118 ∷ numeral n) ++ ((46 ∷ []) ++ spell_of said (slice_index said.called n))
+pub variable-text : (said : Said) (n : ℕ) → variable_text (spell_of said) said.called n ≡ (118 ∷ decimal n) ++ ((46 ∷ []) ++ spell_of said (slice_index said.called n))
 unfolding variable_text
 variable-text said n = refl
 

@@ -4,12 +4,12 @@ use Rattle.std.proofs.Math.Path.{sym, ap, ap₂}
 use Rattle.std.proofs.Common.{subst, ◌∙◌, append_assoc, arith, add-one, zero-add, suc-add, mod-lt, mul_comm, le-div_iff_mul-le, div-lt_iff_lt-mul, pow-add, take_at, drop_at}
 use Rattle.std.proofs.Math.Nat.{div-div-eq-div-mul, pow-le-pow_right}
 use Rattle.std.proofs.Math.Arith.{digits_div, digits_mod, mod-mul}
-use Rattle.core_term.specs.Decimal.{numeral, padded, pointed}
-use Rattle.core_term.proofs.DecimalLaws.{numeral-one, padded-length}
+use Rattle.core_term.specs.Decimal.{decimal, padded, pointed}
+use Rattle.core_term.proofs.DecimalLaws.{decimal-one, padded-length}
 use Rattle.core_term.specs.Code.WindowLaws.{case}
 use Rattle.writer.specs.Laid.{laid}
 use Rattle.writer.specs.LaidLaws.{laid-first}
-use Rattle.writer.specs.DigitsLaws.{power-some, power-more, padded-numeral}
+use Rattle.writer.specs.DigitsLaws.{power-some, power-more, padded-decimal}
 
 -- digits from a power down are those of the quotient by a lower power, then those of what is left
 padded-split : (j q n : ℕ) → padded (j + suc q) n ≡ padded j (n / 10 ^ suc q) ++ padded q (n % 10 ^ suc q)
@@ -41,23 +41,23 @@ module _ (n k places : ℕ) (some : 1 ≤ places) (low : places ≤ k) (most : n
       (subst (λ (x : ℕ). n < x) (ap (λ (x : ℕ). 10 ^ x) e ∙ pow-add 10 (suc (k - places)) places) most)
 
   -- the whole part has no zero that leads but its own
-  whole-digits : padded (k - places) whole ≡ numeral whole
+  whole-digits : padded (k - places) whole ≡ decimal whole
   unfolding padded
   whole-digits = case places k more (λ l. one (omega arith))
     where
-      one : k - places ≡ 0 → padded (k - places) whole ≡ numeral whole
-      one e = ap (λ (x : ℕ). padded x whole) e ∙ sym (numeral-one whole (subst (λ (x : ℕ). whole < 10 ^ suc x) e whole_below))
+      one : k - places ≡ 0 → padded (k - places) whole ≡ decimal whole
+      one e = ap (λ (x : ℕ). padded x whole) e ∙ sym (decimal-one whole (subst (λ (x : ℕ). whole < 10 ^ suc x) e whole_below))
 
-      more : places < k → padded (k - places) whole ≡ numeral whole
+      more : places < k → padded (k - places) whole ≡ decimal whole
       more l =
           let e : k ≡ (k - places) + places = omega arith in
           let h : 10 ^ (k - places) ≤ whole =
           (le-div_iff_mul-le {k = 10 ^ places} {x = 10 ^ (k - places)} {y = n} (power-some places)).1
           (subst (λ (x : ℕ). x ≤ n) (ap (λ (x : ℕ). 10 ^ x) e ∙ pow-add 10 (k - places) places) (least l)) in
           let t : 10 ^ 1 ≤ 10 ^ (k - places) = pow-le-pow_right {n = 10} (omega arith) {i = 1} {j = k - places} (omega arith) in
-          padded-numeral (k - places) whole (omega arith) h whole_below
+          padded-decimal (k - places) whole (omega arith) h whole_below
 
-  digits-split : padded k n ≡ numeral whole ++ padded (places - 1) (n % 10 ^ places)
+  digits-split : padded k n ≡ decimal whole ++ padded (places - 1) (n % 10 ^ places)
   digits-split =
       let e : suc (places - 1) ≡ places = omega arith in
       let f : k ≡ (k - places) + suc (places - 1) = omega arith in
@@ -70,21 +70,21 @@ module _ (n k places : ℕ) (some : 1 ≤ places) (low : places ≤ k) (most : n
     abbrev dot : ℕ
     dot = k + 1 - places
 
-    table_is : e ≡ numeral whole ++ (padded (places - 1) (n % 10 ^ places) ++ drop (length (padded k n)) d)
+    table_is : e ≡ decimal whole ++ (padded (places - 1) (n % 10 ^ places) ++ drop (length (padded k n)) d)
     table_is =
         is ∙ laid-first (padded k n) d ∙ ap (λ (t : List ℕ). t ++ drop (length (padded k n)) d) digits-split
-        ∙ append_assoc (numeral whole) (padded (places - 1) (n % 10 ^ places)) (drop (length (padded k n)) d)
+        ∙ append_assoc (decimal whole) (padded (places - 1) (n % 10 ^ places)) (drop (length (padded k n)) d)
 
-    whole_length : length (numeral whole) ≡ dot
+    whole_length : length (decimal whole) ≡ dot
     whole_length = ap length (sym whole-digits) ∙ padded-length (k - places) whole ∙ omega arith
 
-    whole-cut : take dot e ≡ numeral whole
-    whole-cut = ap (take dot) table_is ∙ take_at (numeral whole) _ dot whole_length
+    whole-cut : take dot e ≡ decimal whole
+    whole-cut = ap (take dot) table_is ∙ take_at (decimal whole) _ dot whole_length
 
     places-cut : take (k + 1 - dot) (drop dot e) ≡ padded (places - 1) (n % 10 ^ places)
     places-cut =
         ap (λ (t : List ℕ). take (k + 1 - dot) (drop dot t)) table_is
-        ∙ ap (take (k + 1 - dot)) (drop_at (numeral whole) _ dot whole_length)
+        ∙ ap (take (k + 1 - dot)) (drop_at (decimal whole) _ dot whole_length)
         ∙ take_at (padded (places - 1) (n % 10 ^ places)) _ (k + 1 - dot) (padded-length (places - 1) (n % 10 ^ places) ∙ omega arith)
 
     pub pointed-cut : take dot e ++ (46 ∷ take (k + 1 - dot) (drop dot e)) ≡ pointed places n

@@ -1,6 +1,6 @@
 // Numbers as text: integers, and decimals.
 ghost use Rattle.std.specs.Prelude.{◌≡◌, ◌+◌, ◌-◌, ◌*◌, ◌^◌, ◌<◌, ◌≤◌, true, ◌∷◌, ◌++◌, length, take, drop};
-ghost use Rattle.core_term.specs.Decimal.{numeral, padded, pointed, integer_text, decimal_text};
+ghost use Rattle.core_term.specs.Decimal.{decimal, padded, pointed, integer_text, decimal_text};
 ghost use Rattle.writer.specs.Put.{put_of};
 ghost use Rattle.writer.specs.Laid.{laid, Left};
 ghost use Rattle.writer.specs.Digits.{tens, quotient, remainder};
@@ -115,7 +115,7 @@ fn lay(powers: &[usize], n: usize, k: usize, out: &mut [u8], at: usize)
 // The digits of n. Twenty of them begin with 1: 64 bits hold ten to the 19th once.
 pub fn digits(n: usize, out: &mut [u8], at: usize, ink: bool) -> usize
     requires { at ≤ length out.old }
-    ensures { Left ink (numeral n) at out.old out.new (put_of result) }
+    ensures { Left ink (decimal n) at out.old out.new (put_of result) }
 {
     if n < 10 {
         return byte(48 + n as u8, out, at, ink);
@@ -140,7 +140,7 @@ pub fn digits(n: usize, out: &mut [u8], at: usize, ink: bool) -> usize
 // A letter and the digits of n, as v0.
 pub fn numbered(letter: u8, n: usize, out: &mut [u8], at: usize, ink: bool) -> usize
     requires { at ≤ length out.old }
-    ensures { Left ink (letter ∷ numeral n) at out.old out.new (put_of result) }
+    ensures { Left ink (letter ∷ decimal n) at out.old out.new (put_of result) }
 {
     let to = byte(letter, out, at, ink);
     if to == FULL {

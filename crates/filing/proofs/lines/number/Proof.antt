@@ -9,7 +9,7 @@ use Rattle.writer.proofs.numbers.wide.Reads as wide-reads
 use mathlib.Core.Path.{ap}
 use mathlib.Core.List.{◌∷◌}
 use Prim.Native.Nat.{ℕ}
-use Rattle.core_term.specs.Decimal.{numeral}
+use Rattle.core_term.specs.Decimal.{decimal}
 use Rattle.writer.specs.LaidLaws.{left_is}
 
 wide-requires : tie.Need-wide-requires
@@ -26,7 +26,7 @@ same_length c =
 
 returns : tie.Need-returns
 returns c =
-    left_is (ap (λ (k : ℕ). 32 ∷ numeral k) c.wide.ensures) c.numbered.ensures
+    left_is (ap (λ (k : ℕ). 32 ∷ decimal k) c.wide.ensures) c.numbered.ensures
 
 pub number_spec : {M : Type 1} → statement M
 number_spec = tie.close (tie.spec wide-requires numbered-requires same_length returns)

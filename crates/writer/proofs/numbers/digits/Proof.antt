@@ -5,13 +5,13 @@ use Rattle.writer.proofs.numbers.digits.Tie as tie
 use Rattle.writer.proofs.numbers.digits.Reads as reads
 use Rattle.writer.proofs.numbers.digits.Lts as lts
 use borrow.Author.Tests.{not-true, not-false}
-use Rattle.core_term.proofs.DecimalLaws.{numeral-one}
+use Rattle.core_term.proofs.DecimalLaws.{decimal-one}
 use Rattle.writer.specs.LaidLaws.{left_is}
 use Rattle.writer.specs.DigitsLaws.{digits-full, digits-dry, digits-laid, most-first, most-laid}
 
 returns : tie.Need-returns-then-n-lt10
 returns c =
-    left_is (sym (numeral-one _ c.if-n-lt10.true)) c.byte.ensures
+    left_is (sym (decimal-one _ c.if-n-lt10.true)) c.byte.ensures
 
 returns-2 : tie.Need-returns-then-out-at
 returns-2 c =

@@ -17,7 +17,7 @@ use Rattle.writer.proofs.pieces.list_opening.Reads as list-opening-reads
 use Rattle.writer.proofs.pieces.name_opening.Reads as name-opening-reads
 use Rattle.datum.specs.NameTable.{name_at, has_name}
 use Rattle.core_term.specs.Node.{name_n}
-use Rattle.core_term.specs.Decimal.{numeral}
+use Rattle.core_term.specs.Decimal.{decimal}
 use Rattle.core_term.specs.Text.{variable_text}
 use Rattle.writer.specs.Called.{called_by, said_by}
 use Rattle.writer.specs.Pieces.{opening}
@@ -48,7 +48,7 @@ returns c =
 
 returns-2 : tie.Need-returns-in-Operation
 returns-2 c =
-    λ x s. left_is (ap (λ (n : ℕ). 111 ∷ numeral n) c.wide-in-Operation.ensures ∙ opens-operation _ x s _ _ _ c.in-Operation.is) c.numbered.ensures
+    λ x s. left_is (ap (λ (n : ℕ). 111 ∷ decimal n) c.wide-in-Operation.ensures ∙ opens-operation _ x s _ _ _ c.in-Operation.is) c.numbered.ensures
 
 returns-3 : tie.Need-returns-in-Integer
 returns-3 c =
