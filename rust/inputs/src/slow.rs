@@ -65,6 +65,12 @@ fn compared(elements: usize) -> String {
 
 /// A name bound at each of many steps, then compared with a literal by fifteen rules for each of many elements.
 fn bound_each_step(p: &[usize]) -> String {
+    let rules = some(15, "((_ (v 1) ... 2) 1)");
+    counted(p[0], 1, &format!("(let-syntax ((c (syntax-rules (v) {rules} ((_ x ...) 1)))) (c {}))", some(p[1], "(v 1)")))
+}
+
+/// The same by rules in which an ellipsis stands for itself.
+fn bound_and_compared(p: &[usize]) -> String {
     counted(p[0], 1, &compared(p[1]))
 }
 
@@ -109,6 +115,16 @@ fn looked_up(p: &[usize]) -> String {
 /// Lambdas of eight names of one number, nested.
 fn eight_formals(p: &[usize]) -> String {
     let names = ["x", "y", "z", "u", "v", "w", "r", "s"];
+    let chain = (0..8).rev().fold(lambdas(p[0], &names.join(" "), &format!("(f {})", some(p[1], names[7]))), |inner, i| {
+        let before = names[..i].join(" ");
+        format!("(let-syntax ((k{i} (syntax-rules () ((_ {} {before}) {inner})))) (k{i} t {before}))", names[i])
+    });
+    format!("(f) {chain}")
+}
+
+/// The same names, each a step's own.
+fn eight_own_formals(p: &[usize]) -> String {
+    let names = ["x", "y", "z", "u", "v", "w", "r", "s"];
     let one_more: String = (0..8)
         .map(|i| {
             let before = names[..i].join(" ");
@@ -122,6 +138,14 @@ fn eight_formals(p: &[usize]) -> String {
 
 /// A mark that stays and a lambda at each level: macros that define macros.
 fn marks_and_lambdas(p: &[usize]) -> String {
+    let inner = (0..p[0]).fold(format!("(f {})", some(p[1], "t")), |inner, i| {
+        format!("(let-syntax ((k{i} (syntax-rules () ((_) (lambda (t) {inner}))))) (k{i}))")
+    });
+    format!("(f) {inner}")
+}
+
+/// The same at each of many steps, and the name compared.
+fn marks_and_lambdas_each_step(p: &[usize]) -> String {
     let level = |next: &str| format!("(let-syntax ((h (syntax-rules () ((_) (lambda (v) {next}))))) (h))");
     counted_by("(cm 0 0 x)", p[0], &level, &compared(p[1]))
 }
@@ -204,13 +228,16 @@ pub const FAMILIES: &[Family] = &[
     },
     Family { name: "literals of many marks, under lambdas of the name", most: &[16, 200, 7, 1_500], recipe: literals },
     Family { name: "a name bound at each step, compared by fifteen rules", most: &[16, 1_500], recipe: bound_each_step },
+    Family { name: "the same, where an ellipsis stands for itself", most: &[16, 1_500], recipe: bound_and_compared },
     Family { name: "the same, inside a lambda of other marks", most: &[16, 1_500], recipe: bound_inside_another },
     Family { name: "the same, inside a lambda with a mark more", most: &[16, 1_500], recipe: bound_inside_marked },
     Family { name: "names of one number, doubled and bound, the last compared by fifteen rules", most: &[7, 1_500], recipe: doubled },
     Family { name: "two names that are the same, side by side", most: &[16, 100, 1_500], recipe: side_by_side },
     Family { name: "references to a name of many marks, under lambdas of it", most: &[16, 200, 1_500], recipe: looked_up },
     Family { name: "lambdas of eight names of one number", most: &[180, 1_000], recipe: eight_formals },
-    Family { name: "a mark that stays and a lambda at each level", most: &[16, 1_500], recipe: marks_and_lambdas },
+    Family { name: "the same, each a step's own", most: &[180, 1_000], recipe: eight_own_formals },
+    Family { name: "a mark that stays and a lambda at each level", most: &[64, 1_500], recipe: marks_and_lambdas },
+    Family { name: "the same at each of many steps, the name compared", most: &[16, 1_500], recipe: marks_and_lambdas_each_step },
     Family {
         name: "literals in fifteen rules, compared at each step",
         most: &[60, 8],
