@@ -8,7 +8,7 @@ use Rattle.core_term.specs.Words.{encode}
 use Rattle.core_term.specs.Decode.{term_at, whole, decode}
 use Rattle.core_term.specs.Every.{every, proper, well_formed}
 use Rattle.core_term.proofs.DecodeRound.{term-round}
-use Rattle.core_term.specs.DecodeRead.{term-read}
+use Rattle.core_term.proofs.DecodeReadLaws.{term-read}
 
 -- ---- decode
 

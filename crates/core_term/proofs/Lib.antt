@@ -5,3 +5,4 @@ pub mod OfCode
 pub mod DecimalLaws
 pub mod OwnNamesLaws
 pub mod TextRoomLaws
+pub mod DecodeReadLaws

@@ -3,7 +3,6 @@ pub mod Shapes
 pub mod ShapeLaws
 pub mod Binders
 pub mod BinderLaws
-pub mod ScopeLaws
 pub mod Quotes
 pub mod QuoteLaws
 pub mod NumberLaws

@@ -1,5 +1,4 @@
--- Request L9, 'Trying with more fuel', for two calls of the expansion service: the statement, then its proof from the promise alone, then
--- the same over plain numbers and tables.
+-- Request L9, 'Trying with more fuel', for two calls of the expansion service: the statement, and what a call is over plain numbers and
+-- tables. Proved in proofs/, from the promise alone.
 pub mod Statement
-pub mod Calls
 pub mod Said

@@ -1,21 +1,18 @@
 -- What the claim says of recipes: each row is an instance of `PrivateRuns` itself, in tables just long enough for its fuel and budget. The
 -- hypotheses hold by computing, and so the second recipe's outcome is the one that the row has. A claim that says less, or that asks for
 -- more, gives no such row.
-use Rattle.std.specs.Prelude.{◌≡◌, refl, Bool, true, ℕ, ◌+◌, ◌*◌, ℤ, pos}
-use Rattle.std.proofs.Common.{ap, ◌∙◌}
-use mathlib.Core.List.{List, [], ◌∷◌, map, head-eq_of_cons-eq, tail-eq_of_cons-eq}
+use Rattle.std.specs.Prelude.{◌≡◌, Bool, ℕ, ◌+◌, ◌*◌, ℤ, pos}
+use Rattle.std.proofs.Common.{◌∙◌}
+use mathlib.Core.List.{List, [], ◌∷◌}
 use Prim.Native.String.{String}
 use Rattle.words.specs.Limits.{work_rate, core_rate}
 use Rattle.words.specs.Lists.{all_of}
-use Rattle.words.specs.Each.{Each, none_of, also}
 use Rattle.recipe.specs.Table.{item_count}
 use Rattle.expansion.specs.Run as X
 use Rattle.private_names.specs.Statement.{Choice, renamed, hypotheses}
-use Rattle.private_names.specs.Witnesses.{items_of, found}
+use Rattle.private_names.specs.Witnesses.{items_of}
 use Rattle.evaluation.specs.Run.{Result, number, datum, Outcome, unfit, refused_on, accepted}
 use Rattle.recipe_runs.specs.RecipeRun.{recipe_run}
-use Rattle.recipe_runs.specs.Rows.{computed}
-use Rattle.private_runs.specs.Statement.{PrivateRuns}
 
 -- a recipe's items, the fuel, the choice, the budget, and the outcome of both
 pub record Row : Type 0 where
@@ -50,18 +47,6 @@ Says r = run_by r (renamed r.items r.choice) ≡ r.is
 unfoldable pub claimed : Row → Bool × Outcome (Result ℤ)
 claimed r = (all_of (λ h. h) (hypotheses r.items r.choice (X.run r.items r.fuel (needed r work_rate) (needed r core_rate)).events), run_by r r.items)
 
-abbrev known : Row → Bool × Outcome (Result ℤ)
-known r = (true, r.is)
-
--- the claim itself, at each row
-says : PrivateRuns → (rs : List Row) → map claimed rs ≡ map known rs → Each Says rs
-unfolding PrivateRuns run_by claimed
-says claim [] e = none_of
-says claim (r ∷ rs) e =
-    let here : claimed r ≡ known r = head-eq_of_cons-eq e in
-    also (claim r.items r.fuel (needed r work_rate) (needed r core_rate) r.choice r.budget (16 * (r.budget + 1)) (ap (λ x. x.0) here) ∙ ap (λ x. x.1) here)
-    (says claim rs (tail-eq_of_cons-eq e))
-
 -- ---- rows
 
 unfoldable pub rows : List Row
@@ -79,10 +64,3 @@ rows =
     -- refused by expansion, behind the lookups of copies
     row "() (let-syntax ((m (syntax-rules () ((_) (lambda (t) (t nowhere)))))) (m))" 512 4 9 11 99 (unfit 11) ∷
     []
-
-rows-claimed : map claimed rows ≡ map known rows
-unfolding claimed rows row run_by computed found
-rows-claimed = refl
-
-pub rows-hold : PrivateRuns → Each Says rows
-rows-hold claim = says claim rows rows-claimed

@@ -18,7 +18,7 @@ use Rattle.arena.specs.Arena.{tree_at}
 use Rattle.arena.specs.Lists.{Means, Counts}
 use Rattle.forms.specs.Binders as F
 use Rattle.forms.specs.Binders.{AllNames, names_in, Space, Scoped}
-use Rattle.forms.specs.ScopeLaws.{scoped-tree, proper, lambda-names, formals-are, formals-count}
+use Rattle.forms.proofs.ScopeLaws.{scoped-tree, proper, lambda-names, formals-are, formals-count}
 use Rattle.forms.specs.NumberLaws.{numbers_in}
 use Rattle.forms.specs.Quotes.{Written}
 use Rattle.forms.specs.QuoteLaws.{written_then}

@@ -20,7 +20,7 @@ use Rattle.arena.specs.ArenaLaws.{take_less}
 use Rattle.arena.specs.CellLaws.{tree-kept}
 use Rattle.arena.specs.Lists.{Means, Counts}
 use Rattle.forms.specs.Binders.{AllNames, Space, Scoped}
-use Rattle.forms.specs.ScopeLaws.{scoped-tree, macros-names, keywords-count}
+use Rattle.forms.proofs.ScopeLaws.{scoped-tree, macros-names, keywords-count}
 use Rattle.turns.specs.declared.answers.Reached.{Reached}
 use Rattle.turns.specs.declared.answers.Ended.{Ended}
 use Rattle.turns.specs.declared.answers.Turn.{Turn}

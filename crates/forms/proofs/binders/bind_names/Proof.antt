@@ -8,7 +8,7 @@ use lib.ListN.{length}
 use Rattle.forms.specs.Binders.{Scoping}
 use Rattle.arena.specs.ListLaws.{pair-falls}
 use Rattle.forms.specs.BinderLaws.{opened, names-none}
-use Rattle.forms.specs.ScopeLaws.{own_below, room-one, number_small, scoping-begins, scoping-ends, scoping-more}
+use Rattle.forms.proofs.ScopeLaws.{own_below, room-one, number_small, scoping-begins, scoping-ends, scoping-more}
 
 abbrev invariant-loop : tie.invariant-loop-work
 invariant-loop work₀ list w entries macros number parent top at₀ n₀ scope₀ end₀ work at n scope end =

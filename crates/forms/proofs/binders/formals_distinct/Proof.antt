@@ -8,7 +8,7 @@ use Rattle.recipe.specs.Name.{distinct}
 use Rattle.recipe.specs.Tree.{Tree}
 use Rattle.arena.specs.Arena.{tree_at}
 use Rattle.forms.specs.Binders.{AllNames, names_in}
-use Rattle.forms.specs.ScopeLaws.{lambda-names, formals-are}
+use Rattle.forms.proofs.ScopeLaws.{lambda-names, formals-are}
 
 element-requires : tie.Need-element-list-requires
 element-requires c κs = search rules

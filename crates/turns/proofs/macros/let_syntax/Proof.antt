@@ -5,7 +5,7 @@ use Rattle.turns.proofs.macros.let_syntax.Tie as tie
 use mathlib.Core.Path.{sym, ◌∙◌}
 use borrow.Author.Tests.{not-true, not-false}
 use Rattle.arena.specs.Arena.{tree_at}
-use Rattle.forms.specs.ScopeLaws.{macros-names}
+use Rattle.forms.proofs.ScopeLaws.{macros-names}
 use Rattle.turns.specs.MacroTurnLaws.{macros-unshaped, macros-alike, macros-left}
 
 returns : tie.Need-returns-then-not-is_macros

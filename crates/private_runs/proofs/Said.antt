@@ -7,7 +7,7 @@ use Rattle.private_names_proof.specs.Said.{Tested, tested}
 use Rattle.private_names_proof.proofs.SaidLaws.{whenever}
 use Rattle.recipe_runs.specs.RecipeRun.{recipe_run}
 use Rattle.private_runs.specs.Statement.{PrivateRuns, SameRuns, PrivateRunsSaid}
-use Rattle.private_runs.specs.Claim.{private-runs}
+use Rattle.private_runs.proofs.Claim.{private-runs}
 
 same_runs : (ws : List ℕ) (fuel work core : ℕ) (template : Tree) (old new : ℕ) → Tested ws fuel work core template old new → SameRuns ws fuel work core template old new
 unfolding PrivateRuns renamed
