@@ -8,7 +8,7 @@ use Rattle.layout.specs.Counts.{most-zero}
 items-good-requires : tie.Need-items_good-requires
 items-good-requires c κs =
     let pre = c.requires in
-    (pre.0, pre.1, pre.2, c.if-n-le-FEW_ITEMS.true, most-zero 512)
+    (pre.0, pre.1, pre.2, search rules, most-zero 512)
 
 items-good-requires-2 : tie.Need-items_good-requires-2
 items-good-requires-2 c κs =

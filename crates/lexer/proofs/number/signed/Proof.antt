@@ -18,11 +18,6 @@ returns-2 c =
     let args = c.args in
     rw (not-true args.negative c.if-not-negative.true-raw) (positive-is args.places _ c.if-size-gt2147483647.false)
 
-returns-3 : tie.Need-returns-then-size-gt2147483648
-returns-3 c =
-    let args = c.args in
-    rw (not-false args.negative c.if-not-negative.false-raw) (negative-past args.places _ c.if-size-gt2147483648.true)
-
 returns-4 : tie.Need-returns-then-size-eq0
 returns-4 c =
     let args = c.args in
@@ -38,14 +33,16 @@ cast-t8 c =
 
 sub-t9 : tie.Need-overflow_sub-result-2
 sub-t9 c =
-    negative_fits _ c.if-size-gt2147483648.false c.if-size-eq0.false
+    negative_fits _ (search rules) c.if-size-eq0.false
 
 returns-5 : tie.Need-returns
 returns-5 c =
     let args = c.args in
-    rw (not-false args.negative c.if-not-negative.false-raw) (negative-is _ c.if-size-gt2147483648.false c.if-size-eq0.false args.places)
+    rw (not-false args.negative c.if-not-negative.false-raw) (negative-is _ (search rules) c.if-size-eq0.false args.places)
 
 pub signed_spec : {M : Type 1} → statement M
 signed_spec =
     tie.close
-    (tie.spec returns cast-t6 returns-2 returns-3 returns-4 sub-t7 cast-t8 sub-t9 returns-5)
+    (tie.spec returns cast-t6 returns-2
+    (λ c. rw (not-false c.args.negative c.if-not-negative.false-raw) (negative-past c.args.places _ (search rules)))  -- returns-3
+    returns-4 sub-t7 cast-t8 sub-t9 returns-5)
