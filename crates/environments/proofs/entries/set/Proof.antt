@@ -1,5 +1,5 @@
 -- `entries::set`: stored where there was none.
-use Rattle.std.proofs.Common.{sym, ap, ◌∙◌, arith, rules}
+use Rattle.std.proofs.Common.{◌≡◌, sym, ap, ◌∙◌, rules}
 use Rattle.environments.proofs.entries.set.Statement.{statement}
 use Rattle.environments.proofs.entries.set.Tie as tie
 use Rattle.environments.proofs.entries.set.Reads as reads
@@ -17,11 +17,6 @@ get-requires : tie.Need-get-old-requires
 get-requires c κs =
     search rules
 
-returns-2 : tie.Need-returns-then-old-ne0
-returns-2 c =
-    let args' = c.args in
-    set-kept args'.k args'.x args'.env.now (λ z. c.if-old-ne0.true (ap (λ (y : Entry). y.level) c.get-old.ensures ∙ z))
-
 put-requires : tie.Need-put-requires
 put-requires c κs =
     search rules
@@ -29,7 +24,14 @@ put-requires c κs =
 returns-3 : tie.Need-returns
 returns-3 c =
     let args' = c.args in
-    set-stored args'.k args'.x args'.env.now _ (sym (ap (λ (y : Entry). y.level) c.get-old.ensures) ∙ c.if-old-ne0.false) c.put.ensures
+    set-stored args'.k args'.x args'.env.now _ (sym (ap (λ (y : Entry). y.level) c.get-old.ensures) ∙ search rules) c.put.ensures
 
 pub set_spec : {M : Type 1} → statement M
-set_spec = tie.close (tie.spec returns get-requires returns-2 put-requires returns-3)
+set_spec =
+    tie.close
+    (tie.spec
+    returns
+    get-requires
+    (λ c. let taken : (c.get-old.result.level ≡ 0 → ⊥) = search rules in set-kept c.args.k c.args.x c.args.env.now (λ z. taken (ap (λ (y : Entry). y.level) c.get-old.ensures ∙ z)))  -- returns-2
+    put-requires
+    returns-3)

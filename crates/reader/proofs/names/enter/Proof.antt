@@ -6,13 +6,6 @@ use Prim.Native.Nat.{◌+◌}
 use lib.ListN.{length-set, get_or}
 use Rattle.reader.specs.Code.Index.{bucket_count}
 
-slice-write-index-2 : tie.Need-bounds-index-bucket-2
-slice-write-index-2 c =
-    let args = c.args in
-    let pre = c.requires in
-    let index = args.index.now in
-    omega (arith, pre.1.0, pre.1.2, length-set index (bucket_count + args.number) (get_or index args.bucket 0))
-
 pub enter_spec : {M : Type 1} → statement M
 enter_spec =
     tie.close
@@ -26,7 +19,7 @@ enter_spec =
     (λ c. search rules)  -- add-index-2
     (λ c. search rules)  -- cast-index
     (λ c. search rules)  -- mul-index-3
-    slice-write-index-2
+    (λ c. let args = c.args in let pre = c.requires in let index = args.index.now in omega (arith, pre.1.0, pre.1.2, length-set index (bucket_count + args.number) (get_or index args.bucket 0)))  -- slice-write-index-2
     (λ c. search rules)  -- same-length
     (λ c. search rules)  -- same-length-2
     (λ c. search rules))  -- returns

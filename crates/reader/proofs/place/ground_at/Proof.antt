@@ -9,37 +9,40 @@ use lib.Dec.{eqb}
 use Rattle.words.specs.Limits.{elements_most}
 use Rattle.reader.specs.Code.StepLaws.{ground-complete, ground-elements, ground-names, ground-lists, ground-none}
 
--- past the tests of a whole reading and of the count
+-- past the test of a whole reading
 incomplete : (c : tie.Else-is_complete) → let p = c.args.place in eqb p.depth 0 && eqb p.missing 0 ≡ false
 incomplete c = sym c.is_complete.ensures ∙ c.if-is_complete.false
-
-few : (c : tie.Else-place-ge-ELEMENTS) → c.args.place.count < elements_most
-few c = omega (arith, c.if-place-ge-ELEMENTS.false)
 
 returns : tie.Need-returns-then-is_complete
 returns c =
     let args = c.args in
     ground-complete args.place args.known args.depth (sym c.is_complete.ensures ∙ c.if-is_complete.true)
 
-returns-2 : tie.Need-returns-then-place-ge-ELEMENTS
-returns-2 c =
-    let args = c.args in
-    ground-elements args.place args.known args.depth (incomplete c.before.before) (omega (arith, c.if-place-ge-ELEMENTS.true))
-
 returns-3 : tie.Need-returns-then-known-gt-NAMES
 returns-3 c =
     let args = c.args in
-    ground-names args.place args.known args.depth (incomplete c.before.before.before) (few c.before) c.if-known-gt-NAMES.true
+    let few : args.place.count < elements_most = search rules in
+    ground-names args.place args.known args.depth (incomplete c.before.before.before) few c.if-known-gt-NAMES.true
 
 returns-4 : tie.Need-returns-then-depth-gt-OPEN_LISTS
 returns-4 c =
     let args = c.args in
-    ground-lists args.place args.known args.depth (incomplete c.before.before.before.before) (few c.before.before) c.if-known-gt-NAMES.false c.if-depth-gt-OPEN_LISTS.true
+    let few : args.place.count < elements_most = search rules in
+    ground-lists args.place args.known args.depth (incomplete c.before.before.before.before) few c.if-known-gt-NAMES.false c.if-depth-gt-OPEN_LISTS.true
 
 returns-5 : tie.Need-returns
 returns-5 c =
     let args = c.args in
-    ground-none args.place args.known args.depth (incomplete c.before.before.before.before) (few c.before.before) c.if-known-gt-NAMES.false c.if-depth-gt-OPEN_LISTS.false
+    let few : args.place.count < elements_most = search rules in
+    ground-none args.place args.known args.depth (incomplete c.before.before.before.before) few c.if-known-gt-NAMES.false c.if-depth-gt-OPEN_LISTS.false
 
 pub ground_at_spec : {M : Type 1} → statement M
-ground_at_spec = tie.close (tie.spec (λ c κs. search rules) returns returns-2 returns-3 returns-4 returns-5)
+ground_at_spec =
+    tie.close
+    (tie.spec
+    (λ c κs. search rules)
+    returns
+    (λ c. let args = c.args in ground-elements args.place args.known args.depth (incomplete c.before.before) (search rules))  -- returns-2
+    returns-3
+    returns-4
+    returns-5)

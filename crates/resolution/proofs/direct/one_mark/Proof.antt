@@ -13,11 +13,6 @@ returns c =
     let a = c.args in
     skip-mark a.work.now a.number a.at a.mark (c.is_other_binder.ensures c.if-is_other_binder.true)
 
-returns-2 : tie.Need-returns-then-mark-ne0
-returns-2 c =
-    let a = c.args in
-    two-marks a.work.now a.number a.at a.mark
-
 mark-at-requires : tie.Need-mark_at-requires
 mark-at-requires c κs =
     search rules
@@ -25,8 +20,14 @@ mark-at-requires c κs =
 returns-3 : tie.Need-returns
 returns-3 c =
     let a = c.args in
-    first-mark a.work.now a.number a.at a.mark _ c.if-mark-ne0.false c.mark_at.ensures
+    first-mark a.work.now a.number a.at a.mark _ (search rules) c.mark_at.ensures
 
 pub one_mark_spec : {M : Type 1} → statement M
 one_mark_spec =
-    tie.close (tie.spec is-other-binder-requires returns returns-2 mark-at-requires returns-3)
+    tie.close
+    (tie.spec
+    is-other-binder-requires
+    returns
+    (λ c. two-marks c.args.work.now c.args.number c.args.at c.args.mark)  -- returns-2
+    mark-at-requires
+    returns-3)

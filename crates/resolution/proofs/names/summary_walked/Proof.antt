@@ -3,10 +3,7 @@ use borrow.Author.Rules.{rules}
 use Rattle.resolution.proofs.names.summary_walked.Statement.{statement}
 use Rattle.resolution.proofs.names.summary_walked.Tie as tie
 use native.Mathlib.Omega.{arith}
-
-returns : tie.Need-returns-then-s-le-FEW_WORDS
-returns c =
-    c.summary_in-s.ensures.within (omega (arith, c.if-s-le-FEW_WORDS.true, c.summary_in-s.auto.table))
+use Prim.Native.Nat.{◌≤◌}
 
 returns-2 : tie.Need-returns
 returns-2 c =
@@ -18,7 +15,7 @@ summary_walked_spec =
     (tie.spec
     (λ c. search rules)  -- slice-aggregate-summary-in
     (λ c κs. search rules)  -- summary-in-requires
-    returns
+    (λ c. let few : c.summary_in-s.result.count ≤ 32 = search rules in c.summary_in-s.ensures.within (omega (arith, few, c.summary_in-s.auto.table)))  -- returns
     (λ c. search rules)  -- slice-aggregate-summary-grown
     (λ c κs. search rules)  -- summary-grown-requires
     returns-2)

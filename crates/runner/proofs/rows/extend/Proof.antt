@@ -5,10 +5,6 @@ use Rattle.runner.proofs.rows.extend.Tie as tie
 use native.Mathlib.Omega.{arith}
 use Rattle.runner.specs.ExtendedLaws.{extended-cell, extended-beyond}
 
-returns : tie.Need-returns-then-number-ge4294967296
-returns c =
-    extended-beyond _ _ _ _ _ c.requires c.if-number-ge4294967296.true
-
 value-at-requires : tie.Need-value_at-v-requires
 value-at-requires c κs =
     omega (arith, c.requires.values)
@@ -29,7 +25,7 @@ pub extend_spec : {M : Type 1} → statement M
 extend_spec =
     tie.close
     (tie.spec
-    returns
+    (λ c. extended-beyond _ _ _ _ _ c.requires (search rules))  -- returns
     value-at-requires
     (λ c. search rules)  -- cast-put-cell
     put-cell-requires
