@@ -3,6 +3,7 @@
 #![tactic(auto)]
 
 pub mod casts;
+pub mod ground;
 pub mod packed;
 pub mod signed;
 pub mod tables;
