@@ -8,17 +8,7 @@ ghost use Rattle.recipe.specs.TreeFrom.{head_at, tail_at};
 ghost use Rattle.recipe.specs.Layout.{is_list_kind};
 
 // Kinds of items.
-pub const EMPTY: u32 = 0;
-
-pub const INTEGER: u32 = 1;
-
-pub const BOOLEAN: u32 = 2;
-
-pub const NAME: u32 = 3;
-
-pub const PAIR: u32 = 4;
-
-pub const DECIMAL: u32 = 5;
+pub use datum::kinds::{BOOLEAN, DECIMAL, EMPTY, INTEGER, NAME, PAIR};
 
 // Item i's three words: its kind; a constant's word, a name's number or a pair's head item; a decimal's places or a pair's tail item.
 pub fn kind(table: &[u32], i: usize) -> u32

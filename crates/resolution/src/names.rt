@@ -54,13 +54,6 @@ pub enum Meaning {
     Operation(u32),
 }
 
-// What a lookup finds.
-#[derive(Clone, Copy)]
-pub enum Looked {
-    Finds(Meaning),
-    Nothing,
-}
-
 // The key of a variable's binding; variables are fewer than items and fuel together.
 pub fn variable_key(n: u32) -> u32
     requires { n < 2147483647 }
@@ -292,36 +285,31 @@ pub fn bind(work: &mut [u32], top: u32, node: u32, w: u32, key: u32, parent: u32
 }
 
 // What a name without a binding means: a base form, an operation by the table of their places, or nothing.
-fn unbound(operations: &[u16], number: u32) -> Looked
+fn unbound(operations: &[u16], number: u32) -> Option<Meaning>
     ensures { found_of result ≡ unbound_in operations.now number }
 {
     if number < BASE_NAMES {
-        return Looked::Finds(Meaning::Form(number));
+        return Some(Meaning::Form(number));
     }
-    let i = number as usize;
-    if operations.len() <= i {
-        return Looked::Nothing;
-    }
-    let place = operations[i] as u32;
+    let place = *operations.get(number as usize)?;
     if place == 0 {
-        return Looked::Nothing;
+        return None;
     }
-    Looked::Finds(Meaning::Operation(place - 1))
+    Some(Meaning::Operation(u32::from(place) - 1))
 }
 
 // A lookup finds the binding; without one, a base form, an operation, or nothing.
-pub fn lookup(work: &[u32], operations: &[u16], node: u32, w: u32) -> Looked
+pub fn lookup(work: &[u32], operations: &[u16], node: u32, w: u32) -> Option<Meaning>
     ensures { found_of result ≡ lookup_in operations.now (name_at work.now node w) }
 {
     let b = binding_of(work, node, w);
     if b == 0 {
-        let number = number_of(work, node);
-        return unbound(operations, number);
+        return unbound(operations, number_of(work, node));
     }
     if b % 2 == 1 {
-        return Looked::Finds(Meaning::Variable(b / 2));
+        return Some(Meaning::Variable(b / 2));
     }
-    Looked::Finds(Meaning::Macro(b / 2 - 1))
+    Some(Meaning::Macro(b / 2 - 1))
 }
 
 // Whether a literal, by its number and its binding's key, agrees with a name.
