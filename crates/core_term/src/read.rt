@@ -1,67 +1,63 @@
-// The node at the beginning of words, by its code. Nothing else reads codes.
+// The node at the beginning of words, by its code, or none. Nothing else reads codes.
 ghost use Rattle.std.specs.Prelude.{◌≡◌, ◌≤◌, length, get_or};
 ghost use Rattle.core_term.specs.Node.{boolean_code, lambda_code, decimal_code};
-ghost use Rattle.core_term.specs.Code.Opened.{OpenedAs};
+ghost use Rattle.core_term.specs.Code.Opened.{ReadAs};
 
 use crate::codes;
-use crate::head::wide;
 use crate::nodes::Node;
 use words::{FORMALS, PLACES};
 
-fn boolean(words: &[u32]) -> Node
+fn boolean(words: &[u32]) -> Option<Node>
     requires { (2 ≤ length words.now) × (get_or words.now 0 0 ≡ boolean_code) }
-    ensures { OpenedAs words.now result }
+    ensures { ReadAs words.now result }
 {
     let a = words[1];
     if a > 1 {
-        return Node::None;
+        return None;
     }
-    Node::Boolean(a)
+    Some(Node::Boolean(a))
 }
 
-fn decimal(words: &[u32]) -> Node
+fn decimal(words: &[u32]) -> Option<Node>
     requires { get_or words.now 0 0 ≡ decimal_code }
-    ensures { OpenedAs words.now result }
+    ensures { ReadAs words.now result }
 {
     if words.len() < 3 {
-        return Node::None;
+        return None;
     }
     let places = words[2];
-    if places < 1 {
-        return Node::None;
+    if places < 1 || places > PLACES {
+        return None;
     }
-    if places > PLACES {
-        return Node::None;
-    }
-    Node::Decimal(words[1], places)
+    Some(Node::Decimal(words[1], places))
 }
 
-fn lambda(words: &[u32]) -> Node
+fn lambda(words: &[u32]) -> Option<Node>
     requires { get_or words.now 0 0 ≡ lambda_code }
-    ensures { OpenedAs words.now result }
+    ensures { ReadAs words.now result }
 {
     if words.len() < 3 {
-        return Node::None;
+        return None;
     }
     let count = words[2];
-    if words.len() - 3 < wide(count) {
-        return Node::None;
+    if words.len() - 3 < count as usize {
+        return None;
     }
     if count > FORMALS {
-        return Node::None;
+        return None;
     }
-    Node::Lambda(words[1], count)
+    Some(Node::Lambda(words[1], count))
 }
 
-pub fn read(words: &[u32]) -> Node
-    ensures { OpenedAs words.now result }
+pub fn read(words: &[u32]) -> Option<Node>
+    ensures { ReadAs words.now result }
 {
     if words.len() == 0 {
-        return Node::None;
+        return None;
     }
     let code = words[0];
     if code == codes::IF {
-        return Node::If;
+        return Some(Node::If);
     }
     if code == codes::LAMBDA {
         return lambda(words);
@@ -70,29 +66,29 @@ pub fn read(words: &[u32]) -> Node
         return decimal(words);
     }
     if words.len() < 2 {
-        return Node::None;
+        return None;
     }
     if code == codes::BOOLEAN {
         return boolean(words);
     }
     let a = words[1];
     if code == codes::VARIABLE {
-        return Node::Variable(a);
+        return Some(Node::Variable(a));
     }
     if code == codes::OPERATION {
-        return Node::Operation(a);
+        return Some(Node::Operation(a));
     }
     if code == codes::INTEGER {
-        return Node::Integer(a);
+        return Some(Node::Integer(a));
     }
     if code == codes::NAME {
-        return Node::Name(a);
+        return Some(Node::Name(a));
     }
     if code == codes::LIST {
-        return Node::List(a);
+        return Some(Node::List(a));
     }
     if code == codes::APPLICATION {
-        return Node::Application(a);
+        return Some(Node::Application(a));
     }
-    Node::None
+    None
 }

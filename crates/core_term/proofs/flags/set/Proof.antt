@@ -2,8 +2,6 @@
 use borrow.Author.Rules.{rules}
 use Rattle.core_term.proofs.flags.set.Statement.{statement}
 use Rattle.core_term.proofs.flags.set.Tie as tie
-use Rattle.core_term.proofs.flags.set.Reads as reads
-use Rattle.core_term.proofs.flags.set.Lts as lts
 use mathlib.Core.Path.{sym}
 use Rattle.core_term.specs.Code.WindowLaws.{put-below, put_in, put-past}
 
