@@ -1,11 +1,10 @@
 -- The ellipsis of rules among trees in the arena: told by one word, and its laws, one for each way through the code.
-use Rattle.std.specs.Prelude.{◌≡◌, Bool, true, ◌&&◌, ◌||◌, cond, List, ℕ, ◌≤◌, eqb, take}
+use Rattle.std.specs.Prelude.{◌≡◌, Bool, true, ◌&&◌, cond, List, ℕ, ◌≤◌, eqb, take}
 use Rattle.std.proofs.Math.Path.{refl, sym}
-use Rattle.std.proofs.Common.{ap, ap₂, ◌∙◌}
+use Rattle.std.proofs.Common.{◌∙◌}
 use Rattle.std.proofs.Math.Bool.{false}
 use borrow.Author.Tests.{ne_eqb}
 use Rattle.words.specs.Lists.{any_of}
-use Rattle.words.specs.ListLaws.{either}
 use Rattle.recipe.specs.Name.{Name, same, is_ellipsis}
 use Rattle.recipe.specs.Tree.{Tree, on_pair, on_name, elements, tail}
 use Rattle.expansion.specs.Rules.{no_ellipsis, dots_next}

@@ -2,9 +2,6 @@
 use borrow.Author.Rules.{rules}
 use Rattle.rule_cells.proofs.constructors.put_ellipsis.Statement.{statement}
 use Rattle.rule_cells.proofs.constructors.put_ellipsis.Tie as tie
-use Rattle.rule_cells.proofs.constructors.put_ellipsis.Reads as reads
-use Rattle.rule_cells.proofs.constructors.put_ellipsis.Lts as lts
-use Rattle.rule_cells.proofs.constructors.put.Reads as put_reads
 use Rattle.rule_cells.specs.MadeLaws.{made-ellipsis}
 
 put-requires : tie.Need-put-requires

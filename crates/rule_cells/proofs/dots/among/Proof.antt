@@ -1,14 +1,9 @@
 -- `dots::among`: what is so of the node is so of the list.
 use Rattle.rule_cells.proofs.dots.among.Statement.{statement}
 use Rattle.rule_cells.proofs.dots.among.Tie as tie
-use Rattle.rule_cells.proofs.dots.among.Reads as reads
-use Rattle.rule_cells.proofs.dots.among.Lts as lts
-use Rattle.arena.proofs.cells.reference.Reads as reference-reads
-use Rattle.arena.proofs.cells.word.Reads as word-reads
-use Rattle.rule_cells.proofs.dots.is_dots.Reads as is-dots-reads
 use borrow.Author.Rules.{rules}
-use mathlib.Core.Path.{refl, sym, ap, ◌∙◌, ◌≡◌}
-use Rattle.arena.specs.Arena.{word_at, name_at, tree_at}
+use mathlib.Core.Path.{sym, ◌∙◌, ◌≡◌}
+use Rattle.arena.specs.Arena.{tree_at}
 use mathlib.Core.Bool.{Bool, true, false}
 use native.Mathlib.Omega.{arith}
 use Rattle.arena.specs.ListLaws.{pair-falls}

@@ -2,11 +2,6 @@
 use borrow.Author.Rules.{rules}
 use Rattle.rule_cells.proofs.dots.crowded.Statement.{statement}
 use Rattle.rule_cells.proofs.dots.crowded.Tie as tie
-use Rattle.rule_cells.proofs.dots.crowded.Reads as reads
-use Rattle.rule_cells.proofs.dots.crowded.Lts as lts
-use Rattle.arena.proofs.lists.rest.Reads as rest-reads
-use Rattle.rule_cells.proofs.dots.among.Reads as Among-Reads
-use mathlib.Core.Path.{refl, sym, ap, ◌∙◌}
 use Rattle.rule_cells.specs.Dots.{crowded-no, crowded-by}
 
 rest-requires : tie.Need-rest-after-requires

@@ -2,12 +2,7 @@
 use borrow.Author.Rules.{rules}
 use Rattle.rule_cells.proofs.dots.dots_next.Statement.{statement}
 use Rattle.rule_cells.proofs.dots.dots_next.Tie as tie
-use Rattle.rule_cells.proofs.dots.dots_next.Reads as reads
-use Rattle.rule_cells.proofs.dots.dots_next.Lts as lts
-use Rattle.arena.proofs.cells.reference.Reads as reference-reads
-use Rattle.arena.proofs.cells.word.Reads as word-reads
-use Rattle.rule_cells.proofs.dots.is_dots.Reads as is-dots-reads
-use mathlib.Core.Path.{refl, sym, ap, ◌∙◌}
+use mathlib.Core.Path.{sym, ◌∙◌}
 use Rattle.rule_cells.specs.Dots.{next-pair, next-other}
 
 word-requires : tie.Need-word-requires

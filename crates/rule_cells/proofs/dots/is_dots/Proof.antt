@@ -2,11 +2,7 @@
 use borrow.Author.Rules.{rules}
 use Rattle.rule_cells.proofs.dots.is_dots.Statement.{statement}
 use Rattle.rule_cells.proofs.dots.is_dots.Tie as tie
-use Rattle.rule_cells.proofs.dots.is_dots.Reads as reads
-use Rattle.rule_cells.proofs.dots.is_dots.Lts as lts
-use Rattle.arena.proofs.cells.word.Reads as word-reads
-use Rattle.rule_cells.proofs.dots.is_ellipsis.Reads as is-ellipsis-reads
-use mathlib.Core.Path.{refl, sym, ap, ◌∙◌}
+use mathlib.Core.Path.{sym, ◌∙◌}
 use Rattle.rule_cells.specs.Dots.{dots-name, dots-other}
 
 word-requires : tie.Need-word-requires

@@ -2,12 +2,8 @@
 use borrow.Author.Rules.{rules}
 use Rattle.rule_cells.proofs.dots.is_ellipsis.Statement.{statement}
 use Rattle.rule_cells.proofs.dots.is_ellipsis.Tie as tie
-use Rattle.rule_cells.proofs.dots.is_ellipsis.Reads as reads
-use Rattle.rule_cells.proofs.dots.is_ellipsis.Lts as lts
-use Rattle.resolution.proofs.names.number_of.Reads as number-of-reads
-use Rattle.resolution.proofs.names.same_names.Reads as same-names-reads
-use mathlib.Core.Path.{refl, sym, ap, ◌∙◌}
-use Rattle.arena.specs.Arena.{word_at, name_at, tree_at}
+use mathlib.Core.Path.{sym, ◌∙◌}
+use Rattle.arena.specs.Arena.{name_at}
 use Rattle.rule_cells.specs.Dots.{dots-by-number, dots-never, dots-chosen}
 
 number-of-requires : tie.Need-number_of-requires

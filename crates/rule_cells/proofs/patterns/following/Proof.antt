@@ -2,11 +2,6 @@
 use borrow.Author.Rules.{rules}
 use Rattle.rule_cells.proofs.patterns.following.Statement.{statement}
 use Rattle.rule_cells.proofs.patterns.following.Tie as tie
-use Rattle.rule_cells.proofs.patterns.following.Reads as reads
-use Rattle.rule_cells.proofs.patterns.following.Lts as lts
-use Rattle.arena.proofs.lists.count.Reads as count-reads
-use Rattle.arena.proofs.lists.rest.Reads as rest-reads
-use mathlib.Core.Path.{refl, sym, ap, ◌∙◌}
 use Rattle.rule_cells.specs.PatternLaws.{behind-count, behind-none}
 
 rest-requires : tie.Need-rest-after-requires

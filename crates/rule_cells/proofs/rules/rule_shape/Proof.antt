@@ -2,13 +2,7 @@
 use borrow.Author.Rules.{rules}
 use Rattle.rule_cells.proofs.rules.rule_shape.Statement.{statement}
 use Rattle.rule_cells.proofs.rules.rule_shape.Tie as tie
-use Rattle.rule_cells.proofs.rules.rule_shape.Reads as reads
-use Rattle.rule_cells.proofs.rules.rule_shape.Lts as lts
-use Rattle.arena.proofs.cells.word.Reads as word-reads
-use Rattle.arena.proofs.lists.first.Reads as first_reads
-use Rattle.arena.proofs.lists.is_list_of.Reads as is-list-of-reads
-use Rattle.rule_cells.proofs.dots.is_ellipsis.Reads as is-ellipsis-reads
-use mathlib.Core.Path.{refl, sym, ap, ◌∙◌}
+use mathlib.Core.Path.{sym, ◌∙◌}
 use Rattle.rule_cells.specs.RuleListLaws.{shape-no, shape-other, shape-by}
 
 returns : tie.Need-returns-then-word-ne-NAME

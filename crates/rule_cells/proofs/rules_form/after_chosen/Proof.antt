@@ -2,12 +2,7 @@
 use borrow.Author.Rules.{rules}
 use Rattle.rule_cells.proofs.rules_form.after_chosen.Statement.{statement}
 use Rattle.rule_cells.proofs.rules_form.after_chosen.Tie as tie
-use Rattle.rule_cells.proofs.rules_form.after_chosen.Reads as reads
-use Rattle.rule_cells.proofs.rules_form.after_chosen.Lts as lts
-use Rattle.arena.proofs.cells.word.Reads as word-reads
-use Rattle.arena.proofs.lists.first.Reads as first_reads
-use Rattle.arena.proofs.lists.rest.Reads as rest-reads
-use mathlib.Core.Path.{refl, sym, ap, ◌∙◌}
+use mathlib.Core.Path.{sym, ◌∙◌}
 use Rattle.rule_cells.specs.Forms.{after-chosen, after-plain}
 
 rest-requires : tie.Need-rest-rest-requires

@@ -2,11 +2,7 @@
 use borrow.Author.Rules.{rules}
 use Rattle.rule_cells.proofs.rules_form.chosen_good.Statement.{statement}
 use Rattle.rule_cells.proofs.rules_form.chosen_good.Tie as tie
-use Rattle.rule_cells.proofs.rules_form.chosen_good.Reads as reads
-use Rattle.rule_cells.proofs.rules_form.chosen_good.Lts as lts
-use Rattle.arena.proofs.cells.word.Reads as word-reads
-use Rattle.resolution.proofs.names.is_ordinary.Reads as is-ordinary-reads
-use mathlib.Core.Path.{refl, sym, ap, ◌∙◌}
+use mathlib.Core.Path.{sym, ◌∙◌}
 use Rattle.rule_cells.specs.Forms.{chosen-other, chosen-name}
 
 word-requires : tie.Need-word-requires

@@ -2,11 +2,7 @@
 use borrow.Author.Rules.{rules}
 use Rattle.rule_cells.proofs.rules_form.ellipsis.Statement.{statement}
 use Rattle.rule_cells.proofs.rules_form.ellipsis.Tie as tie
-use Rattle.rule_cells.proofs.rules_form.ellipsis.Reads as reads
-use Rattle.rule_cells.proofs.rules_form.ellipsis.Lts as lts
-use Rattle.arena.proofs.cells.word.Reads as word-reads
-use Rattle.arena.proofs.lists.element.Reads as element-reads
-use mathlib.Core.Path.{refl, sym, ap, ◌∙◌}
+use mathlib.Core.Path.{sym, ◌∙◌}
 use Rattle.rule_cells.specs.Forms.{ellipsis-chosen, ellipsis-default}
 
 element-requires : tie.Need-element-second-requires

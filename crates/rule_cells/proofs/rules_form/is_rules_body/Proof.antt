@@ -2,15 +2,7 @@
 use borrow.Author.Rules.{rules}
 use Rattle.rule_cells.proofs.rules_form.is_rules_body.Statement.{statement}
 use Rattle.rule_cells.proofs.rules_form.is_rules_body.Tie as tie
-use Rattle.rule_cells.proofs.rules_form.is_rules_body.Reads as reads
-use Rattle.rule_cells.proofs.rules_form.is_rules_body.Lts as lts
-use Rattle.arena.proofs.lists.count.Reads as count-reads
-use Rattle.arena.proofs.lists.first.Reads as first_reads
-use Rattle.arena.proofs.lists.rest.Reads as rest-reads
-use Rattle.rule_cells.proofs.rules_form.after_chosen.Reads as after-chosen-reads
-use Rattle.rule_cells.proofs.rules_form.ellipsis.Reads as ellipsis-reads
-use Rattle.rule_cells.proofs.rules_form.literals_good.Reads as literals-good-reads
-use mathlib.Core.Path.{refl, sym, ap, ◌∙◌}
+use mathlib.Core.Path.{sym, ◌∙◌}
 use Rattle.rule_cells.specs.Forms.{body-literals, body-none, body-some}
 
 returns : tie.Need-returns-then-n-eq0

@@ -2,14 +2,7 @@
 use borrow.Author.Rules.{rules}
 use Rattle.rule_cells.proofs.rules_form.is_rules_form.Statement.{statement}
 use Rattle.rule_cells.proofs.rules_form.is_rules_form.Tie as tie
-use Rattle.rule_cells.proofs.rules_form.is_rules_form.Reads as reads
-use Rattle.rule_cells.proofs.rules_form.is_rules_form.Lts as lts
-use Rattle.arena.proofs.lists.element.Reads as element-reads
-use Rattle.arena.proofs.lists.first.Reads as first_reads
-use Rattle.rule_cells.proofs.rules_form.chosen_good.Reads as chosen-good-reads
-use Rattle.rule_cells.proofs.rules_form.is_rules_body.Reads as is-rules-body-reads
-use Rattle.rule_cells.proofs.rules_form.is_syntax_rules.Reads as is-syntax-rules-reads
-use mathlib.Core.Path.{refl, sym, ap, ◌∙◌}
+use mathlib.Core.Path.{sym, ◌∙◌}
 use Rattle.rule_cells.specs.Forms.{form-no, form-unchosen, form-body}
 
 returns : tie.Need-returns-then-chosen_good

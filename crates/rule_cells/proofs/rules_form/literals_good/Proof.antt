@@ -2,12 +2,7 @@
 use borrow.Author.Rules.{rules}
 use Rattle.rule_cells.proofs.rules_form.literals_good.Statement.{statement}
 use Rattle.rule_cells.proofs.rules_form.literals_good.Tie as tie
-use Rattle.rule_cells.proofs.rules_form.literals_good.Reads as reads
-use Rattle.rule_cells.proofs.rules_form.literals_good.Lts as lts
-use Rattle.arena.proofs.lists.count.Reads as count-reads
-use Rattle.arena.proofs.lists.is_list.Reads as is-list-reads
-use Rattle.rule_cells.proofs.rules_form.all_listed.Reads as all-listed-reads
-use mathlib.Core.Path.{refl, sym, ap, ◌∙◌}
+use mathlib.Core.Path.{sym, ◌∙◌}
 use Rattle.rule_cells.specs.Forms.{literals-no, literals-other, literals-most}
 
 is-list-requires : tie.Need-is_list-requires

@@ -2,12 +2,7 @@
 use borrow.Author.Rules.{rules}
 use Rattle.rule_cells.proofs.rules_form.may_be_listed.Statement.{statement}
 use Rattle.rule_cells.proofs.rules_form.may_be_listed.Tie as tie
-use Rattle.rule_cells.proofs.rules_form.may_be_listed.Reads as reads
-use Rattle.rule_cells.proofs.rules_form.may_be_listed.Lts as lts
-use Rattle.arena.proofs.cells.word.Reads as word-reads
-use Rattle.resolution.proofs.names.number_of.Reads as number-of-reads
-use Rattle.rule_cells.proofs.dots.is_ellipsis.Reads as is-ellipsis-reads
-use mathlib.Core.Path.{refl, sym, ap, ◌∙◌}
+use mathlib.Core.Path.{sym, ◌∙◌}
 use Rattle.rule_cells.specs.Forms.{listed-no, listed-dots, listed_by}
 
 word-requires : tie.Need-word-requires

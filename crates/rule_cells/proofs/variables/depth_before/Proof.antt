@@ -2,12 +2,7 @@
 use borrow.Author.Rules.{rules}
 use Rattle.rule_cells.proofs.variables.depth_before.Statement.{statement}
 use Rattle.rule_cells.proofs.variables.depth_before.Tie as tie
-use Rattle.rule_cells.proofs.variables.depth_before.Reads as reads
-use Rattle.rule_cells.proofs.variables.depth_before.Lts as lts
-use Rattle.rule_cells.proofs.dots.dots_next.Reads as dots-next-reads
-use Rattle.rule_cells.proofs.variables.element_depth.Reads as element-depth-reads
-use mathlib.Core.Path.{refl, sym, ap, ◌∙◌}
-use Rattle.arena.specs.Arena.{word_at, name_at, tree_at}
+use Rattle.arena.specs.Arena.{tree_at}
 use Rattle.rule_cells.specs.Dots.{dots_at}
 use Rattle.rule_cells.specs.VariableLaws.{deeper-by}
 

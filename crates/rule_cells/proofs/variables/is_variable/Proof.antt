@@ -2,13 +2,8 @@
 use borrow.Author.Rules.{rules}
 use Rattle.rule_cells.proofs.variables.is_variable.Statement.{statement}
 use Rattle.rule_cells.proofs.variables.is_variable.Tie as tie
-use Rattle.rule_cells.proofs.variables.is_variable.Reads as reads
-use Rattle.rule_cells.proofs.variables.is_variable.Lts as lts
-use Rattle.resolution.proofs.names.number_of.Reads as number-of-reads
-use Rattle.rule_cells.proofs.dots.is_ellipsis.Reads as is-ellipsis-reads
-use Rattle.rule_cells.proofs.variables.is_literal.Reads as is-literal-reads
-use mathlib.Core.Path.{refl, sym, ap, ◌∙◌}
-use Rattle.arena.specs.Arena.{word_at, name_at, tree_at}
+use mathlib.Core.Path.{sym, ◌∙◌}
+use Rattle.arena.specs.Arena.{name_at}
 use Rattle.rule_cells.specs.GatherLaws.{dots-no-variable, wildcard-no-variable, literal-no-variable, a-variable}
 use Rattle.arena.specs.NodeLaws.{name_at-number}
 use Rattle.rule_cells.specs.Scopes.{dots_of, literals_of}
