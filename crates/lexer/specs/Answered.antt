@@ -3,6 +3,7 @@ use Rattle.std.specs.Prelude.{◌≡◌, List, [], ◌∷◌, ℕ}
 use Rattle.std.proofs.Math.Option.{Option, none, some}
 use Rattle.std.specs.Int.{w32}
 use Rattle.std.proofs.Common.{of_z}
+use Rattle.words.specs.Code.Ground.{number_of}
 use Rattle.words.specs.Parts.{part}
 use Rattle.datum.specs.Constant.{boolean}
 use Rattle.lexer.specs.declared.token_reader.TokenReader.{TokenReader}
@@ -20,7 +21,7 @@ meant text (Close c) = some (ends, c.at)
 meant text (Boolean b c) = some (constant (boolean b), c.at)
 meant text (Number z p c) = some (constant (number (of_z w32 z) p), c.at)
 meant text (Name from c) = some (name (part from c.at text), c.at)
-meant text (Refused g c) = some (refused g, c.at)
+meant text (Refused g c) = some (refused (number_of g), c.at)
 
 -- the offset past an answer, or another at the end
 abbrev pub past_or : ℕ → T.Token → ℕ
@@ -40,7 +41,7 @@ ground_in (Close c) = 0
 ground_in (Boolean b c) = 0
 ground_in (Number z p c) = 0
 ground_in (Name from c) = 0
-ground_in (Refused g c) = g
+ground_in (Refused g c) = number_of g
 
 -- where an answer says that it starts; only names say it
 abbrev pub start_or : ℕ → T.Token → ℕ

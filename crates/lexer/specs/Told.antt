@@ -2,6 +2,7 @@
 use Rattle.std.specs.Prelude.{◌≡◌, true, false, List, [], ◌∷◌, map, ℕ, ◌+◌, ◌≤◌, ◌<◌, length, get_or, take, drop}
 use Rattle.std.specs.Int.{w32}
 use Rattle.std.proofs.Common.{of_z}
+use Rattle.words.specs.Code.Ground.{number_of}
 use Rattle.words.specs.Limits.{name_length_most}
 use Rattle.words.specs.Lists.{all_of}
 use Rattle.words.specs.Parts.{part}
@@ -48,14 +49,14 @@ Told text at (Boolean b c) = Took text at (constant (boolean b)) c.at
 Told text at (Number z p c) = Took text at (constant (number (of_z w32 z) p)) c.at
 Told text at (Name from c) =
     (from ≡ start_at text at) × (from < c.at) × (length (part from c.at text) ≤ name_length_most) × Took text at (name (part from c.at text)) c.at
-Told text at (Refused g c) = Took text at (refused g) c.at
+Told text at (Refused g c) = Took text at (refused (number_of g)) c.at
 
 -- the answer for a run
 abbrev pub RunTold : List ℕ → ℕ → ℕ → T.Token → Type 0
 RunTold text from to (Number z p c) = (c.at ≡ to) × (meaning_of (run (part from to text)) ≡ constant (number (of_z w32 z) p))
 RunTold text from to (Name f c) =
     (f ≡ from) × (c.at ≡ to) × (length (part from to text) ≤ name_length_most) × (meaning_of (run (part from to text)) ≡ name (part from to text))
-RunTold text from to (Refused g c) = (c.at ≡ to) × (meaning_of (run (part from to text)) ≡ refused g)
+RunTold text from to (Refused g c) = (c.at ≡ to) × (meaning_of (run (part from to text)) ≡ refused (number_of g))
 RunTold text from to End = ⊥
 RunTold text from to (Open c) = ⊥
 RunTold text from to (Close c) = ⊥
@@ -70,7 +71,7 @@ pub record FlagTook (text : List ℕ) (at : ℕ) (m : Meaning) (next : ℕ) : Ty
 -- the answer behind a #
 abbrev pub FlagTold : List ℕ → ℕ → T.Token → Type 0
 FlagTold text at (Boolean b c) = FlagTook text at (constant (boolean b)) c.at
-FlagTold text at (Refused g c) = FlagTook text at (refused g) c.at
+FlagTold text at (Refused g c) = FlagTook text at (refused (number_of g)) c.at
 FlagTold text at End = ⊥
 FlagTold text at (Open c) = ⊥
 FlagTold text at (Close c) = ⊥

@@ -5,6 +5,7 @@ ghost use Rattle.lexer.specs.Told.{Skipped, RunTo, Told, RunTold, FlagTold};
 
 use crate::bytes::{is_running, is_separating};
 use crate::number::{Numeral, is_numeral, numeral_of};
+use words::ground::Ground;
 
 // A place in the text.
 #[derive(Clone, Copy)]
@@ -22,7 +23,7 @@ pub enum Token {
     Boolean(u32, Cursor),
     Number(i32, u32, Cursor),
     Name(usize, Cursor),
-    Refused(u32, Cursor),
+    Refused(Ground, Cursor),
 }
 
 // Past the separators.
@@ -81,12 +82,12 @@ fn run_token(text: &[u8], from: usize, to: usize) -> Token
         if is_name(word) {
             return Token::Name(from, Cursor { at: to });
         }
-        return Token::Refused(3, Cursor { at: to });
+        return Token::Refused(Ground::BadToken, Cursor { at: to });
     }
     match numeral_of(word) {
         Numeral::Value(z, places) => Token::Number(z, places, Cursor { at: to }),
-        Numeral::Malformed => Token::Refused(3, Cursor { at: to }),
-        Numeral::OutOfRange => Token::Refused(4, Cursor { at: to }),
+        Numeral::Malformed => Token::Refused(Ground::BadToken, Cursor { at: to }),
+        Numeral::OutOfRange => Token::Refused(Ground::NumberOutOfRange, Cursor { at: to }),
     }
 }
 
@@ -96,7 +97,7 @@ fn flag_at(text: &[u8], at: usize) -> Token
     ensures { FlagTold text.now at result }
 {
     if at == text.len() {
-        return Token::Refused(3, Cursor { at });
+        return Token::Refused(Ground::BadToken, Cursor { at });
     }
     let next = Cursor { at: at + 1 };
     if text[at] == b't' {
@@ -105,7 +106,7 @@ fn flag_at(text: &[u8], at: usize) -> Token
     if text[at] == b'f' {
         return Token::Boolean(0, next);
     }
-    Token::Refused(3, next)
+    Token::Refused(Ground::BadToken, next)
 }
 
 // The first token from a cursor on.
@@ -129,7 +130,7 @@ pub fn token_at(text: &[u8], cursor: Cursor) -> Token
     }
     let to = run_end(text, at);
     if to == at {
-        return Token::Refused(3, Cursor { at: at + 1 });
+        return Token::Refused(Ground::BadToken, Cursor { at: at + 1 });
     }
     run_token(text, at, to)
 }

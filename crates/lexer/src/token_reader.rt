@@ -49,7 +49,7 @@ pub fn ground(token: Token) -> u32
         Token::Boolean(_, _) => 0,
         Token::Number(_, _, _) => 0,
         Token::Name(_, _) => 0,
-        Token::Refused(ground, _) => ground,
+        Token::Refused(ground, _) => ground.number(),
     }
 }
 

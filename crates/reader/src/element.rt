@@ -4,19 +4,21 @@ ghost use Rattle.words.specs.Limits.{items_most, name_length_most};
 ghost use Rattle.reader.specs.Code.Placed.{Sound, NamesSound, NamePut, NumberKind};
 ghost use Rattle.reader.specs.Code.Moved.{moved_by, finish_of, Advanced};
 
+use crate::Counts;
 use crate::names::{bucket_of, enter, find};
-use crate::place::{Place, Step, close_list, ground_at, is_complete, open_list, put_token};
+use crate::place::{Place, close_list, open_list, put_token};
 use datum::kinds;
 use lexer::token::{Cursor, Token};
 use lexer::token_reader::token_from;
+use words::ground::Ground;
 use words::signed::to_word;
 
 // What reading does next: it goes on from a place and a cursor, is done with so many items and names, or turns the text back.
 #[derive(Clone, Copy)]
 pub enum Move {
     On(Place, Cursor),
-    Done(usize, usize),
-    Refused(u32),
+    Done(Counts),
+    Refused(Ground),
 }
 
 // A name, by the number it has or the next one.
@@ -26,7 +28,7 @@ fn put_name(
     index: &mut [u16],
     place: Place,
     word: &[u8],
-) -> Step
+) -> Result<Place, Ground>
     requires sound { Sound place (length items.old) }
     requires names_sound { NamesSound place names.old index.old }
     requires word_len_bound { length word.now ≤ name_length_most }
@@ -37,9 +39,7 @@ fn put_name(
     if number < place.known {
         return put_token(items, place, kinds::NAME, number as u32, 0, place.known);
     }
-    if number == words::NAMES {
-        return Step::Refused(ground_at(place, number + 1, place.depth));
-    }
+    place.begins(number + 1, place.depth)?;
     enter(names, index, number, word, bucket);
     put_token(items, place, kinds::NAME, number as u32, 0, number + 1)
 }
@@ -55,24 +55,28 @@ fn number_kind(places: u32) -> u32
 }
 
 // A step, with the cursor past its token.
-fn moved(step: Step, next: Cursor) -> Move
+fn moved(step: Result<Place, Ground>, next: Cursor) -> Move
     ensures { result ≡ moved_by step next }
 {
     match step {
-        Step::Went(place) => Move::On(place, next),
-        Step::Refused(ground) => Move::Refused(ground),
+        Ok(place) => Move::On(place, next),
+        Err(ground) => Move::Refused(ground),
     }
 }
 
 // The end of the text: ground 5 where a list is open or an element missing.
+#[tactic(auto, unfolding(crate::specs::Code::Moved::finish_of))]
 fn finish(place: Place) -> Move
     requires { place.next ≤ items_most }
     ensures { result ≡ finish_of place }
 {
-    if !is_complete(place) {
-        return Move::Refused(5);
+    if !place.is_complete() {
+        return Move::Refused(Ground::Unbalanced);
     }
-    Move::Done(place.next + 1, place.known)
+    Move::Done(Counts {
+        items: place.next + 1,
+        names: place.known,
+    })
 }
 
 // The next token, taken.

@@ -1,19 +1,18 @@
 -- Laws of going on, being done and turning back, one for each kind of token.
-use Rattle.std.specs.Prelude.{◌≡◌, true, false, ℕ, zero, suc, ◌+◌, ◌≤◌, eqb, length}
+use Rattle.std.specs.Prelude.{◌≡◌, true, false, ℕ, zero, suc, ◌+◌, ◌≤◌, eqb, length, Result, Ok, Err}
 use Rattle.std.proofs.Math.Path.{refl, ap}
 use Rattle.std.proofs.Common.{sym, subst, ◌∙◌, length-append}
 use mathlib.Core.List.{List, [], ◌∷◌, ◌++◌}
 use native.Mathlib.Omega.{arith}
+use Rattle.words.specs.Code.Ground.{number_of}
+use Rattle.words.specs.declared.ground.Ground.{Ground}
 use Rattle.words.specs.TestLaws.{and_left}
 use Rattle.words.specs.ListLaws.{either, never}
 use Rattle.datum.specs.Constant.{Constant, integer, decimal}
 use Rattle.datum.specs.Datum.{Datum, constant_d, none_d, data_items, datum_items}
 use Rattle.lexer.specs.declared.token.Cursor.{Cursor}
 use Rattle.reader.specs.declared.place.Place.{Place}
-use Rattle.reader.specs.declared.place.Step as S
-use Rattle.reader.specs.declared.place.Step.TheVariants as SV
 use Rattle.reader.specs.declared.element.Move.{Move}
-use Rattle.reader.specs.declared.element.Move.TheVariants.{Refused}
 use Rattle.reading.specs.Meaning.{Meaning, begins, ends, constant, refused, number}
 use Rattle.reading.specs.Numbering.{datum_words, data_words}
 use Rattle.reading.specs.Elements.{Answer, got, refused_for, then, Reading, onto, none_open, is_complete, counted, put, opened, closed, takes, takes_all}
@@ -31,9 +30,9 @@ use Rattle.reader.specs.Code.Moved.{moved_by, finish_of, outcome_from, Whole, Mo
 
 module _ (text : List ℕ) (at : ℕ) (r : Reading) (words bytes index : List ℕ) (m : Meaning) (c : Cursor) (t : Took text at m c.at)
     (i : IndexedAfter m r index) where
-  onward : (a : Answer Reading) → takes m r ≡ a → (s : S.Step) → Stepped a words bytes s → Moved text at r words bytes index (moved_by s c)
+  onward : (a : Answer Reading) → takes m r ≡ a → (s : Result Place Ground) → Stepped a words bytes s → Moved text at r words bytes index (moved_by s c)
   unfolding outcome_from takes_all then
-  onward (got q) e (SV.Went p) h = record {
+  onward (got q) e (Ok p) h = record {
     next = q;
     holds = h;
     indexed = i q e;
@@ -41,11 +40,11 @@ module _ (text : List ℕ) (at : ℕ) (r : Reading) (words bytes index : List �
     high = t.high;
     same = rw (t.means, e);
   }
-  onward (got q) e (SV.Refused g) h = absurd h
-  onward (refused_for stage g) e (SV.Went p) h = absurd h
-  onward (refused_for stage g) e (SV.Refused k) h = rw (t.means, e, h.0, h.1)
+  onward (got q) e (Err g) h = absurd h
+  onward (refused_for stage g) e (Ok p) h = absurd h
+  onward (refused_for stage g) e (Err k) h = rw (t.means, e, h.0, h.1)
 
-  pub stepped-moved : (s : S.Step) (v : Move) → v ≡ moved_by s c → Stepped (takes m r) words bytes s → Moved text at r words bytes index v
+  pub stepped-moved : (s : Result Place Ground) (v : Move) → v ≡ moved_by s c → Stepped (takes m r) words bytes s → Moved text at r words bytes index v
   stepped-moved s v e h = subst (Moved text at r words bytes index) (sym e) (onward (takes m r) refl s h)
 
 -- the names, and with them the index, stay the same at other tokens than names
@@ -68,7 +67,7 @@ module _ (r : Reading) (index : List ℕ) (i : Indexed r.known index) where
   ends-indexed q e = rw (closed-known r.around q e) i
 
 -- an element that is a constant
-pub constant-stepped : (r : Reading) (p : Place) (words words' bytes : List ℕ) (a : Constant) (kind first second : ℕ) (s : S.Step)
+pub constant-stepped : (r : Reading) (p : Place) (words words' bytes : List ℕ) (a : Constant) (kind first second : ℕ) (s : Result Place Ground)
     → Holds r p words bytes → a ≡ record { kind = kind; first = first; second = second }
     → TokenPut p kind first second p.known words words' s → Stepped (takes (constant a) r) words' bytes s
 unfolding takes put counted with_token datum_items datum_words
@@ -87,7 +86,7 @@ no-places places e w = rw e
 
 -- ---- a token that is refused
 
-pub refused-moved : (text : List ℕ) (at : ℕ) (r : Reading) (g next : ℕ) → Took text at (refused g) next → outcome_from text at r ≡ refused_for begun g
+pub refused-moved : (text : List ℕ) (at : ℕ) (r : Reading) (g : Ground) (next : ℕ) → Took text at (refused (number_of g)) next → outcome_from text at r ≡ refused_for begun (number_of g)
 unfolding outcome_from takes_all then takes
 refused-moved text at r g next t = rw t.means
 
@@ -134,7 +133,7 @@ module _ (text : List ℕ) (at : ℕ) (r : Reading) (p : Place) (words bytes ind
         let n : length ws + 3 ≡ length (ws ++ (0 ∷ 0 ∷ 0 ∷ [])) = omega (arith, length-append ws (0 ∷ 0 ∷ 0 ∷ [])) in
         h.items ∙ rw placed-is (zeros ws words room ∙ refill ws (0 ∷ 0 ∷ 0 ∷ []) words (length ws + 3) n ∙ rw words_are)
 
-    end-done : Whole (outcome_from text at r) (p.next + 1) p.known words bytes
+    end-done : Whole (outcome_from text at r) (record { items = p.next + 1; names = p.known }) words bytes
     unfolding finished item_words name_bytes data_items
     end-done = record {
       recipe = record { elements = onto r.here none_d; names = r.known };
