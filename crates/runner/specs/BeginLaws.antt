@@ -1,5 +1,9 @@
 -- The laws of a node that begins, one for each way through the code.
-use Rattle.std.specs.Prelude.{◌≡◌, Bool, true, false, ℕ, suc, ◌+◌, ◌-◌, ◌*◌, ◌/◌, ◌%◌, ◌≤◌, ◌<◌, eqb, ltb, get_or}
+use Rattle.std.specs.Prelude.{◌≡◌, Bool, true, false, ℕ, suc, ◌+◌, ◌-◌, ◌*◌, ◌/◌, ◌%◌, ◌≤◌, ◌<◌, eqb, ltb, get_or, Result, Ok, Err}
+use Rattle.std.specs.Prelude as P
+use Rattle.words.specs.declared.ground.Ground.{Ground}
+use Rattle.words.specs.declared.ground.Ground.TheVariants as G
+use Rattle.words.specs.Code.Ground as Grounds
 use Rattle.std.proofs.Math.Path.{refl, ap, subst}
 use Rattle.std.proofs.Common.{sym, ap₂, ◌∙◌, add-one, lt-ltb, le-ltb}
 use mathlib.Core.List.{List, [], ◌∷◌}
@@ -11,30 +15,27 @@ use Rattle.datum.specs.Constant.{integer, boolean, decimal}
 use Rattle.core_term.specs.Node.{node_at}
 use Rattle.core_term.specs.Code.Opened.{node_in}
 use Rattle.core_term.specs.Code.Walk.{rest}
-use Rattle.core_term.specs.Term.{lambda_c, Plain, count}
+use Rattle.core_term.specs.Term.{lambda_c, Plain}
 use Rattle.core_term.specs.Words.{encode}
 use Rattle.core_term.specs.declared.nodes.Node.{Node}
 use Rattle.core_term.specs.declared.nodes.Node.TheVariants.{Variable, Operation, Integer, Boolean, Decimal, Name, List as Several, If, Lambda, Application, None}
 use Rattle.evaluation.specs.Code.{code_at, codes_at, datum_code}
 use Rattle.evaluation.specs.Computation.{Out, done, refused, M, go_on, ◌>>=◌, ◌>>◌, give, test, or_refuse, or_ground}
 use Rattle.evaluation.specs.Numbers.{integers}
-use Rattle.evaluation.specs.Evaluate.{Value, number_v, boolean_v, datum_v, closure_v, operation_v, Environment, find, constant_value, evaluate_node}
+use Rattle.evaluation.specs.Evaluate.{Value, number_v, boolean_v, datum_v, closure_v, operation_v, find, constant_value, evaluate_node}
 use Rattle.evaluation.proofs.Steps.{Waiting, test_w, parts_w, value, resume, begins, begins-out, begins-node, begins-if, begins-application}
 use Rattle.runner.specs.declared.rows.Value as R
 use Rattle.runner.specs.declared.rows.Frame.{Frame}
-use Rattle.runner.specs.declared.rows.Found.{Found}
-use Rattle.runner.specs.declared.rows.Found.TheVariants as F
 use Rattle.runner.specs.declared.state.Counts.{Counts}
-use Rattle.runner.specs.declared.state.Turn.{Turn}
-use Rattle.runner.specs.declared.state.Turn.TheVariants.{Begins, Comes, Stops}
+use Rattle.runner.specs.declared.state.Turn.TheVariants.{Begins, Comes}
 use Rattle.runner.specs.Domain.{Number, numbers, number_in}
 use Rattle.runner.specs.Here.{Here}
 use Rattle.runner.specs.NodeIs.{NodeIs, node-is}
-use Rattle.runner.specs.Rows.{value_word, frame_word, EnvironmentIs, ValueIs, number_i, boolean_i, datum_i, closure_i, operation_i, ValueIn, ValuesIn, none_i, WaitingIs, test_i, parts_i}
+use Rattle.runner.specs.Rows.{value_word, frame_word, ValueIs, number_i, boolean_i, datum_i, closure_i, operation_i, none_i, WaitingIs, test_i, parts_i}
 use Rattle.runner.specs.Stores.{value_set, frame_set, value_words, frame_words, length-stored, value-own, frame-own, packed-parts}
-use Rattle.runner.specs.Kept.{Kept, kept_same, kept-value, kept_frame, environment-kept, value-kept, values-kept, waiting_kept}
+use Rattle.runner.specs.Kept.{Kept, kept_same, kept-value, kept_frame, environment-kept, value-kept, waiting_kept}
 use Rattle.runner.specs.Found.{Bound, FoundIs}
-use Rattle.runner.specs.Machine.{operation_found, Room, Beginning, Coming, Stopped, Leaving, Giving, Seeks, Spent, Turned, Some, begin_fuel, come_fuel, give_fuel}
+use Rattle.runner.specs.Machine.{operation_found, Beginning, Leaving, Giving, Seeks, Spent, Turned, begin_fuel, give_fuel}
 
 -- a node's unit
 abbrev pub spent : Counts → Counts
@@ -48,7 +49,7 @@ module _ {ws t : List ℕ} {budget : ℕ} {whole : Out (Value Number)} (s : Coun
   giving-row g = omega (arith, g.leaving.free, g.leaving.room.within, g.leaving.room.lent)
 
   pub pushed : (v : R.Value) → Giving ws budget whole t s v
-      → Turned ws budget whole (give_fuel s budget) (value_set t s.values v) (Comes (record { units = s.units; values = s.values + 1; frames = s.frames; cells = s.cells }))
+      → Turned ws budget whole (give_fuel s budget) (value_set t s.values v) (Ok (Comes (record { units = s.units; values = s.values + 1; frames = s.frames; cells = s.cells })))
   unfolding ◌>>=◌ go_on give
   pushed v g =
       let l = g.leaving in
@@ -89,7 +90,7 @@ module _ {ws t : List ℕ} {budget : ℕ} {whole : Out (Value Number)} (s : Coun
               record { room = l.room; free = l.free; waiting = l.waiting; stacked = l.stacked; goes = l.goes ∙ ap (go_on (resume numbers budget l.waiting)) e };
         }
 
-    pub leaving-stops : (g fuel : ℕ) → 0 < fuel → found s.units ≡ refused g s.units → Turned ws budget whole fuel t (Stops g)
+    pub leaving-stops : (g : Ground) (fuel : ℕ) → 0 < fuel → found s.units ≡ refused (Grounds.number_of g) s.units → Turned ws budget whole fuel t (Err g)
     unfolding ◌>>=◌ go_on
     leaving-stops g fuel h e = (record { units = s.units; goes = l.goes ∙ ap (go_on (resume numbers budget l.waiting)) e }, h)
 
@@ -106,22 +107,22 @@ module _ {ws t : List ℕ} {budget : ℕ} {whole : Out (Value Number)} (s : Coun
           rows = omega (arith, k.below, k.leaving.free, k.leaving.room.within, k.leaving.room.lent);
         }
 
-    pub seeks-found : (v : R.Value) → FoundIs ws t e (find n k.environment) (F.Value v) → Giving ws budget whole t s v
+    pub seeks-found : (v : R.Value) → FoundIs ws t e (find n k.environment) (P.Some v) → Giving ws budget whole t s v
     unfolding or_refuse
     seeks-found v i = go (find n k.environment) refl i
       where
-        go : (o : Option (Value Number)) → find n k.environment ≡ o → FoundIs ws t e o (F.Value v) → Giving ws budget whole t s v
+        go : (o : Option (Value Number)) → find n k.environment ≡ o → FoundIs ws t e o (P.Some v) → Giving ws budget whole t s v
         go none q i = absurd i
         go (some x) q i =
             leaving-gives (or_refuse 25 (find n k.environment)) k.leaving v x (rw q)
             (value-kept (kept_same 0 0 s.cells t) k.below k.below i)
 
-    pub seeks-none : FoundIs ws t e (find n k.environment) F.None → Turned ws budget whole (give_fuel s budget) t (Stops 25)
+    pub seeks-none : FoundIs ws t e (find n k.environment) P.None → Turned ws budget whole (give_fuel s budget) t (Err G.WrongKind)
     unfolding or_refuse
     seeks-none i = go (find n k.environment) refl i
       where
-        go : (o : Option (Value Number)) → find n k.environment ≡ o → FoundIs ws t e o F.None → Turned ws budget whole (give_fuel s budget) t (Stops 25)
-        go none q i = leaving-stops (or_refuse 25 (find n k.environment)) k.leaving 25 (give_fuel s budget) (omega arith) (rw q)
+        go : (o : Option (Value Number)) → find n k.environment ≡ o → FoundIs ws t e o P.None → Turned ws budget whole (give_fuel s budget) t (Err G.WrongKind)
+        go none q i = leaving-stops (or_refuse 25 (find n k.environment)) k.leaving G.WrongKind (give_fuel s budget) (omega arith) (rw q)
         go (some x) q i = absurd i
 
   -- an operation by its place
@@ -130,9 +131,9 @@ module _ {ws t : List ℕ} {budget : ℕ} {whole : Out (Value Number)} (s : Coun
     unfolding ◌>>◌ go_on test give
     operation-gives h = leaving-gives _ l _ (operation_v p) (rw (lt-ltb p 4 h)) (operation_i refl refl h)
 
-    pub operation-stops : 4 ≤ p → Turned ws budget whole (give_fuel s budget) t (Stops 25)
+    pub operation-stops : 4 ≤ p → Turned ws budget whole (give_fuel s budget) t (Err G.WrongKind)
     unfolding ◌>>◌ go_on test give
-    operation-stops h = leaving-stops _ l 25 (give_fuel s budget) (omega arith) (rw (le-ltb p 4 h))
+    operation-stops h = leaving-stops _ l G.WrongKind (give_fuel s budget) (omega arith) (rw (le-ltb p 4 h))
 
   module _ (at e : ℕ) where
     pub spent-variable : (n : ℕ) → Spent ws budget whole t s (Variable n) at e → Seeks ws budget whole t s n e
@@ -163,9 +164,9 @@ module _ {ws t : List ℕ} {budget : ℕ} {whole : Out (Value Number)} (s : Coun
     unfolding code_at datum_code evaluate_node constant_value or_ground boolean
     spent-boolean w x = leaving-gives _ (spent-is x _ x.is) _ (boolean_v (eqb w 1)) refl (boolean_i refl refl)
 
-    pub spent-decimal : (w p : ℕ) → Spent ws budget whole t s (Decimal w p) at e → Turned ws budget whole (give_fuel s budget) t (Stops 25)
+    pub spent-decimal : (w p : ℕ) → Spent ws budget whole t s (Decimal w p) at e → Turned ws budget whole (give_fuel s budget) t (Err G.WrongKind)
     unfolding code_at datum_code evaluate_node constant_value or_ground decimal
-    spent-decimal w p x = leaving-stops _ (spent-is x _ x.is) 25 (give_fuel s budget) (omega arith) refl
+    spent-decimal w p x = leaving-stops _ (spent-is x _ x.is) G.WrongKind (give_fuel s budget) (omega arith) refl
 
     -- a quoted datum is its place, in two words
     datum-gives : {node : Node} (x : Spent ws budget whole t s node at e) → evaluate_node numbers (value numbers budget) (code_at at x.term) x.environment ≡ give (datum_v at)
@@ -222,7 +223,7 @@ module _ {ws t : List ℕ} {budget : ℕ} {whole : Out (Value Number)} (s : Coun
     frame-begins : (part : ℕ) (term : Plain) (w : Waiting numbers budget) → Here ws part term
         → WaitingIs ws (frame_set t s.frames f) s.cells budget (suc s.frames) s.values (w ∷ x.leaving.waiting)
         → begins numbers budget (code_at at x.term) x.environment x.leaving.waiting (s.units - 1) ≡ begins numbers budget (code_at part term) x.environment (w ∷ x.leaving.waiting) (suc (s.units - 1))
-        → Turned ws budget whole (give_fuel s budget) (frame_set t s.frames f) (Begins (framed s) part e)
+        → Turned ws budget whole (give_fuel s budget) (frame_set t s.frames f) (Ok (Begins (framed s) part e))
     frame-begins part term w h k q =
         let l = x.leaving in
         let u : suc (s.units - 1) ≡ s.units = omega (arith, l.free) in (
@@ -251,7 +252,7 @@ module _ {ws t : List ℕ} {budget : ℕ} {whole : Out (Value Number)} (s : Coun
         )
 
   pub spent-if : (x : Spent ws budget whole t s If at e) (next : ℕ) → next ≡ at + 1 + length (encode x.is.test)
-      → Turned ws budget whole (give_fuel s budget) (frame_set t s.frames (record { what = 1; next = next; left = 0; base = 0; environment = e })) (Begins (framed s) (at + 1) e)
+      → Turned ws budget whole (give_fuel s budget) (frame_set t s.frames (record { what = 1; next = next; left = 0; base = 0; environment = e })) (Ok (Begins (framed s) (at + 1) e))
   unfolding code_at
   spent-if x next h =
       let i = x.is in
@@ -268,7 +269,7 @@ module _ {ws t : List ℕ} {budget : ℕ} {whole : Out (Value Number)} (s : Coun
       ∙ begins-if numbers budget _ _ _ x.environment l.waiting (s.units - 1) (omega (arith, l.free, l.room.within)))
 
   pub spent-application : (left : ℕ) (x : Spent ws budget whole t s (Application left) at e) (next : ℕ) → next ≡ at + 2 + length (encode x.is.head)
-      → Turned ws budget whole (give_fuel s budget) (frame_set t s.frames (record { what = 2; next = next; left = left; base = s.values; environment = e })) (Begins (framed s) (at + 2) e)
+      → Turned ws budget whole (give_fuel s budget) (frame_set t s.frames (record { what = 2; next = next; left = left; base = s.values; environment = e })) (Ok (Begins (framed s) (at + 2) e))
   unfolding code_at
   spent-application left x next h =
       let i = x.is in
@@ -288,7 +289,7 @@ module _ {ws t : List ℕ} {budget : ℕ} {whole : Out (Value Number)} (s : Coun
 
   module _ (b : Beginning ws budget whole t s at e) where
     -- its unit is missing
-    pub begin-out : budget ≤ s.units → Turned ws budget whole (begin_fuel s budget) t (Stops 27)
+    pub begin-out : budget ≤ s.units → Turned ws budget whole (begin_fuel s budget) t (Err G.OutOfBudget)
     begin-out h = (record { units = s.units; goes = b.goes ∙ begins-out numbers budget _ _ _ s.units h }, omega arith)
 
     -- its unit is spent

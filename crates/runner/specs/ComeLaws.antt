@@ -1,34 +1,35 @@
 -- The laws of a value that has come, one for each way through the code.
-use Rattle.std.specs.Prelude.{◌≡◌, Bool, true, false, cond, ℕ, zero, suc, ◌+◌, ◌-◌, ◌*◌, ◌≤◌, ◌<◌, eqb, get_or}
+use Rattle.std.specs.Prelude.{◌≡◌, Bool, true, false, cond, ℕ, suc, ◌+◌, ◌-◌, ◌*◌, ◌≤◌, ◌<◌, eqb, get_or, Result, Ok, Err}
+use Rattle.words.specs.declared.ground.Ground.{Ground}
+use Rattle.words.specs.declared.ground.Ground.TheVariants as G
+use Rattle.words.specs.Code.Ground as Grounds
 use Rattle.std.proofs.Math.Path.{refl, sym, ap, subst}
 use Rattle.std.proofs.Common.{ap₂, ◌∙◌, add-one, add-zero, eq-eqb, ne_eqb}
 use mathlib.Core.List.{List, [], ◌∷◌, ◌++◌}
-use Rattle.std.proofs.Math.Option.{Option, none, some}
+use Rattle.std.proofs.Math.Option.{none, some}
 use native.Mathlib.Omega.{arith}
 use Rattle.std.proofs.Math.ListN.{length, length-append}
 use Rattle.words.specs.Code.Packed.{packed}
-use Rattle.core_term.specs.Term.{none_c, more_c, lambda_c, Plain, Plains, count}
+use Rattle.core_term.specs.Term.{none_c, more_c, lambda_c, Plain, count}
 use Rattle.core_term.specs.Node.{node_words}
 use Rattle.core_term.specs.Words.{encode}
 use Rattle.evaluation.specs.Code.{code_at, codes_at}
-use Rattle.evaluation.specs.Computation.{Out, done, refused, M, go_on, ◌>>=◌, ◌>>◌, give, refuse, test, or_refuse, Answer, answer, ground_number, or_ground}
-use Rattle.evaluation.specs.Evaluate.{Value, number_v, boolean_v, datum_v, closure_v, operation_v, Environment, bind, holds, number_of, is_two, operand, operate, apply}
-use Rattle.evaluation.proofs.Steps.{Waiting, test_w, parts_w, value, apply_all, resume, begins, comes-test, comes-part, comes-last}
+use Rattle.evaluation.specs.Computation.{Out, refused, go_on, ◌>>=◌, ◌>>◌, give, refuse, test, or_refuse, Answer, answer, ground_number, or_ground}
+use Rattle.evaluation.specs.Evaluate.{Value, closure_v, operation_v, Environment, bind, holds, number_of, is_two, operand, operate, apply}
+use Rattle.evaluation.proofs.Steps.{Waiting, parts_w, value, apply_all, resume, begins, comes-test, comes-part, comes-last}
 use Rattle.runner.specs.declared.rows.Value as R
 use Rattle.runner.specs.declared.rows.Frame.{Frame}
 use Rattle.runner.specs.declared.rows.Extended.{Extended}
-use Rattle.runner.specs.declared.numbers.Made.{Made}
-use Rattle.runner.specs.declared.numbers.Made.TheVariants as D
 use Rattle.runner.specs.declared.state.Counts.{Counts}
-use Rattle.runner.specs.declared.state.Turn.TheVariants.{Begins, Comes, Stops}
+use Rattle.runner.specs.declared.state.Turn.TheVariants.{Begins}
 use Rattle.runner.specs.Domain.{Number, numbers, number_in}
-use Rattle.runner.specs.Here.{Here, First, here-first, here-body, here-inside, begins-word}
+use Rattle.runner.specs.Here.{Here, here-first, here-body, here-inside, begins-word}
 use Rattle.runner.specs.Rows.{value_word, frame_word, EnvironmentIs, ValueIs, number_i, boolean_i, datum_i, closure_i, operation_i, ValueIn, ValuesIn, none_i, more_i, WaitingIs, nothing_i, test_i, parts_i}
 use Rattle.runner.specs.Stores.{value_at, frame_at, frame_set, frame_words, length-stored, frame-own, packed-parts}
-use Rattle.runner.specs.Kept.{Kept, kept_frame, environment-kept, values-kept, waiting_kept}
+use Rattle.runner.specs.Kept.{kept_frame, environment-kept, values-kept, waiting_kept}
 use Rattle.runner.specs.Extended.{Extends, ExtendedBy}
 use Rattle.runner.specs.Made.{MadeIs}
-use Rattle.runner.specs.Machine.{Room, Beginning, Coming, Stopped, Leaving, Giving, Testing, Parting, Complete, Valued, Turned, come_fuel, give_fuel}
+use Rattle.runner.specs.Machine.{Coming, Leaving, Giving, Testing, Parting, Complete, Valued, Turned, come_fuel}
 use Rattle.runner.specs.BeginLaws.{leaving-gives, leaving-stops}
 
 -- ---- what the words of a value say
@@ -212,7 +213,7 @@ module _ {ws t : List ℕ} {budget : ℕ} {whole : Out (Value Number)} (s : Coun
   -- the branch that it picks begins
   picked : (at : ℕ) (branch : Plain) → Here ws at branch
       → whole ≡ begins numbers budget (code_at at branch) x.environment x.waiting s.units
-      → Turned ws budget whole (come_fuel s budget) t (Begins (dropped s (s.values - 1)) at f.environment)
+      → Turned ws budget whole (come_fuel s budget) t (Ok (Begins (dropped s (s.values - 1)) at f.environment))
   picked at branch h g = (
     record {
       room = record { rows = omega (arith, x.room.rows); within = x.room.within; lent = x.room.lent; most = x.room.most };
@@ -234,13 +235,13 @@ module _ {ws t : List ℕ} {budget : ℕ} {whole : Out (Value Number)} (s : Coun
   picked-by b h = x.goes
       ∙ ap (λ (b : Bool). begins numbers budget (cond b (code_at f.next x.yes) (code_at (f.next + length (encode x.yes)) x.no)) x.environment x.waiting s.units) (sym h)
 
-  pub testing-yes : true ≡ holds x.value → Turned ws budget whole (come_fuel s budget) t (Begins (dropped s (s.values - 1)) f.next f.environment)
+  pub testing-yes : true ≡ holds x.value → Turned ws budget whole (come_fuel s budget) t (Ok (Begins (dropped s (s.values - 1)) f.next f.environment))
   testing-yes h = picked f.next x.yes x.here (picked-by true h)
 
   pub testing-no : false ≡ holds x.value → (next : ℕ) → next ≡ f.next + length (encode x.yes)
-      → Turned ws budget whole (come_fuel s budget) t (Begins (dropped s (s.values - 1)) next f.environment)
+      → Turned ws budget whole (come_fuel s budget) t (Ok (Begins (dropped s (s.values - 1)) next f.environment))
   testing-no h next e =
-      subst (λ (n : ℕ). Turned ws budget whole (come_fuel s budget) t (Begins (dropped s (s.values - 1)) n f.environment)) (sym e)
+      subst (λ (n : ℕ). Turned ws budget whole (come_fuel s budget) t (Ok (Begins (dropped s (s.values - 1)) n f.environment))) (sym e)
       (picked (f.next + length (encode x.yes)) x.no x.there (picked-by false h))
 
 -- ---- the next part of an application
@@ -249,7 +250,7 @@ module _ {ws t : List ℕ} {budget : ℕ} {whole : Out (Value Number)} (s : Coun
   -- the frame waits for it
   pub parting-begins : (next : ℕ) → next ≡ f.next + length (encode x.first)
       → Turned ws budget whole (come_fuel s budget) (frame_set t (s.frames - 1) (record { what = 2; next = next; left = f.left - 1; base = f.base; environment = f.environment }))
-      (Begins s f.next f.environment)
+      (Ok (Begins s f.next f.environment))
   parting-begins next e =
       let row = s.frames - 1 in
       let waiting : Frame = record { what = 2; next = next; left = f.left - 1; base = f.base; environment = f.environment } in
@@ -344,18 +345,18 @@ module _ {ws t : List ℕ} {budget : ℕ} {whole : Out (Value Number)} (s : Coun
   known : (h : Value Number) → x.head ≡ h → Leaving ws budget whole t (dropped s base) (apply numbers (value numbers budget) h x.operands)
   known h e = subst (λ (h : Value Number). Leaving ws budget whole t (dropped s base) (apply numbers (value numbers budget) h x.operands)) e x.leaving
 
-  stops : (h : Value Number) → x.head ≡ h → (g : ℕ) → apply numbers (value numbers budget) h x.operands s.units ≡ refused g s.units → Turned ws budget whole (come_fuel s budget) t (Stops g)
+  stops : (h : Value Number) → x.head ≡ h → (g : Ground) → apply numbers (value numbers budget) h x.operands s.units ≡ refused (Grounds.number_of g) s.units → Turned ws budget whole (come_fuel s budget) t (Err g)
   stops h e g q = leaving-stops (dropped s base) _ (known h e) g (come_fuel s budget) (omega arith) q
 
   -- the head is neither a closure nor an operation
-  pub head-other : (value_word t base 0 ≡ 4 → ⊥) → (value_word t base 0 ≡ 5 → ⊥) → Turned ws budget whole (come_fuel s budget) t (Stops 25)
+  pub head-other : (value_word t base 0 ≡ 4 → ⊥) → (value_word t base 0 ≡ 5 → ⊥) → Turned ws budget whole (come_fuel s budget) t (Err G.WrongKind)
   unfolding apply refuse
   head-other h k = go _ _ _ _ h k x.is.is
     where
-      go : (kind a b e : ℕ) → (kind ≡ 4 → ⊥) → (kind ≡ 5 → ⊥) → ValueIs ws t s.cells kind a b e x.head → Turned ws budget whole (come_fuel s budget) t (Stops 25)
-      go kind a b e h k (number_i i y) = stops _ y 25 refl
-      go kind a b e h k (boolean_i i y) = stops _ y 25 refl
-      go kind a b e h k (datum_i i y) = stops _ y 25 refl
+      go : (kind a b e : ℕ) → (kind ≡ 4 → ⊥) → (kind ≡ 5 → ⊥) → ValueIs ws t s.cells kind a b e x.head → Turned ws budget whole (come_fuel s budget) t (Err G.WrongKind)
+      go kind a b e h k (number_i i y) = stops _ y G.WrongKind refl
+      go kind a b e h k (boolean_i i y) = stops _ y G.WrongKind refl
+      go kind a b e h k (datum_i i y) = stops _ y G.WrongKind refl
       go kind a b e h k (closure_i first names body env i y z l c) = absurd (h i)
       go kind a b e h k (operation_i i y z) = absurd (k i)
 
@@ -370,9 +371,9 @@ module _ {ws t : List ℕ} {budget : ℕ} {whole : Out (Value Number)} (s : Coun
     formals at e = rw e (lambda-words closed.first closed.names closed.body closed.here)
 
     -- another number of operands
-    pub call-stops : (n ≡ length closed.names → ⊥) → Turned ws budget whole (come_fuel s budget) t (Stops 26)
+    pub call-stops : (n ≡ length closed.names → ⊥) → Turned ws budget whole (come_fuel s budget) t (Err G.WrongCount)
     unfolding apply ◌>>◌ go_on test
-    call-stops h = stops _ closed.is 26 (rw (ne_eqb (length x.operands) (length closed.names) (λ e. h (sym x.many ∙ e))))
+    call-stops h = stops _ closed.is G.WrongCount (rw (ne_eqb (length x.operands) (length closed.names) (λ e. h (sym x.many ∙ e))))
 
     pub call-extends : Extends t s.cells v.environment (base + 1) n
     call-extends =
@@ -386,12 +387,12 @@ module _ {ws t : List ℕ} {budget : ℕ} {whole : Out (Value Number)} (s : Coun
     -- the operands are bound, and the body begins
     pub call-begins : (t' : List ℕ) (r : Extended) → n ≡ length closed.names → length t' ≡ length t → ExtendedBy t s.cells v.environment closed.first (base + 1) n t' r
         → (at : ℕ) → at ≡ packed v.b v.a + (3 + length closed.names)
-        → Turned ws budget whole (come_fuel s budget) t' (Begins (record { units = s.units; values = base; frames = s.frames - 1; cells = r.cells }) at r.environment)
+        → Turned ws budget whole (come_fuel s budget) t' (Ok (Begins (record { units = s.units; values = base; frames = s.frames - 1; cells = r.cells }) at r.environment))
     unfolding apply ◌>>◌ ◌>>=◌ go_on test begins
     call-begins t' r h len b at e =
         let l = known _ closed.is in
         let g = b.kept base (s.frames - 1) in
-        subst (λ (at : ℕ). Turned ws budget whole (come_fuel s budget) t' (Begins (record { units = s.units; values = base; frames = s.frames - 1; cells = r.cells }) at r.environment)) (sym e) (
+        subst (λ (at : ℕ). Turned ws budget whole (come_fuel s budget) t' (Ok (Begins (record { units = s.units; values = base; frames = s.frames - 1; cells = r.cells }) at r.environment))) (sym e) (
           record {
             room =
                 record {
@@ -426,9 +427,9 @@ module _ {ws t : List ℕ} {budget : ℕ} {whole : Out (Value Number)} (s : Coun
         go k a b e h (operation_i i y z) = (y, z)
 
     -- another number of operands
-    pub operation-number : (n ≡ 2 → ⊥) → Turned ws budget whole (come_fuel s budget) t (Stops 26)
+    pub operation-number : (n ≡ 2 → ⊥) → Turned ws budget whole (come_fuel s budget) t (Err G.WrongCount)
     unfolding apply ◌>>◌ go_on test is_two
-    operation-number h = stops _ place_of.0 26 (rw (ne_eqb (length x.operands) 2 (λ e. h (sym x.many ∙ e))))
+    operation-number h = stops _ place_of.0 G.WrongCount (rw (ne_eqb (length x.operands) 2 (λ e. h (sym x.many ∙ e))))
 
     module _ (many : n ≡ 2) where
       pub operands-two : Two ws t s.cells (base + 1) x.operands
@@ -445,9 +446,9 @@ module _ {ws t : List ℕ} {budget : ℕ} {whole : Out (Value Number)} (s : Coun
         one-is : ValueIs ws t s.cells u.kind u.a u.b u.environment operands-two.one
         one-is = subst (λ (v : R.Value). ValueIs ws t s.cells v.kind v.a v.b v.environment operands-two.one) (sym first) operands-two.first.is
 
-        pub operation-first : (u.kind ≡ 1 → ⊥) → Turned ws budget whole (come_fuel s budget) t (Stops 25)
+        pub operation-first : (u.kind ≡ 1 → ⊥) → Turned ws budget whole (come_fuel s budget) t (Err G.WrongKind)
         unfolding ◌>>=◌ go_on or_refuse
-        operation-first h = stops _ place_of.0 25 (sym operated ∙ rw (number-no h one-is))
+        operation-first h = stops _ place_of.0 G.WrongKind (sym operated ∙ rw (number-no h one-is))
 
         -- and the second's
         module _ (number : u.kind ≡ 1) (w : R.Value) (second : w ≡ value_at t (base + 2)) where
@@ -457,32 +458,32 @@ module _ {ws t : List ℕ} {budget : ℕ} {whole : Out (Value Number)} (s : Coun
               let i : ValueIn ws t s.cells (base + 2) operands-two.two = rw e at operands-two.second in
               subst (λ (v : R.Value). ValueIs ws t s.cells v.kind v.a v.b v.environment operands-two.two) (sym second) i.is
 
-          pub operation-second : (w.kind ≡ 1 → ⊥) → Turned ws budget whole (come_fuel s budget) t (Stops 25)
+          pub operation-second : (w.kind ≡ 1 → ⊥) → Turned ws budget whole (come_fuel s budget) t (Err G.WrongKind)
           unfolding ◌>>=◌ go_on or_refuse
-          operation-second h = stops _ place_of.0 25 (sym operated ∙ rw (number-yes number one-is, number-no h two_is))
+          operation-second h = stops _ place_of.0 G.WrongKind (sym operated ∙ rw (number-yes number one-is, number-no h two_is))
 
-          module _ (number' : w.kind ≡ 1) (m : Made) (made : MadeIs (operate numbers v.a (number_in u.a u.b) (number_in w.a w.b)) m) where
+          module _ (number' : w.kind ≡ 1) (m : Result R.Value Ground) (made : MadeIs (operate numbers v.a (number_in u.a u.b) (number_in w.a w.b)) m) where
             -- what the operation answers
             answered : or_ground (operate numbers v.a (number_in u.a u.b) (number_in w.a w.b)) s.units
                 ≡ apply numbers (value numbers budget) (operation_v v.a) x.operands s.units
             unfolding ◌>>=◌ go_on or_refuse
             answered = sym (rw (number-yes number one-is, number-yes number' two_is)) ∙ operated
 
-            pub made-value : (o : R.Value) → m ≡ D.Value o → Giving ws budget whole t (dropped s base) o
+            pub made-value : (o : R.Value) → m ≡ Ok o → Giving ws budget whole t (dropped s base) o
             unfolding or_ground
-            made-value o e = go _ refl (subst (λ (m : Made). MadeIs (operate numbers v.a (number_in u.a u.b) (number_in w.a w.b)) m) e made)
+            made-value o e = go _ refl (subst (λ (m : Result R.Value Ground). MadeIs (operate numbers v.a (number_in u.a u.b) (number_in w.a w.b)) m) e made)
               where
                 go : (r : Answer (Value Number)) → operate numbers v.a (number_in u.a u.b) (number_in w.a w.b) ≡ r
-                    → MadeIs r (D.Value o) → Giving ws budget whole t (dropped s base) o
+                    → MadeIs r (Ok o) → Giving ws budget whole t (dropped s base) o
                 go (answer y) q i = leaving-gives (dropped s base) _ (known _ place_of.0) o y (sym answered ∙ ap (λ (r : Answer (Value Number)). or_ground r s.units) q) (i ws t s.cells)
                 go (ground_number g) q i = absurd i
 
-            pub made-ground : (g : ℕ) → m ≡ D.Ground g → Turned ws budget whole (come_fuel s budget) t (Stops g)
+            pub made-ground : (g : Ground) → m ≡ Err g → Turned ws budget whole (come_fuel s budget) t (Err g)
             unfolding or_ground
-            made-ground g e = go _ refl (subst (λ (m : Made). MadeIs (operate numbers v.a (number_in u.a u.b) (number_in w.a w.b)) m) e made)
+            made-ground g e = go _ refl (subst (λ (m : Result R.Value Ground). MadeIs (operate numbers v.a (number_in u.a u.b) (number_in w.a w.b)) m) e made)
               where
                 go : (r : Answer (Value Number)) → operate numbers v.a (number_in u.a u.b) (number_in w.a w.b) ≡ r
-                    → MadeIs r (D.Ground g) → Turned ws budget whole (come_fuel s budget) t (Stops g)
+                    → MadeIs r (Err g) → Turned ws budget whole (come_fuel s budget) t (Err g)
                 go (answer y) q i = absurd i
                 go (ground_number h) q i = stops _ place_of.0 g (sym answered ∙ ap (λ (r : Answer (Value Number)). or_ground r s.units) q ∙ ap (λ (n : ℕ). refused n s.units) (sym i))
 

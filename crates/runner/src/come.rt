@@ -7,14 +7,14 @@ ghost use Rattle.runner.specs.Rows.{ValueIs};
 ghost use Rattle.runner.specs.Stores.{value_at, frame_at};
 ghost use Rattle.runner.specs.Machine.{Coming, Testing, Parting, Complete, Anywhere, Everywhere, Some, Turns, come_fuel};
 
-use crate::numbers::{Made, operate};
+use crate::numbers::operate;
 use crate::places::after;
 use crate::rows::{
     BOOLEAN, CLOSURE, Frame, NUMBER, OPERATION, PARTS, TEST, Value, bind, frame_at, place,
     put_frame, value_at,
 };
 use crate::state::{Counts, Turn, push};
-use words::casts::word;
+use words::ground::Ground;
 
 // Only #f is false.
 fn holds(v: Value) -> bool
@@ -27,25 +27,24 @@ fn holds(v: Value) -> bool
 }
 
 // The test of an if has its value.
-fn branch(words: &[u32], ends: &[u32], table: &[u32], s: Counts, f: Frame) -> Turn
+fn branch(words: &[u32], ends: &[u32], table: &[u32], s: Counts, f: Frame) -> Result<Turn, Ground>
     requires { Memo words.now ends.now × Some (λ budget whole. Testing words.now budget whole table.now s f) }
     ensures { Turns words.now (λ budget whole. Testing words.now budget whole table.now s f) (come_fuel s) table.now result }
 {
     let top = s.values - 1;
     let popped = Counts {
-        units: s.units,
         values: top,
         frames: s.frames - 1,
-        cells: s.cells,
+        ..s
     };
     if holds(value_at(table, top)) {
-        return Turn::Begins(popped, f.next, f.environment);
+        return Ok(Turn::Begins(popped, f.next, f.environment));
     }
-    Turn::Begins(popped, after(words, ends, f.next), f.environment)
+    Ok(Turn::Begins(popped, after(words, ends, f.next), f.environment))
 }
 
 // The next part of an application.
-fn part(words: &[u32], ends: &[u32], table: &mut [u32], s: Counts, f: Frame) -> Turn
+fn part(words: &[u32], ends: &[u32], table: &mut [u32], s: Counts, f: Frame) -> Result<Turn, Ground>
     requires { Memo words.now ends.now × (1 ≤ f.left) × Some (λ budget whole. Parting words.now budget whole table.old s f) }
     ensures { Turns words.now (λ budget whole. Parting words.now budget whole table.old s f) (come_fuel s) table.new result }
 {
@@ -53,69 +52,76 @@ fn part(words: &[u32], ends: &[u32], table: &mut [u32], s: Counts, f: Frame) -> 
         what: PARTS,
         next: after(words, ends, f.next),
         left: f.left - 1,
-        base: f.base,
-        environment: f.environment,
+        ..f
     };
     put_frame(table, s.frames - 1, waiting);
-    Turn::Begins(s, f.next, f.environment)
+    Ok(Turn::Begins(s, f.next, f.environment))
 }
 
 // A closure applied to n operands. Behind its lambda's code stand the first variable and their count.
-fn call(words: &[u32], table: &mut [u32], s: Counts, head: Value, base: usize, n: usize) -> Turn
+fn call(
+    words: &[u32],
+    table: &mut [u32],
+    s: Counts,
+    head: Value,
+    base: usize,
+    n: usize,
+) -> Result<Turn, Ground>
     requires { (head ≡ value_at table.old base) × (head.kind ≡ 4) × Some (λ budget whole. Complete words.now budget whole table.old s base n) }
     ensures { Turns words.now (λ budget whole. Complete words.now budget whole table.old s base n) (come_fuel s) table.new result }
 {
     let at = place(head.a, head.b);
     let first = words[at + 1];
-    let count = word(words[at + 2]);
+    let count = words[at + 2] as usize;
     if n != count {
-        return Turn::Stops(26);
+        return Err(Ground::WrongCount);
     }
     let bound = bind(table, s.cells, head.environment, first, base + 1, n);
-    Turn::Begins(
+    Ok(Turn::Begins(
         Counts {
-            units: s.units,
             values: base,
             frames: s.frames - 1,
             cells: bound.cells,
+            ..s
         },
         at + 3 + count,
         bound.environment,
-    )
+    ))
 }
 
 // An operation applied to n operands.
-fn operation(table: &mut [u32], s: Counts, head: Value, base: usize, n: usize) -> Turn
+fn operation(
+    table: &mut [u32],
+    s: Counts,
+    head: Value,
+    base: usize,
+    n: usize,
+) -> Result<Turn, Ground>
     requires { (head ≡ value_at table.old base) × (head.kind ≡ 5) × Anywhere (λ ws budget whole. Complete ws budget whole table.old s base n) }
     ensures { Everywhere (λ ws budget whole. Complete ws budget whole table.old s base n) (come_fuel s) table.new result }
 {
     if n != 2 {
-        return Turn::Stops(26);
+        return Err(Ground::WrongCount);
     }
     let x = value_at(table, base + 1);
     if x.kind != NUMBER {
-        return Turn::Stops(25);
+        return Err(Ground::WrongKind);
     }
     let y = value_at(table, base + 2);
     if y.kind != NUMBER {
-        return Turn::Stops(25);
+        return Err(Ground::WrongKind);
     }
-    match operate(head.a, x, y) {
-        Made::Value(v) => {
-            let popped = Counts {
-                units: s.units,
-                values: base,
-                frames: s.frames - 1,
-                cells: s.cells,
-            };
-            push(table, popped, v)
-        }
-        Made::Ground(g) => Turn::Stops(g),
-    }
+    let v = operate(head.a, x, y)?;
+    let popped = Counts {
+        values: base,
+        frames: s.frames - 1,
+        ..s
+    };
+    Ok(push(table, popped, v))
 }
 
 // All parts have their values: the tests of the head, of the number of operands, of their kinds.
-fn apply(words: &[u32], table: &mut [u32], s: Counts, base: usize) -> Turn
+fn apply(words: &[u32], table: &mut [u32], s: Counts, base: usize) -> Result<Turn, Ground>
     requires { Some (λ budget whole. Complete words.now budget whole table.old s base (s.values - base - 1)) }
     ensures { Turns words.now (λ budget whole. Complete words.now budget whole table.old s base (s.values - base - 1)) (come_fuel s) table.new result }
 {
@@ -127,11 +133,11 @@ fn apply(words: &[u32], table: &mut [u32], s: Counts, base: usize) -> Turn
     if head.kind == OPERATION {
         return operation(table, s, head, base, n);
     }
-    Turn::Stops(25)
+    Err(Ground::WrongKind)
 }
 
 // A value has come to the top frame.
-pub fn come(words: &[u32], ends: &[u32], table: &mut [u32], s: Counts) -> Turn
+pub fn come(words: &[u32], ends: &[u32], table: &mut [u32], s: Counts) -> Result<Turn, Ground>
     requires { Memo words.now ends.now × (1 ≤ s.frames) × Some (λ budget whole. Coming words.now budget whole table.old s) }
     ensures { Turns words.now (λ budget whole. Coming words.now budget whole table.old s) (come_fuel s) table.new result }
 {

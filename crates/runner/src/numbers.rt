@@ -1,5 +1,5 @@
 // The four operations on integers, each in a word of two's complement.
-ghost use Rattle.std.specs.Prelude.{◌≡◌, ◌<◌};
+ghost use Rattle.std.specs.Prelude.{◌≡◌, ◌<◌, Ok};
 ghost use Rattle.std.proofs.Math.IntN.{sub_ℕ};
 ghost use Rattle.std.specs.Int.{w32};
 ghost use Rattle.std.proofs.Common.{to_z};
@@ -10,6 +10,7 @@ ghost use Rattle.runner.specs.Domain.{numbers, number_in};
 ghost use Rattle.runner.specs.Made.{MadeIs, number_told};
 
 use crate::rows::{BOOLEAN, NUMBER, Value};
+use words::ground::Ground;
 
 pub const SUM: u32 = 0;
 
@@ -18,12 +19,6 @@ pub const DIFFERENCE: u32 = 1;
 pub const LESS: u32 = 2;
 
 pub const OPERATIONS: u32 = 4;
-
-#[derive(Clone, Copy)]
-pub enum Made {
-    Value(Value),
-    Ground(u32),
-}
 
 const HALF: u64 = 0x8000_0000;
 
@@ -52,36 +47,28 @@ fn lowered(n: u64) -> u32
     }
 }
 
-fn boolean(b: bool) -> Made
-    ensures { MadeIs (answer (boolean_v b)) result }
+fn boolean(b: bool) -> Value
+    ensures { MadeIs (answer (boolean_v b)) (Ok result) }
 {
-    if b {
-        return Made::Value(Value {
-            kind: BOOLEAN,
-            a: 1,
-            b: 0,
-            environment: 0,
-        });
-    }
-    Made::Value(Value {
+    Value {
         kind: BOOLEAN,
-        a: 0,
+        a: u32::from(b),
         b: 0,
         environment: 0,
-    })
+    }
 }
 
-// The number that is told as 2^32 more; 25 where it leaves 32 bits.
-fn number(n: u64) -> Made
+// The number that is told as 2^32 more, if it is within 32 bits.
+fn number(n: u64) -> Result<Value, Ground>
     ensures { MadeIs (number_told n) result }
 {
     if n < HALF {
-        return Made::Ground(25);
+        return Err(Ground::WrongKind);
     }
     if n >= HALF + WHOLE {
-        return Made::Ground(25);
+        return Err(Ground::WrongKind);
     }
-    Made::Value(Value {
+    Ok(Value {
         kind: NUMBER,
         a: lowered(n - HALF),
         b: 0,
@@ -90,7 +77,7 @@ fn number(n: u64) -> Made
 }
 
 // The operation at a place below OPERATIONS, of two numbers.
-pub fn operate(place: u32, x: Value, y: Value) -> Made
+pub fn operate(place: u32, x: Value, y: Value) -> Result<Value, Ground>
     requires { place < 4 }
     ensures { MadeIs (S.operate numbers place (number_in x.a x.b) (number_in y.a y.b)) result }
 {
@@ -103,7 +90,7 @@ pub fn operate(place: u32, x: Value, y: Value) -> Made
         return number(a + WHOLE - b);
     }
     if place == LESS {
-        return boolean(a < b);
+        return Ok(boolean(a < b));
     }
-    boolean(a == b)
+    Ok(boolean(a == b))
 }

@@ -3,7 +3,6 @@
 ghost use Rattle.runner.specs.Memo.{Placed, EndsAt, Memo};
 
 use core_term::nodes::shape_at;
-use words::casts::word;
 
 // The place behind the term or datum that begins at a place, by the number of parts still due: the words are a prefix code.
 fn skip(words: &[u32], place: usize) -> usize
@@ -26,7 +25,7 @@ pub fn after(words: &[u32], ends: &[u32], at: usize) -> usize
     ensures { EndsAt words.now at result }
 {
     if at < ends.len() {
-        let end = word(ends[at]);
+        let end = ends[at] as usize;
         if end != 0 {
             return end;
         }

@@ -10,8 +10,6 @@ ghost use Rattle.runner.specs.Stores.{value_at, frame_at, value_set, frame_set, 
 ghost use Rattle.runner.specs.Extended.{Extends, ExtendedBy};
 ghost use Rattle.words.specs.Code.Packed.{packed};
 
-use words::casts::word;
-
 const ROW: usize = 16;
 
 // Where a row's frame and its cell begin; its value is at its start.
@@ -138,31 +136,25 @@ pub fn put_cell(table: &mut [u32], row: usize, number: u32, v: Value, link: u32)
     table[at + 5] = link;
 }
 
-#[derive(Clone, Copy)]
-pub enum Found {
-    Value(Value),
-    None,
-}
-
 // A variable's value in an environment.
-pub fn find(table: &[u32], environment: u32, number: u32) -> Found
+pub fn find(table: &[u32], environment: u32, number: u32) -> Option<Value>
     requires { Bound table.now environment }
     ensures { (ws : List ℕ) (env : Environment Number) → EnvironmentIs ws table.now environment env → FoundIs ws table.now environment (S.find number env) result }
 {
-    let mut e = word(environment);
+    let mut e = environment as usize;
     while e > 0 {
         let at = ROW * (e - 1) + CELL;
         if table[at] == number {
-            return Found::Value(Value {
+            return Some(Value {
                 kind: table[at + 1],
                 a: table[at + 2],
                 b: table[at + 3],
                 environment: table[at + 4],
             });
         }
-        e = word(table[at + 5]);
+        e = table[at + 5] as usize;
     }
-    Found::None
+    None
 }
 
 // An environment with more cells.
@@ -178,10 +170,7 @@ fn extend(table: &mut [u32], cells: usize, environment: u32, number: usize, row:
     ensures { ExtendedBy table.old cells environment number row 1 table.new result }
 {
     if number >= 0x1_0000_0000 {
-        return Extended {
-            environment: environment,
-            cells: cells,
-        };
+        return Extended { environment, cells };
     }
     let v = value_at(table, row);
     put_cell(table, cells, number as u32, v, environment);
@@ -207,7 +196,7 @@ pub fn bind(
     let mut c = cells;
     let mut i = 0;
     while i < count {
-        let next = extend(table, c, e, word(first) + i, from + i);
+        let next = extend(table, c, e, first as usize + i, from + i);
         e = next.environment;
         c = next.cells;
         i = i + 1;
