@@ -13,12 +13,13 @@ use Rattle.std.proofs.Math.ListN.{length}
 use Rattle.words.specs.Code.Packed.{packed}
 use Rattle.datum.specs.Constant.{integer, boolean, decimal}
 use Rattle.core_term.specs.Node.{node_at}
-use Rattle.core_term.specs.Code.Opened.{node_in}
+use Rattle.core_term.specs.Code.Opened.{opened_in}
+use Rattle.core_term.specs.Code.OpenedLaws.{opened-some, opened-here}
 use Rattle.core_term.specs.Code.Walk.{rest}
 use Rattle.core_term.specs.Term.{lambda_c, Plain}
 use Rattle.core_term.specs.Words.{encode}
 use Rattle.core_term.specs.declared.nodes.Node.{Node}
-use Rattle.core_term.specs.declared.nodes.Node.TheVariants.{Variable, Operation, Integer, Boolean, Decimal, Name, List as Several, If, Lambda, Application, None}
+use Rattle.core_term.specs.declared.nodes.Node.TheVariants.{Variable, Operation, Integer, Boolean, Decimal, Name, List as Several, If, Lambda, Application}
 use Rattle.evaluation.specs.Code.{code_at, codes_at, datum_code}
 use Rattle.evaluation.specs.Computation.{Out, done, refused, M, go_on, ◌>>=◌, ◌>>◌, give, test, or_refuse, or_ground}
 use Rattle.evaluation.specs.Numbers.{integers}
@@ -30,7 +31,11 @@ use Rattle.runner.specs.declared.state.Counts.{Counts}
 use Rattle.runner.specs.declared.state.Turn.TheVariants.{Begins, Comes}
 use Rattle.runner.specs.Domain.{Number, numbers, number_in}
 use Rattle.runner.specs.Here.{Here}
+use Rattle.core_term.specs.Parts.{node}
+use Rattle.words.specs.ListLaws.{rest-is}
+use Rattle.runner.specs.Here.{here-node}
 use Rattle.runner.specs.NodeIs.{NodeIs, node-is}
+use Rattle.runner.specs.Due.{some-by}
 use Rattle.runner.specs.Rows.{value_word, frame_word, ValueIs, number_i, boolean_i, datum_i, closure_i, operation_i, none_i, WaitingIs, test_i, parts_i}
 use Rattle.runner.specs.Stores.{value_set, frame_set, value_words, frame_words, length-stored, value-own, frame-own, packed-parts}
 use Rattle.runner.specs.Kept.{Kept, kept_same, kept-value, kept_frame, environment-kept, value-kept, waiting_kept}
@@ -195,9 +200,6 @@ module _ {ws t : List ℕ} {budget : ℕ} {whole : Out (Value Number)} (s : Coun
         (subst (λ (n : ℕ). Here ws n (lambda_c first l.names l.body)) (sym (packed-parts at)) h)
         x.below x.bound)
 
-    pub spent-none : Spent ws budget whole t s None at e → ⊥
-    spent-none x = x.is
-
 -- ---- nodes with parts: a frame is put, and the first part begins
 
 abbrev pub framed : Counts → Counts
@@ -314,6 +316,9 @@ module _ {ws t : List ℕ} {budget : ℕ} {whole : Out (Value Number)} (s : Coun
               };
         }
 
-    -- what the opened node says, its unit spent
-    pub begin-node : (r node : Node) → s.units < budget → node_in (rest at ws) r ≡ node_at (rest at ws) → r ≡ node → Spent ws budget whole t (spent s) node at e
-    begin-node r node h o i = begin-spent node h (subst (λ (n : Node). NodeIs ws at b.term n) i (node-is b.term r b.here o))
+    -- a node was opened; what it says, its unit spent
+    pub begin-opened : (o : P.Option Node) → opened_in (rest at ws) o ≡ node_at (rest at ws) → P.IsSome o
+    begin-opened o h = some-by o (opened-here (rest at ws) o h (node b.term) _ (ap node_at (rest-is at ws) ∙ here-node b.term b.here))
+
+    pub begin-node : (o : P.Option Node) (node : Node) → s.units < budget → opened_in (rest at ws) o ≡ node_at (rest at ws) → o ≡ P.Some node → Spent ws budget whole t (spent s) node at e
+    begin-node o node h k i = begin-spent node h (node-is b.term node b.here (opened-some (rest at ws) o k node i))

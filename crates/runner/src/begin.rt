@@ -111,7 +111,8 @@ pub fn begin(
         units: s.units + 1,
         ..s
     };
-    match opened(&words[at..]) {
+    let node = opened(&words[at..]).unwrap();
+    match node {
         Node::Variable(n) => variable(table, t, n, environment),
         Node::Operation(p) => operation(table, t, p),
         Node::Integer(w) => Ok(push(table, t, value(NUMBER, w, 0, 0))),
@@ -122,6 +123,5 @@ pub fn begin(
         Node::If => test(words, ends, table, t, at, environment),
         Node::Lambda(_, _) => { Ok(push(table, t, value(CLOSURE, low(at), high(at), environment))) }
         Node::Application(n) => application(words, ends, table, t, at, n, environment),
-        Node::None => Err(Ground::WrongKind),
     }
 }

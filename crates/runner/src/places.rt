@@ -12,7 +12,7 @@ fn skip(words: &[u32], place: usize) -> usize
     let mut at = place;
     let mut due = 1;
     while due > 0 {
-        let n = shape_at(&words[at..]);
+        let n = shape_at(&words[at..]).unwrap();
         at = at + n.own;
         due = due - 1 + n.parts;
     }
@@ -39,12 +39,10 @@ pub fn mark(words: &[u32], ends: &mut [u32], at: usize) -> usize
     requires { Memo words.now ends.old × Placed words.now at }
     ensures { Memo words.now ends.new × EndsAt words.now at result }
 {
-    let n = shape_at(&words[at..]);
+    let n = shape_at(&words[at..]).unwrap();
     let mut next = at + n.own;
-    let mut left = n.parts;
-    while left > 0 {
+    for _ in 0..n.parts {
         next = mark(words, ends, next);
-        left = left - 1;
     }
     if at < ends.len() && next < 0x1_0000_0000 {
         ends[at] = next as u32;

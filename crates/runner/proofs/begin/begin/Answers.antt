@@ -1,7 +1,9 @@
 -- A node's unit, then by its node.
 use Rattle.runner.specs.Here.{here-two}
 use native.Mathlib.Omega.{arith}
-use Rattle.runner.specs.BeginLaws.{spent, begin-out, begin-node, spent-variable, spent-operation, spent-integer, spent-boolean, spent-decimal, spent-name, spent-list, spent-lambda, spent-none}
+use Rattle.runner.specs.BeginLaws.{spent, begin-out, begin-opened, begin-node, spent-variable, spent-operation, spent-integer, spent-boolean, spent-decimal, spent-name, spent-list, spent-lambda}
+use Rattle.std.proofs.Common.{ap, ◌∙◌}
+use Rattle.std.specs.Prelude.{Some}
 use Rattle.runner.proofs.begin.begin.Goals as goal
 
 pub returns-then-s-budget : goal.returns-then-s-budget
@@ -16,6 +18,9 @@ slice_bounds-opened-count c = omega (arith, here-two _ c.requires.1.1.here)
 pub slice_bounds-opened-start : goal.slice_bounds-opened-start
 slice_bounds-opened-start c = omega (arith, here-two _ c.requires.1.1.here)
 
+pub unwrap-node-requires : goal.unwrap-node-requires
+unwrap-node-requires c = begin-opened c.args.s c.args.at c.args.environment c.requires.1.1 _ c.opened.ensures
+
 pub variable-requires : goal.variable-requires
 variable-requires c = let a = c.args in
     let p = c.requires.1 in (
@@ -24,7 +29,7 @@ variable-requires c = let a = c.args in
         a.budget,
         p.0,
         spent-variable (spent a.s) a.at a.environment _
-            (begin-node a.s a.at a.environment p.1 _ _ c.if-s-budget.false c.opened.ensures c.in-Variable.is),
+            (begin-node a.s a.at a.environment p.1 _ _ c.if-s-budget.false c.opened.ensures (c.unwrap-node.ensures ∙ ap Some c.in-Variable.is)),
       ),
     )
 
@@ -36,7 +41,7 @@ operation-requires c = let a = c.args in
         a.budget,
         p.0,
         spent-operation (spent a.s) a.at a.environment _
-            (begin-node a.s a.at a.environment p.1 _ _ c.if-s-budget.false c.opened.ensures c.in-Operation.is),
+            (begin-node a.s a.at a.environment p.1 _ _ c.if-s-budget.false c.opened.ensures (c.unwrap-node.ensures ∙ ap Some c.in-Operation.is)),
       ),
     )
 
@@ -49,7 +54,7 @@ push-requires c = let a = c.args in
         p.0,
         rw c.value.ensures
             (spent-integer (spent a.s) a.at a.environment _
-            (begin-node a.s a.at a.environment p.1 _ _ c.if-s-budget.false c.opened.ensures c.in-Integer.is)),
+            (begin-node a.s a.at a.environment p.1 _ _ c.if-s-budget.false c.opened.ensures (c.unwrap-node.ensures ∙ ap Some c.in-Integer.is))),
       ),
     )
 
@@ -62,7 +67,7 @@ push-requires-in-Boolean c = let a = c.args in
         p.0,
         rw c.value-in-Boolean.ensures
             (spent-boolean (spent a.s) a.at a.environment _
-            (begin-node a.s a.at a.environment p.1 _ _ c.if-s-budget.false c.opened.ensures c.in-Boolean.is)),
+            (begin-node a.s a.at a.environment p.1 _ _ c.if-s-budget.false c.opened.ensures (c.unwrap-node.ensures ∙ ap Some c.in-Boolean.is))),
       ),
     )
 
@@ -75,7 +80,7 @@ push-requires-in-Name c = let a = c.args in
         p.0,
         rw (c.value-in-Name.ensures, c.low.ensures, c.high.ensures)
             (spent-name (spent a.s) a.at a.environment _
-            (begin-node a.s a.at a.environment p.1 _ _ c.if-s-budget.false c.opened.ensures c.in-Name.is)),
+            (begin-node a.s a.at a.environment p.1 _ _ c.if-s-budget.false c.opened.ensures (c.unwrap-node.ensures ∙ ap Some c.in-Name.is))),
       ),
     )
 
@@ -88,7 +93,7 @@ push-requires-in-List c = let a = c.args in
         p.0,
         rw (c.value-in-List.ensures, c.low-in-List.ensures, c.high-in-List.ensures)
             (spent-list (spent a.s) a.at a.environment _
-            (begin-node a.s a.at a.environment p.1 _ _ c.if-s-budget.false c.opened.ensures c.in-List.is)),
+            (begin-node a.s a.at a.environment p.1 _ _ c.if-s-budget.false c.opened.ensures (c.unwrap-node.ensures ∙ ap Some c.in-List.is))),
       ),
     )
 
@@ -99,7 +104,7 @@ test-requires c = let a = c.args in
       (
         a.budget,
         p.0,
-        begin-node a.s a.at a.environment p.1 _ _ c.if-s-budget.false c.opened.ensures c.in-If.is,
+        begin-node a.s a.at a.environment p.1 _ _ c.if-s-budget.false c.opened.ensures (c.unwrap-node.ensures ∙ ap Some c.in-If.is),
       ),
     )
 
@@ -112,7 +117,7 @@ push-requires-in-Lambda c = let a = c.args in
         p.0,
         rw (c.value-in-Lambda.ensures, c.low-in-Lambda.ensures, c.high-in-Lambda.ensures)
             (spent-lambda (spent a.s) a.at a.environment _ _
-            (begin-node a.s a.at a.environment p.1 _ _ c.if-s-budget.false c.opened.ensures c.in-Lambda.is)),
+            (begin-node a.s a.at a.environment p.1 _ _ c.if-s-budget.false c.opened.ensures (c.unwrap-node.ensures ∙ ap Some c.in-Lambda.is))),
       ),
     )
 
@@ -123,7 +128,7 @@ application-requires c = let a = c.args in
       (
         a.budget,
         p.0,
-        begin-node a.s a.at a.environment p.1 _ _ c.if-s-budget.false c.opened.ensures c.in-Application.is,
+        begin-node a.s a.at a.environment p.1 _ _ c.if-s-budget.false c.opened.ensures (c.unwrap-node.ensures ∙ ap Some c.in-Application.is),
       ),
     )
 
@@ -131,14 +136,14 @@ pub returns-in-Variable : goal.returns-in-Variable
 returns-in-Variable c = λ whole b. let a = c.args in
     let x = c.variable.ensures a.words.now a.budget whole
     (spent-variable (spent a.s) a.at a.environment _
-    (begin-node a.s a.at a.environment b _ _ c.if-s-budget.false c.opened.ensures c.in-Variable.is)) in
+    (begin-node a.s a.at a.environment b _ _ c.if-s-budget.false c.opened.ensures (c.unwrap-node.ensures ∙ ap Some c.in-Variable.is))) in
     (x.0, omega (arith, x.1, c.if-s-budget.false))
 
 pub returns-in-Operation : goal.returns-in-Operation
 returns-in-Operation c = λ whole b. let a = c.args in
     let x = c.operation.ensures a.words.now a.budget whole
     (spent-operation (spent a.s) a.at a.environment _
-    (begin-node a.s a.at a.environment b _ _ c.if-s-budget.false c.opened.ensures c.in-Operation.is)) in
+    (begin-node a.s a.at a.environment b _ _ c.if-s-budget.false c.opened.ensures (c.unwrap-node.ensures ∙ ap Some c.in-Operation.is))) in
     (x.0, omega (arith, x.1, c.if-s-budget.false))
 
 pub returns-in-Integer : goal.returns-in-Integer
@@ -146,7 +151,7 @@ returns-in-Integer c = λ whole b. let a = c.args in
     let x = c.push.ensures a.words.now a.budget whole
     (rw c.value.ensures
     (spent-integer (spent a.s) a.at a.environment _
-    (begin-node a.s a.at a.environment b _ _ c.if-s-budget.false c.opened.ensures c.in-Integer.is))) in
+    (begin-node a.s a.at a.environment b _ _ c.if-s-budget.false c.opened.ensures (c.unwrap-node.ensures ∙ ap Some c.in-Integer.is)))) in
     (x.0, omega (arith, x.1, c.if-s-budget.false))
 
 pub returns-in-Boolean : goal.returns-in-Boolean
@@ -154,13 +159,13 @@ returns-in-Boolean c = λ whole b. let a = c.args in
     let x = c.push-in-Boolean.ensures a.words.now a.budget whole
     (rw c.value-in-Boolean.ensures
     (spent-boolean (spent a.s) a.at a.environment _
-    (begin-node a.s a.at a.environment b _ _ c.if-s-budget.false c.opened.ensures c.in-Boolean.is))) in
+    (begin-node a.s a.at a.environment b _ _ c.if-s-budget.false c.opened.ensures (c.unwrap-node.ensures ∙ ap Some c.in-Boolean.is)))) in
     (x.0, omega (arith, x.1, c.if-s-budget.false))
 
 pub returns-in-Decimal : goal.returns-in-Decimal
 returns-in-Decimal c = λ whole b. let a = c.args in
     let x = spent-decimal (spent a.s) a.at a.environment _ _
-    (begin-node a.s a.at a.environment b _ _ c.if-s-budget.false c.opened.ensures c.in-Decimal.is) in
+    (begin-node a.s a.at a.environment b _ _ c.if-s-budget.false c.opened.ensures (c.unwrap-node.ensures ∙ ap Some c.in-Decimal.is)) in
     (x.0, omega (arith, c.if-s-budget.false))
 
 pub returns-in-Name : goal.returns-in-Name
@@ -168,7 +173,7 @@ returns-in-Name c = λ whole b. let a = c.args in
     let x = c.push-in-Name.ensures a.words.now a.budget whole
     (rw (c.value-in-Name.ensures, c.low.ensures, c.high.ensures)
     (spent-name (spent a.s) a.at a.environment _
-    (begin-node a.s a.at a.environment b _ _ c.if-s-budget.false c.opened.ensures c.in-Name.is))) in
+    (begin-node a.s a.at a.environment b _ _ c.if-s-budget.false c.opened.ensures (c.unwrap-node.ensures ∙ ap Some c.in-Name.is)))) in
     (x.0, omega (arith, x.1, c.if-s-budget.false))
 
 pub returns-in-List : goal.returns-in-List
@@ -176,13 +181,13 @@ returns-in-List c = λ whole b. let a = c.args in
     let x = c.push-in-List.ensures a.words.now a.budget whole
     (rw (c.value-in-List.ensures, c.low-in-List.ensures, c.high-in-List.ensures)
     (spent-list (spent a.s) a.at a.environment _
-    (begin-node a.s a.at a.environment b _ _ c.if-s-budget.false c.opened.ensures c.in-List.is))) in
+    (begin-node a.s a.at a.environment b _ _ c.if-s-budget.false c.opened.ensures (c.unwrap-node.ensures ∙ ap Some c.in-List.is)))) in
     (x.0, omega (arith, x.1, c.if-s-budget.false))
 
 pub returns-in-If : goal.returns-in-If
 returns-in-If c = λ whole b. let a = c.args in
     let x = c.test.ensures a.budget whole
-    (begin-node a.s a.at a.environment b _ _ c.if-s-budget.false c.opened.ensures c.in-If.is) in
+    (begin-node a.s a.at a.environment b _ _ c.if-s-budget.false c.opened.ensures (c.unwrap-node.ensures ∙ ap Some c.in-If.is)) in
     (x.0, omega (arith, x.1, c.if-s-budget.false))
 
 pub returns-in-Lambda : goal.returns-in-Lambda
@@ -190,16 +195,11 @@ returns-in-Lambda c = λ whole b. let a = c.args in
     let x = c.push-in-Lambda.ensures a.words.now a.budget whole
     (rw (c.value-in-Lambda.ensures, c.low-in-Lambda.ensures, c.high-in-Lambda.ensures)
     (spent-lambda (spent a.s) a.at a.environment _ _
-    (begin-node a.s a.at a.environment b _ _ c.if-s-budget.false c.opened.ensures c.in-Lambda.is))) in
+    (begin-node a.s a.at a.environment b _ _ c.if-s-budget.false c.opened.ensures (c.unwrap-node.ensures ∙ ap Some c.in-Lambda.is)))) in
     (x.0, omega (arith, x.1, c.if-s-budget.false))
 
 pub returns-in-Application : goal.returns-in-Application
 returns-in-Application c = λ whole b. let a = c.args in
     let x = c.application.ensures a.budget whole
-    (begin-node a.s a.at a.environment b _ _ c.if-s-budget.false c.opened.ensures c.in-Application.is) in
+    (begin-node a.s a.at a.environment b _ _ c.if-s-budget.false c.opened.ensures (c.unwrap-node.ensures ∙ ap Some c.in-Application.is)) in
     (x.0, omega (arith, x.1, c.if-s-budget.false))
-
-pub returns-in-None : goal.returns-in-None
-returns-in-None c = λ whole b. let a = c.args in
-    absurd (spent-none (spent a.s) a.at a.environment
-    (begin-node a.s a.at a.environment b _ _ c.if-s-budget.false c.opened.ensures c.in-None.is))
