@@ -1,17 +1,10 @@
 -- `binders::put_numbers`: the numbers before the node are put.
 use Rattle.forms.proofs.binders.put_numbers.Statement.{statement}
 use Rattle.forms.proofs.binders.put_numbers.Tie as tie
-use Rattle.forms.proofs.binders.put_numbers.Reads as reads
-use Rattle.forms.proofs.binders.put_numbers.Lts as lts
-use Rattle.arena.proofs.cells.reference.Reads as reference-reads
-use Rattle.arena.proofs.cells.word.Reads as word-reads
-use Rattle.forms.proofs.shapes.own_name.Reads as own-name-reads
-use Rattle.resolution.proofs.names.number_of.Reads as number-of-reads
 use borrow.Author.Rules.{rules}
 use native.Mathlib.Omega.{arith}
-use mathlib.Core.Path.{◌≡◌, refl, sym, ◌∙◌}
+use mathlib.Core.Path.{refl}
 use Prim.Native.Nat.{ℕ}
-use lib.ListN.{length}
 use Rattle.arena.specs.Arena.{reference_at}
 use Rattle.forms.specs.NumberLaws.{Putting, putting-begins, putting-ends, putting-room, putting-falls, putting-more}
 
