@@ -1,6 +1,6 @@
 -- Laws of names in the arena, in the code's shape.
 use Rattle.std.specs.declared.option.Option as C
-use Rattle.std.specs.Prelude.{◌≡◌, refl, Bool, Some, None, ◌&&◌, List, ℕ, ◌+◌, ◌-◌, ◌/◌, ◌%◌, ◌≤◌, ◌<◌, get_or}
+use Rattle.std.specs.Prelude.{◌≡◌, refl, Bool, Some, None, List, ℕ, ◌+◌, ◌-◌, ◌/◌, ◌%◌, ◌≤◌, ◌<◌, get_or}
 use Rattle.std.proofs.Math.Path.{sym, ap}
 use Rattle.std.proofs.Common.{ap₂, subst, ◌∙◌, arith}
 use Rattle.std.proofs.Math.Bool.{true, false, and-true, and-false}
