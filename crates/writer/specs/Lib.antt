@@ -1,5 +1,4 @@
 -- Writing: the text of a term laid into an output, byte by byte.
-pub mod Put
 pub mod Laid
 pub mod LaidLaws
 pub mod Digits

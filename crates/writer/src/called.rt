@@ -4,7 +4,6 @@ ghost use Rattle.std.proofs.Math.Seq.{paste};
 ghost use Rattle.core_term.specs.Code.Scan.{called_in, IsTerm};
 ghost use Rattle.writer.specs.Called.{called_by, Tells};
 
-use crate::numbers::wide;
 use core_term::nodes::shape_at;
 
 // Names into the table, from `at` on.
@@ -12,11 +11,7 @@ fn put(names: &[u32], table: &mut [u32], at: usize)
     requires { at + length names.now ≤ length table.old }
     ensures { table.new ≡ paste table.old at names.now (length names.now) }
 {
-    let mut i = 0;
-    while i < names.len() {
-        table[at + i] = names[i];
-        i = i + 1;
-    }
+    table[at..at + names.len()].copy_from_slice(names);
 }
 
 // The names that the words' lambdas hold, one after another: all of them, of which there are so many.
@@ -27,10 +22,12 @@ pub fn note(words: &[u32], count: usize, table: &mut [u32])
     let mut at = 0;
     let mut seen = 0;
     while seen < count {
-        let node = shape_at(&words[at..]);
+        let Some(node) = shape_at(&words[at..]) else {
+            return;
+        };
         let end = at + node.own;
         put(&words[end - node.names..end], table, seen);
-        seen = seen + node.names;
+        seen += node.names;
         at = end;
     }
 }
@@ -43,12 +40,14 @@ fn find(words: &[u32], n: usize) -> usize
     let mut at = 0;
     let mut seen = 0;
     while at < words.len() {
-        let node = shape_at(&words[at..]);
+        let Some(node) = shape_at(&words[at..]) else {
+            return 0;
+        };
         let end = at + node.own;
         if n - seen < node.names {
-            return wide(words[end - node.names + (n - seen)]);
+            return words[end - node.names + (n - seen)] as usize;
         }
-        seen = seen + node.names;
+        seen += node.names;
         at = end;
     }
     0
@@ -60,7 +59,7 @@ pub fn name_of(n: usize, called: &[u32], direct: bool) -> usize
     ensures { result ≡ slice_index (called_by direct called.now) n }
 {
     if direct {
-        return wide(called[n]);
+        return called[n] as usize;
     }
     find(called, n)
 }

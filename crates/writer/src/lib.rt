@@ -21,17 +21,10 @@ ghost use Rattle.writer.specs.Writing.{text_of};
 ghost use Rattle.writer.specs.Wrote.{has_room, Measured, Wrote};
 
 use called::note;
-use core_term::{Counted, count_variables};
+use core_term::count_variables;
 use names::Pen;
-use term::{Step, term};
-
-// The text's length; or no term (ground 19); or an output shorter than the text (ground 20).
-#[derive(Clone, Copy)]
-pub enum Writing {
-    Written(usize),
-    NoTerm,
-    NoRoom,
-}
+use term::term;
+use words::ground::Ground;
 
 // A term of at most so many words has at most so many bytes of text for each. core_term/specs/TextRoom.antt has the same numbers.
 const TEXT_WORDS: usize = 1000000000;
@@ -57,14 +50,8 @@ fn text_fits(words: &[u32], names: &[u8], out: &mut [u8], called: &[u32], direct
     if has_room(words, out) {
         return true;
     }
-    let measuring = Pen {
-        ink: false,
-        direct: direct,
-    };
-    let Step::Done(used, length) = term(words, names, out, 0, false, called, measuring) else {
-        return false;
-    };
-    true
+    let measuring = Pen { ink: false, direct };
+    term(words, names, out, 0, false, called, measuring).is_some()
 }
 
 // The text of words' term into out, with the names of its variables. No byte is laid before it is known that the text fits.
@@ -75,21 +62,18 @@ fn write_called(
     out: &mut [u8],
     called: &[u32],
     direct: bool,
-) -> Writing
+) -> Result<usize, Ground>
     requires { (is_term operations (has_name names.now) words.now ≡ true) × (Tells direct called.now) × (called_by direct called.now ≡ called_in words.now) }
     ensures { Wrote (text_of words.now operations names.now) out.old out.new result }
 {
     if !text_fits(words, names, out, called, direct) {
-        return Writing::NoRoom;
+        return Err(Ground::NoRoom);
     }
-    let laying = Pen {
-        ink: true,
-        direct: direct,
+    let laying = Pen { ink: true, direct };
+    let Some(step) = term(words, names, out, 0, false, called, laying) else {
+        return Err(Ground::NoRoom);
     };
-    let Step::Done(used, end) = term(words, names, out, 0, false, called, laying) else {
-        return Writing::NoRoom;
-    };
-    Writing::Written(end)
+    Ok(step.end)
 }
 
 // The same, with a table that holds these names, of which there are so many.
@@ -100,7 +84,7 @@ fn write_noting(
     out: &mut [u8],
     count: usize,
     table: &mut [u32],
-) -> Writing
+) -> Result<usize, Ground>
     requires { (is_term operations (has_name names.now) words.now ≡ true) × (count ≡ length (called_in words.now)) × (count ≤ length table.old) }
     ensures { Wrote (text_of words.now operations names.now) out.old out.new result }
 {
@@ -114,12 +98,12 @@ const VARIABLES: usize = 6144;
 // A shorter table, for terms with no more variables than this.
 const FEW: usize = 512;
 
-// The text of words' term into out.
-pub fn write(words: &[u32], operations: u32, names: &[u8], out: &mut [u8]) -> Writing
+// The text of words' term into out, and its length; or that they are no term (ground 19), or that out is shorter than the text (ground 20).
+pub fn write(words: &[u32], operations: u32, names: &[u8], out: &mut [u8]) -> Result<usize, Ground>
     ensures { Wrote (text_of words.now operations names.now) out.old out.new result }
 {
-    let Counted::Variables(count) = count_variables(words, operations, names) else {
-        return Writing::NoTerm;
+    let Some(count) = count_variables(words, operations, names) else {
+        return Err(Ground::NoTerm);
     };
     if count <= FEW {
         let mut table = [0u32; FEW];

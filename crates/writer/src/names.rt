@@ -2,13 +2,12 @@
 ghost use Rattle.std.specs.Prelude.{◌≡◌, suc, ◌+◌, ◌<◌, ◌≤◌, true, length};
 ghost use Rattle.datum.specs.NameTable.{name_at, has_name};
 ghost use Rattle.core_term.specs.Text.{variable_text};
-ghost use Rattle.writer.specs.Put.{put_of};
 ghost use Rattle.writer.specs.Laid.{Left};
 ghost use Rattle.writer.specs.Called.{called_by, Tells, said_by};
 ghost use Rattle.writer.specs.Pieces.{formals_text};
 ghost use Rattle.writer.specs.OpenedLaws.{Naming};
 
-use crate::bytes::{FULL, byte, copy};
+use crate::bytes::{byte, copy};
 use crate::called::name_of;
 use crate::numbers::{gap, numbered};
 use words::SLOT;
@@ -27,20 +26,14 @@ pub struct Bound {
     pub count: usize,
 }
 
-fn size(n: u8) -> usize
-    ensures { result ≡ n }
-{
-    n as usize
-}
-
 // The spelling of name n.
-pub fn name(n: usize, names: &[u8], out: &mut [u8], at: usize, ink: bool) -> usize
+pub fn name(n: usize, names: &[u8], out: &mut [u8], at: usize, ink: bool) -> Option<usize>
     requires { (at ≤ length out.old) × (has_name names.now n ≡ true) }
-    ensures { Left ink (name_at names.now n) at out.old out.new (put_of result) }
+    ensures { Left ink (name_at names.now n) at out.old out.new result }
 {
     let start = SLOT * n;
     let from = start + 1;
-    let to = from + size(names[start]);
+    let to = from + usize::from(names[start]);
     copy(&names[from..to], out, at, ink)
 }
 
@@ -53,18 +46,12 @@ pub fn variable(
     ink: bool,
     called: &[u32],
     direct: bool,
-) -> usize
+) -> Option<usize>
     requires { (at ≤ length out.old) × (Naming (said_by names.now direct called.now) (suc n)) × (Tells direct called.now) }
-    ensures { Left ink (variable_text (name_at names.now) (called_by direct called.now) n) at out.old out.new (put_of result) }
+    ensures { Left ink (variable_text (name_at names.now) (called_by direct called.now) n) at out.old out.new result }
 {
-    let a = numbered(b'v', n, out, at, ink);
-    if a == FULL {
-        return FULL;
-    }
-    let b = byte(b'.', out, a, ink);
-    if b == FULL {
-        return FULL;
-    }
+    let a = numbered(b'v', n, out, at, ink)?;
+    let b = byte(b'.', out, a, ink)?;
     name(name_of(n, called, direct), names, out, b, ink)
 }
 
@@ -77,21 +64,15 @@ pub fn formals(
     at: usize,
     called: &[u32],
     pen: Pen,
-) -> usize
+) -> Option<usize>
     requires { (at ≤ length out.old) × (bound.first + bound.count < 18446744073709551616) × (Naming (said_by names.now pen.direct called.now) (bound.first + bound.count)) × (Tells pen.direct called.now) }
-    ensures { Left pen.ink (formals_text (said_by names.now pen.direct called.now) wanted bound.first bound.count) at out.old out.new (put_of result) }
+    ensures { Left pen.ink (formals_text (said_by names.now pen.direct called.now) wanted bound.first bound.count) at out.old out.new result }
 {
     if bound.count == 0 {
-        return at;
+        return Some(at);
     }
-    let a = gap(wanted, out, at, pen.ink);
-    if a == FULL {
-        return FULL;
-    }
-    let b = variable(bound.first, names, out, a, pen.ink, called, pen.direct);
-    if b == FULL {
-        return FULL;
-    }
+    let a = gap(wanted, out, at, pen.ink)?;
+    let b = variable(bound.first, names, out, a, pen.ink, called, pen.direct)?;
     let rest = Bound {
         first: bound.first + 1,
         count: bound.count - 1,

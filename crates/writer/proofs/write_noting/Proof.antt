@@ -2,10 +2,6 @@
 use Rattle.std.proofs.Common.{◌≤◌, true, length, sym, refl, ◌∙◌, true≢false, arith, length-take-le, rules}
 use Rattle.writer.proofs.write_noting.Statement.{statement}
 use Rattle.writer.proofs.write_noting.Tie as tie
-use Rattle.writer.proofs.write_noting.Reads as reads
-use Rattle.writer.proofs.write_noting.Lts as lts
-use Rattle.writer.proofs.called.note.Reads as note-reads
-use Rattle.writer.proofs.write_called.Reads as write-called-reads
 use Rattle.writer.specs.CalledLaws.{called-table}
 use Rattle.writer.specs.WroteLaws.{is-told}
 

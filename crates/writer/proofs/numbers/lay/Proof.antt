@@ -1,8 +1,6 @@
 -- What is laid so far, with the digits of what is left laid behind it, is the whole.
 use Rattle.writer.proofs.numbers.lay.Statement.{statement}
 use Rattle.writer.proofs.numbers.lay.Tie as tie
-use Rattle.writer.proofs.numbers.lay.Reads as reads
-use Rattle.writer.proofs.numbers.lay.Lts as lts
 use Rattle.std.proofs.Common.{◌≡◌, ℕ, suc, ◌+◌, ◌-◌, ◌^◌, ◌<◌, ◌≤◌, true, length, refl, ap, ◌∙◌, subst, add-one, arith, length-set, rules}
 use Rattle.writer.specs.Laid.{laid}
 use Rattle.core_term.specs.Decimal.{padded}

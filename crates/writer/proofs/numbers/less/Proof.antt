@@ -1,8 +1,6 @@
 -- Where the difference wraps, the number was below q; else it is what is left.
 use Rattle.writer.proofs.numbers.less.Statement.{statement}
 use Rattle.writer.proofs.numbers.less.Tie as tie
-use Rattle.writer.proofs.numbers.less.Reads as reads
-use Rattle.writer.proofs.numbers.less.Lts as lts
 use Rattle.std.proofs.Common.{arith, rules}
 use Rattle.writer.specs.DigitsLaws.{less-taken, less-left, taken_is, left_below}
 

@@ -1,8 +1,6 @@
 -- Ten to the k is no more than the number.
 use Rattle.writer.proofs.numbers.places.Statement.{statement}
 use Rattle.writer.proofs.numbers.places.Tie as tie
-use Rattle.writer.proofs.numbers.places.Reads as reads
-use Rattle.writer.proofs.numbers.places.Lts as lts
 use Rattle.std.proofs.Common.{◌≡◌, ℕ, ◌-◌, ◌^◌, ◌≤◌, subst, arith, rules}
 
 abbrev invariant-loop : tie.invariant-loop-k

@@ -1,8 +1,7 @@
 -- One digit, fewer digits than places, or all of the digits.
-use Rattle.std.proofs.Common.{◌∙◌, arith, rules}
+use Rattle.std.proofs.Common.{arith, rules}
 use Rattle.writer.proofs.numbers.places_least.Statement.{statement}
 use Rattle.writer.proofs.numbers.places_least.Tie as tie
-use Rattle.writer.proofs.numbers.places.Reads as places-reads
 use Rattle.writer.specs.PointLaws.{least-one, least-few, places-few}
 
 returns : tie.Need-returns-then-n-lt10

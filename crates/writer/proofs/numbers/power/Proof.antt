@@ -2,8 +2,6 @@
 use Rattle.std.proofs.Common.{length, ap, arith, rules}
 use Rattle.writer.proofs.numbers.power.Statement.{statement}
 use Rattle.writer.proofs.numbers.power.Tie as tie
-use Rattle.writer.proofs.numbers.power.Reads as reads
-use Rattle.writer.proofs.numbers.power.Lts as lts
 use Rattle.writer.specs.DigitsLaws.{tens-at, tens-product, power_below}
 
 shared-slice-read-result : tie.Need-bounds-powers-k

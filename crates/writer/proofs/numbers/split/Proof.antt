@@ -2,8 +2,6 @@
 use Rattle.std.proofs.Common.{arith, rules}
 use Rattle.writer.proofs.numbers.split.Statement.{statement}
 use Rattle.writer.proofs.numbers.split.Tie as tie
-use Rattle.writer.proofs.numbers.split.Reads as reads
-use Rattle.writer.proofs.numbers.split.Lts as lts
 use Rattle.writer.specs.DigitsLaws.{split-is}
 
 returns : tie.Need-returns
