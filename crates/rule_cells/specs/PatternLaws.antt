@@ -26,7 +26,7 @@ use Rattle.arena.specs.ListLaws.{tree-cases}
 use Rattle.rule_cells.specs.Cells.{pattern_at, pattern_from}
 use Rattle.rule_cells.specs.Made.{Made, MadeLiteral}
 use Rattle.rule_cells.specs.MadeLaws.{pattern-kept}
-use Rattle.rule_cells.specs.Dots.{dots_at, dots_among, dots-kept}
+use Rattle.rule_cells.specs.Dots.{dots_at, dots_among, DotsBelow, dots-higher, dots-kept}
 use Rattle.rule_cells.specs.Parse.{Asks, Behind, PatternMade, PatternLeft}
 use Rattle.rule_cells.specs.ParseLaws.{grows-nothing, grows-leaf, kept-both, tree_is, size_is, rest-kept, grows-pair}
 use Rattle.rule_cells.specs.declared.rules_form.Form.{Form}
@@ -232,13 +232,13 @@ behind-none work rest followed e w f = absurd (false≢true (sym e ∙ f))
 -- a pair of a list of patterns or rules at hand, opened
 pub record PairHere (old : List ℕ) (form : Form) (node top head rest : ℕ) : Type 0 where
   pub asks : Asks old node form.wrap top
-  pub dots-below : form.dots ≤ top
+  pub dots-below : DotsBelow form.dots top
   pub literals-below : form.literals ≤ top
   pub is-pair : word_at old node KIND ≡ 4
   pub head-is : head ≡ reference_at old node HEAD
   pub rest-is : rest ≡ reference_at old node TAIL
 
-pub pair-here : (old : List ℕ) (form : Form) (node top : ℕ) {head rest : ℕ} → Asks old node form.wrap top → form.dots ≤ top → form.literals ≤ top
+pub pair-here : (old : List ℕ) (form : Form) (node top : ℕ) {head rest : ℕ} → Asks old node form.wrap top → DotsBelow form.dots top → form.literals ≤ top
     → word_at old node KIND ≡ 4 → head ≡ reference_at old node HEAD → rest ≡ reference_at old node TAIL → PairHere old form node top head rest
 pair-here old form node top asks dots literals e f g =
     record { asks = asks; dots-below = dots; literals-below = literals; is-pair = e; head-is = f; rest-is = g }
@@ -316,8 +316,8 @@ module _ {old : List ℕ} {form : Form} {node top head rest : ℕ} (here : PairH
       pub literals-still : form.literals ≤ t
       literals-still = omega (arith, here.literals-below, made.grows.up)
 
-      pub dots-still : form.dots ≤ t
-      dots-still = omega (arith, here.dots-below, made.grows.up)
+      pub dots-still : DotsBelow form.dots t
+      dots-still = dots-higher form.dots top t made.grows.up here.dots-below
 
       pub begins-still : followed ≡ true → dots_next ds-again again ≡ true
       begins-still q = rw (same-dots, s-is) (sym next ∙ q)

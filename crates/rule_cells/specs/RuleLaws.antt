@@ -16,7 +16,7 @@ use Rattle.arena.specs.CellLaws.{tree-kept}
 use Rattle.rule_cells.specs.Cells.{pattern_at, template_at, rules_at}
 use Rattle.rule_cells.specs.Made.{Made}
 use Rattle.rule_cells.specs.MadeLaws.{pattern-kept, rules-kept}
-use Rattle.rule_cells.specs.Dots.{dots_at, dots-kept}
+use Rattle.rule_cells.specs.Dots.{dots_at, DotsBelow, dots-higher, dots-kept}
 use Rattle.rule_cells.specs.Variables.{variables_from, Held, Under, Stored, Gathered}
 use Rattle.rule_cells.specs.declared.rules_form.Form.{Form}
 use Rattle.rule_cells.specs.declared.rules.Parsed.{Parsed}
@@ -102,8 +102,8 @@ module _ {old : List ℕ} {form : Form} {p q next top : ℕ} (ask : PartsAsk old
 
   -- after the variables and the pattern
   module _ {none_yet vars : List ℕ} {n : ℕ} (stored : Stored (variables ds listed 0 pt) old form.wrap p 0 none_yet vars n) {mid : List ℕ} {a t m : ℕ} (same_length : length mid ≡ length old) (made : PatternMade ds listed 0 false pt old mid top a t m) where
-    pub dots-still : form.dots ≤ t
-    dots-still = omega (arith, ask.dots-below, made.grows.up)
+    pub dots-still : DotsBelow form.dots t
+    dots-still = dots-higher form.dots top t made.grows.up ask.dots-below
 
     pub under_top : Under vars n t
     under_top = stored.under t (omega (arith, ask.p-below, made.grows.up)) (λ i l. absurd (omega arith))

@@ -20,7 +20,7 @@ use Rattle.arena.specs.Lists.{Means}
 use Rattle.arena.specs.ListLaws.{no_name, no-elements}
 use Rattle.rule_cells.specs.CellLaws.{rules_at-none}
 use Rattle.rule_cells.specs.Scopes.{dots_of, literals_of}
-use Rattle.rule_cells.specs.Dots.{dots_at, dots-kept}
+use Rattle.rule_cells.specs.Dots.{dots_at, DotsBelow, dots-higher, dots-kept}
 use Rattle.rule_cells.specs.Forms.{Chosen}
 use Rattle.rule_cells.specs.declared.rules_form.Form.{Form}
 use Rattle.rule_cells.specs.declared.rules.Parsed.{Parsed}
@@ -29,10 +29,11 @@ use Rattle.rule_cells.specs.Parse.{Asks}
 use Rattle.rule_cells.specs.ParseLaws.{tree_is, size_is, head-below}
 use Rattle.rule_cells.specs.PatternLaws.{PairHere}
 use Rattle.rule_cells.specs.RuleParse.{rule_shape, parts_of, PartsAsk, RuleLeft, RulesMade, RulesLeft}
+use Rattle.rule_cells.specs.declared.dots.Dots.{Dots}
 
 -- ---- a rule's shape
 
-module _ (work : List ℕ) (dots node w : ℕ) where
+module _ (work : List ℕ) (dots : Dots) (node w : ℕ) where
   pub shape-no : false ≡ is_list_of 2 (tree_at work node w) → false ≡ rule_shape (dots_at work dots w) (tree_at work node w)
   unfolding rule_shape
   shape-no e = rw (← e) refl
@@ -98,7 +99,7 @@ rule-as o o' s s' old new next top (Some p) e l m =
     record { rule = m.rule; is = sym e ∙ m.is; means = m.means; at_most = m.at_most; up = m.up; words = omega (arith, m.words); kept = m.kept }
 rule-as o o' s s' old new next top None e l m = (sym e ∙ m.0, m.1)
 
-module _ (old : List ℕ) (form : Form) (node next top : ℕ) (asks : Asks old node form.wrap top) (dots-below : form.dots ≤ top) (literals-below : form.literals ≤ top) (next-below : next ≤ top) where
+module _ (old : List ℕ) (form : Form) (node next top : ℕ) (asks : Asks old node form.wrap top) (dots-below : DotsBelow form.dots top) (literals-below : form.literals ≤ top) (next-below : next ≤ top) where
   abbrev ds : Name → Bool
   ds = dots_at old form.dots form.wrap
 
@@ -201,8 +202,8 @@ module _ {old : List ℕ} {form : Form} {node top head rest : ℕ} (here : PairH
     told_is : dots_at mid form.dots form.wrap ≡ dots_of old form
     told_is = dots-kept old mid top made.kept form.dots form.wrap here.dots-below here.asks.wrap-below
 
-    pub dots-still : form.dots ≤ upper
-    dots-still = omega (arith, here.dots-below, made.up)
+    pub dots-still : DotsBelow form.dots upper
+    dots-still = dots-higher form.dots top upper made.up here.dots-below
 
     pub literals-still : form.literals ≤ upper
     literals-still = omega (arith, here.literals-below, made.up)
@@ -245,7 +246,7 @@ module _ (old : List ℕ) (node w top : ℕ) (asks : Asks old node w top) where
   pub left-no-form : false ≡ is_rules_form (tree_at old node w) → RulesLeft (rules_of (tree_at old node w)) (size (tree_at old node w)) old old top None
   left-no-form e = (rules-none (tree_at old node w) e, refl)
 
-  module _ {dots after literals list : ℕ} (c : Chosen old node dots) (a : Means old node after after_chosen) (b : Means old after literals (element 0)) (d : Means old after list tail) where
+  module _ {dots : Dots} {after literals list : ℕ} (c : Chosen old node dots) (a : Means old node after after_chosen) (b : Means old after literals (element 0)) (d : Means old after list tail) where
     literals-are : tree_at old literals w ≡ literal_list (tree_at old node w)
     literals-are = b.is w ∙ ap (element 0) (a.is w)
 
@@ -269,8 +270,8 @@ module _ (old : List ℕ) (node w top : ℕ) (asks : Asks old node w top) where
           room = record { fits = omega (arith, asks.room.fits, smaller); small = omega (arith, asks.room.small, smaller) };
         }
 
-    pub dots-under : dots ≤ top
-    dots-under = omega (arith, c.low, asks.node-below)
+    pub dots-under : DotsBelow dots top
+    dots-under = dots-higher dots node top asks.node-below c.low
 
     pub literals-under : literals ≤ top
     literals-under = omega (arith, a.low, b.low, asks.node-below)

@@ -11,6 +11,7 @@ use Rattle.arena.specs.Cells.{Room}
 use Rattle.rule_cells.specs.Cells.{rules_at}
 use Rattle.rule_cells.specs.declared.rules_form.Form.{Form}
 use Rattle.rule_cells.specs.declared.rules.Parsed.{Parsed}
+use Rattle.rule_cells.specs.Dots.{DotsBelow}
 
 -- (pattern template); a pattern's first place is a name other than the ellipsis
 unfoldable pub rule_shape : (dots : Name → Bool) → Tree → Bool
@@ -23,7 +24,7 @@ parts_of dots literals p q =
     only_if (are_variables vs) (map_both (λ x y. record { pattern = x; template = y }) (pattern_of dots literals 0 false p) (template_of dots vs 0 as_element q))
 
 pub record PartsAsk (work : List ℕ) (form : Form) (p q next top : ℕ) : Type 0 where
-  pub dots-below : form.dots ≤ top
+  pub dots-below : DotsBelow form.dots top
   pub literals-below : form.literals ≤ top
   pub p-below : p ≤ top
   pub q-below : q ≤ top

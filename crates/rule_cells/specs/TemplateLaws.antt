@@ -24,13 +24,14 @@ use Rattle.rule_cells.specs.MadeLaws.{template-kept, name-kept}
 use Rattle.arena.specs.ListLaws.{tree-cases}
 use Rattle.arena.specs.Lists.{Means}
 use Rattle.rule_cells.specs.declared.templates.Scope.{Scope}
-use Rattle.rule_cells.specs.Dots.{dots_at, dots-kept}
+use Rattle.rule_cells.specs.Dots.{dots_at, DotsBelow, dots-higher, dots-kept}
 use Rattle.rule_cells.specs.Variables.{variable_at, variables_from, Under, Deeper}
 use Rattle.rule_cells.specs.Drive.{drives}
 use Rattle.rule_cells.specs.declared.rules.Parsed.{Parsed}
 use Rattle.std.specs.declared.option.Option as code
 use Rattle.rule_cells.specs.Parse.{Asks, rest_place, TemplateMade, TemplateLeft}
 use Rattle.rule_cells.specs.ParseLaws.{grows-nothing, grows-leaf, kept-both, tree_is, size_is, rest_below, rest-kept, grows-pair}
+use Rattle.rule_cells.specs.declared.dots.Dots.TheVariants.{Never}
 
 -- the empty template is reference 0
 pub template_at-none : (work : List ℕ) → template_at work 0 ≡ empty_t
@@ -215,12 +216,12 @@ left-leaf dots vs d place old node w top new r n m = left_as vs old new top d do
 pub record TemplateHere (old vars : List ℕ) (scope : Scope) (node top head rest : ℕ) : Type 0 where
   pub asks : Asks old node scope.wrap top
   pub under : Under vars scope.count top
-  pub dots-below : scope.dots ≤ top
+  pub dots-below : DotsBelow scope.dots top
   pub is-pair : word_at old node KIND ≡ 4
   pub head-is : head ≡ reference_at old node HEAD
   pub rest-is : rest ≡ reference_at old node TAIL
 
-pub template-here : (old vars : List ℕ) (scope : Scope) (node top : ℕ) {head rest : ℕ} → Asks old node scope.wrap top → Under vars scope.count top → scope.dots ≤ top
+pub template-here : (old vars : List ℕ) (scope : Scope) (node top : ℕ) {head rest : ℕ} → Asks old node scope.wrap top → Under vars scope.count top → DotsBelow scope.dots top
     → word_at old node KIND ≡ 4 → head ≡ reference_at old node HEAD → rest ≡ reference_at old node TAIL → TemplateHere old vars scope node top head rest
 template-here old vars scope node top asks under dots e f g =
     record { asks = asks; under = under; dots-below = dots; is-pair = e; head-is = f; rest-is = g }
@@ -269,10 +270,7 @@ module _ {old vars : List ℕ} {scope : Scope} {node top head rest : ℕ} (here 
           room = record { fits = omega (arith, here.asks.room.fits, whole-size); small = omega (arith, here.asks.room.small, whole-size) };
         }
 
-    pub some-top : 1 ≤ top
-    some-top = omega (arith, inside-below, here.asks.node-below)
-
-    pub left-escape : (new : List ℕ) (r : code.Option Parsed) → true ≡ dots_next ds (tree_at old node scope.wrap) → true ≡ is_list_of 1 s → TemplateLeft (dots_at old 1 scope.wrap) vs scope.d as_element (tree_at old inside scope.wrap) old new top r → TemplateLeft ds vs scope.d as_element (tree_at old node scope.wrap) old new top r
+    pub left-escape : (new : List ℕ) (r : code.Option Parsed) → true ≡ dots_next ds (tree_at old node scope.wrap) → true ≡ is_list_of 1 s → TemplateLeft (dots_at old Never scope.wrap) vs scope.d as_element (tree_at old inside scope.wrap) old new top r → TemplateLeft ds vs scope.d as_element (tree_at old node scope.wrap) old new top r
     unfolding dots_at
     left-escape new r q l m =
         left_as vs old new top scope.d ds no_ellipsis as_element as_element (tree_at old node scope.wrap) (tree_at old inside scope.wrap)
@@ -308,8 +306,8 @@ module _ {old vars : List ℕ} {scope : Scope} {node top head rest : ℕ} (here 
       pub under-still : Under vars scope.count t
       under-still i l = omega (arith, here.under i l, made.grows.up)
 
-      pub dots-still : scope.dots ≤ t
-      dots-still = omega (arith, here.dots-below, made.grows.up)
+      pub dots-still : DotsBelow scope.dots t
+      dots-still = dots-higher scope.dots top t made.grows.up here.dots-below
 
       abbrev again : Tree
       again = tree_at mid rest scope.wrap

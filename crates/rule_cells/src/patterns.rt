@@ -6,6 +6,7 @@ ghost use Rattle.arena.specs.Offsets.{KIND};
 ghost use Rattle.arena.specs.Arena.{word_at, name_at, tree_at};
 ghost use Rattle.arena.specs.Cells.{Room};
 ghost use Rattle.expansion.specs.Rules.{dots_next};
+ghost use Rattle.rule_cells.specs.Dots.{DotsBelow};
 ghost use Rattle.rule_cells.specs.Parse.{Asks, Behind, PatternLeft};
 ghost use Rattle.rule_cells.specs.Scopes.{dots_of, literals_of};
 
@@ -103,7 +104,7 @@ pub fn pattern(
     taken: bool,
     top: u32,
 ) -> Option<ParsedPattern>
-    requires { (Asks work.old node form.wrap top) × (form.dots ≤ top) × (form.literals ≤ top) × (k + size (tree_at work.old node form.wrap) < 2 ^ 32) × (taken ≡ true → dots_next (dots_of work.old form) (tree_at work.old node form.wrap) ≡ true) }
+    requires { (Asks work.old node form.wrap top) × (DotsBelow form.dots top) × (form.literals ≤ top) × (k + size (tree_at work.old node form.wrap) < 2 ^ 32) × (taken ≡ true → dots_next (dots_of work.old form) (tree_at work.old node form.wrap) ≡ true) }
     ensures { PatternLeft (dots_of work.old form) (literals_of work.old form) k taken (tree_at work.old node form.wrap) work.old work.new top result }
 {
     if cells::word(work, node, cells::KIND) != cells::PAIR {

@@ -7,11 +7,12 @@ ghost use Rattle.recipe.specs.Tree.{size, elements};
 ghost use Rattle.words.specs.Options.{traverse};
 ghost use Rattle.expansion.specs.Rules.{rule_of, rules_of};
 ghost use Rattle.arena.specs.Arena.{tree_at};
-ghost use Rattle.rule_cells.specs.Dots.{dots_at};
+ghost use Rattle.rule_cells.specs.Dots.{dots_at, DotsBelow};
 ghost use Rattle.rule_cells.specs.Parse.{Asks};
 ghost use Rattle.rule_cells.specs.RuleParse.{rule_shape, parts_of, PartsAsk, RuleLeft, RulesLeft};
 ghost use Rattle.rule_cells.specs.Scopes.{dots_of, literals_of};
 
+use crate::dots::Dots;
 use crate::rules_form::Form;
 use crate::templates::Scope;
 use crate::{constructors, dots, patterns, rules_form, templates, variables};
@@ -44,7 +45,7 @@ fn rule_parts(work: &mut [u32], form: Form, p: u32, q: u32, next: u32, top: u32)
 }
 
 // Whether a tree is a list of two whose first begins with a name other than the ellipsis.
-fn rule_shape(work: &[u32], dots: u32, node: u32, w: u32) -> bool
+fn rule_shape(work: &[u32], dots: Dots, node: u32, w: u32) -> bool
     ensures { result ≡ rule_shape (dots_at work.now dots w) (tree_at work.now node w) }
 {
     if lists::is_list_of(work, node, 2) {
@@ -60,7 +61,7 @@ fn rule_shape(work: &[u32], dots: u32, node: u32, w: u32) -> bool
 
 // A rule, (pattern template), before the rules at `next`.
 fn rule(work: &mut [u32], form: Form, node: u32, next: u32, top: u32) -> Option<Parsed>
-    requires { (Asks work.old node form.wrap top) × (form.dots ≤ top) × (form.literals ≤ top) × (next ≤ top) }
+    requires { (Asks work.old node form.wrap top) × (DotsBelow form.dots top) × (form.literals ≤ top) × (next ≤ top) }
     ensures { RuleLeft (rule_of (dots_of work.old form) (literals_of work.old form) (tree_at work.old node form.wrap)) (size (tree_at work.old node form.wrap)) work.old work.new next top result }
 {
     if rule_shape(work, form.dots, node, form.wrap) {
@@ -75,7 +76,7 @@ fn rule(work: &mut [u32], form: Form, node: u32, next: u32, top: u32) -> Option<
 
 // A list of rules, the last first.
 fn rule_list(work: &mut [u32], form: Form, node: u32, top: u32) -> Option<Parsed>
-    requires { (Asks work.old node form.wrap top) × (form.dots ≤ top) × (form.literals ≤ top) }
+    requires { (Asks work.old node form.wrap top) × (DotsBelow form.dots top) × (form.literals ≤ top) }
     ensures { RulesLeft (traverse (rule_of (dots_of work.old form) (literals_of work.old form)) (elements (tree_at work.old node form.wrap))) (size (tree_at work.old node form.wrap)) work.old work.new top result }
 {
     if cells::word(work, node, cells::KIND) != cells::PAIR {

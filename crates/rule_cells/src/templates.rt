@@ -7,22 +7,24 @@ ghost use Rattle.expansion.specs.Rules.{depth_fits, as_element};
 ghost use Rattle.arena.specs.Offsets.{KIND};
 ghost use Rattle.arena.specs.Arena.{word_at, name_at, tree_at};
 ghost use Rattle.arena.specs.Cells.{Room};
+ghost use Rattle.rule_cells.specs.Dots.{DotsBelow};
 ghost use Rattle.rule_cells.specs.Drive.{Drives, Accepts};
 ghost use Rattle.rule_cells.specs.Variables.{Under};
 ghost use Rattle.rule_cells.specs.Parse.{Asks, rest_place, TemplateLeft};
 ghost use Rattle.rule_cells.specs.Scopes.{dots_under, variables_under};
 
+use crate::dots::Dots;
 use crate::rules::Parsed;
 use crate::{cells, constructors, dots, variables};
 use arena::lists;
 use resolution::names;
 
-// What a template is read under: how many variables its rule has, the ellipsis (`dots` says how), the wrap that waits on all of
+// What a template is read under: how many variables its rule has, the ellipsis, the wrap that waits on all of
 // it, and how many ellipses are around it.
 #[derive(Clone, Copy)]
 pub struct Scope {
     pub count: u32,
-    pub dots: u32,
+    pub dots: Dots,
     pub wrap: u32,
     pub d: u32,
 }
@@ -127,7 +129,7 @@ fn list_rest(
     taken: bool,
     top: u32,
 ) -> Option<Parsed>
-    requires { (Asks work.old node scope.wrap top) × (scope.count ≤ 16) × (32 ≤ length vars.now) × (Under vars.now scope.count top) × (scope.dots ≤ top) × (scope.d + node < 2 ^ 32) }
+    requires { (Asks work.old node scope.wrap top) × (scope.count ≤ 16) × (32 ≤ length vars.now) × (Under vars.now scope.count top) × (DotsBelow scope.dots top) × (scope.d + node < 2 ^ 32) }
     ensures { TemplateLeft (dots_under work.old scope) (variables_under work.old vars.now scope) scope.d (rest_place taken) (tree_at work.old node scope.wrap) work.old work.new top result }
 {
     if arena::cells::word(work, node, arena::cells::KIND) != arena::cells::PAIR {
@@ -156,7 +158,7 @@ fn list_rest(
 // second no name is the ellipsis.
 #[cycle(list_rest_template)]
 pub fn template(work: &mut [u32], vars: &[u32], scope: Scope, node: u32, top: u32) -> Option<Parsed>
-    requires { (Asks work.old node scope.wrap top) × (scope.count ≤ 16) × (32 ≤ length vars.now) × (Under vars.now scope.count top) × (scope.dots ≤ top) × (scope.d + node < 2 ^ 32) }
+    requires { (Asks work.old node scope.wrap top) × (scope.count ≤ 16) × (32 ≤ length vars.now) × (Under vars.now scope.count top) × (DotsBelow scope.dots top) × (scope.d + node < 2 ^ 32) }
     ensures { TemplateLeft (dots_under work.old scope) (variables_under work.old vars.now scope) scope.d as_element (tree_at work.old node scope.wrap) work.old work.new top result }
 {
     if arena::cells::word(work, node, arena::cells::KIND) != arena::cells::PAIR {
@@ -167,7 +169,7 @@ pub fn template(work: &mut [u32], vars: &[u32], scope: Scope, node: u32, top: u3
         if lists::is_list_of(work, rest, 1) {
             let inside = lists::first(work, rest);
             let escaped = Scope {
-                dots: dots::NEVER,
+                dots: Dots::Never,
                 ..scope
             };
             return template(work, vars, escaped, inside, top);

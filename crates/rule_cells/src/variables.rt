@@ -13,6 +13,7 @@ ghost use Rattle.rule_cells.specs.Variables.{variables_from, Deeper, Held, Gathe
 ghost use Rattle.rule_cells.specs.Scopes.{dots_of, literals_of};
 
 use crate::dots;
+use crate::dots::Dots;
 use crate::rules_form::Form;
 use arena::cells;
 use resolution::names;
@@ -82,7 +83,7 @@ pub fn element_depth(followed: bool, d: u32) -> u32
 }
 
 // The depth of an element before this rest of its list.
-fn depth_before(work: &[u32], dots: u32, rest: u32, w: u32, d: u32) -> u32
+fn depth_before(work: &[u32], dots: Dots, rest: u32, w: u32, d: u32) -> u32
     requires { d + 1 < 2 ^ 32 }
     ensures { Deeper (dots_at work.now dots w) (tree_at work.now rest w) d result }
 {

@@ -4,7 +4,7 @@ use Rattle.rule_cells.specs.GatherLaws.{deeper-most}
 use Rattle.rule_cells.specs.VariableLaws.{deeper-by}
 use Rattle.rule_cells.specs.ParseLaws.{asks-head, asks-tail, asks_rest, room-pair, head-below, rest_below}
 use Rattle.rule_cells.specs.Parse.{rest_place}
-use Rattle.rule_cells.specs.TemplateLaws.{template-here, left-leaf, left-taken, left-bad, made-head, left-undriven, under-still, dots-still, left-bad-rest, made-rest, left-list, left-plain, left-unescaped, inside-below, asks-inside, some-top, left-escape}
+use Rattle.rule_cells.specs.TemplateLaws.{template-here, left-leaf, left-taken, left-bad, made-head, left-undriven, under-still, dots-still, left-bad-rest, made-rest, left-list, left-plain, left-unescaped, inside-below, asks-inside, left-escape}
 use Rattle.rule_cells.specs.Scopes.{dots_under, variables_under}
 use Rattle.rule_cells.proofs.templates.+list_rest_template.Goals as goal
 
@@ -121,7 +121,7 @@ template-template-requires t c =
     let p = c.requires in
     let here = template-here a.work.now a.vars.now a.scope a.node a.top p.0 p.3 p.4 (sym c.word.ensures ∙ c.if-word-ne-PAIR.false) refl c.reference-rest.ensures in
     let below = inside-below here c.first-inside.ensures in
-    (omega (arith, c.decreases, below), (asks-inside here c.first-inside.ensures, p.1, p.2, p.3, some-top here c.first-inside.ensures, omega (arith, p.5, below)))
+    (omega (arith, c.decreases, below), (asks-inside here c.first-inside.ensures, p.1, p.2, p.3, tt, omega (arith, p.5, below)))
 
 pub template-returns-then-is_list_of : goal.template-returns-then-is_list_of
 template-returns-then-is_list_of t c =
