@@ -26,6 +26,7 @@ use Rattle.evaluation.specs.Numbers.{integers}
 use Rattle.evaluation.specs.Evaluate.{Value, number_v, boolean_v, datum_v, closure_v, operation_v, find, constant_value, evaluate_node}
 use Rattle.evaluation.proofs.Steps.{Waiting, test_w, parts_w, value, resume, begins, begins-out, begins-node, begins-if, begins-application}
 use Rattle.runner.specs.declared.rows.Value as R
+use Rattle.runner.specs.declared.rows.Value.TheVariants as RV
 use Rattle.runner.specs.declared.rows.Frame.{Frame}
 use Rattle.runner.specs.declared.state.Counts.{Counts}
 use Rattle.runner.specs.declared.state.Turn.TheVariants.{Begins, Comes}
@@ -36,8 +37,8 @@ use Rattle.words.specs.ListLaws.{rest-is}
 use Rattle.runner.specs.Here.{here-node}
 use Rattle.runner.specs.NodeIs.{NodeIs, node-is}
 use Rattle.runner.specs.Due.{some-by}
-use Rattle.runner.specs.Rows.{value_word, frame_word, ValueIs, number_i, boolean_i, datum_i, closure_i, operation_i, none_i, WaitingIs, test_i, parts_i}
-use Rattle.runner.specs.Stores.{value_set, frame_set, value_words, frame_words, length-stored, value-own, frame-own, packed-parts}
+use Rattle.runner.specs.Rows.{frame_word, ValueIs, number_i, boolean_i, datum_i, closure_i, operation_i, none_i, WaitingIs, test_i, parts_i}
+use Rattle.runner.specs.Stores.{value_set, frame_set, value_words, frame_words, length-stored, value-back, frame-own, packed-parts}
 use Rattle.runner.specs.Kept.{Kept, kept_same, kept-value, kept_frame, environment-kept, value-kept, waiting_kept}
 use Rattle.runner.specs.Found.{Bound, FoundIs}
 use Rattle.runner.specs.Machine.{operation_found, Beginning, Leaving, Giving, Seeks, Spent, Turned, begin_fuel, give_fuel}
@@ -62,8 +63,7 @@ module _ {ws t : List ℕ} {budget : ℕ} {whole : Out (Value Number)} (s : Coun
       let room = giving-row g in
       let kept = kept-value row s.frames s.cells t row v (omega arith) in
       let top : row + 1 - 1 ≡ row = omega arith in
-      let own : (i : ℕ) → i < 4 → value_word (value_set t row v) row i ≡ _ = λ i h. value-own t row i room v h in
-      let is : ValueIs ws (value_set t row v) s.cells v.kind v.a v.b v.environment g.value = value-kept kept (omega arith) (omega arith) g.is in (
+      let is : ValueIs ws (value_set t row v) s.cells v g.value = value-kept kept (omega arith) (omega arith) g.is in (
         record {
           room =
               record {
@@ -74,7 +74,7 @@ module _ {ws t : List ℕ} {budget : ℕ} {whole : Out (Value Number)} (s : Coun
               };
           some = omega arith;
           value = g.value;
-          is = rw top (record { is = rw (own 0 (omega arith), own 1 (omega arith), own 2 (omega arith), own 3 (omega arith)) is });
+          is = rw top (record { is = rw (value-back t row room v) is });
           waiting = l.waiting;
           stacked = rw top (waiting_kept kept (omega arith) (omega arith) (omega arith) l.stacked);
           goes = l.goes;
@@ -85,7 +85,7 @@ module _ {ws t : List ℕ} {budget : ℕ} {whole : Out (Value Number)} (s : Coun
   -- what is found out: a value, or a ground
   module _ (found : M (Value Number)) (l : Leaving ws budget whole t s found) where
     pub leaving-gives : (v : R.Value) (x : Value Number) → found s.units ≡ done x s.units
-        → ValueIs ws t s.cells v.kind v.a v.b v.environment x → Giving ws budget whole t s v
+        → ValueIs ws t s.cells v x → Giving ws budget whole t s v
     unfolding ◌>>=◌ go_on give
     leaving-gives v x e i =
         record {
@@ -132,9 +132,9 @@ module _ {ws t : List ℕ} {budget : ℕ} {whole : Out (Value Number)} (s : Coun
 
   -- an operation by its place
   module _ (p : ℕ) (l : Leaving ws budget whole t s (operation_found p)) where
-    pub operation-gives : p < 4 → Giving ws budget whole t s (record { kind = 5; a = p; b = 0; environment = 0 })
+    pub operation-gives : p < 4 → Giving ws budget whole t s (RV.Operation p)
     unfolding ◌>>◌ go_on test give
-    operation-gives h = leaving-gives _ l _ (operation_v p) (rw (lt-ltb p 4 h)) (operation_i refl refl h)
+    operation-gives h = leaving-gives _ l _ (operation_v p) (rw (lt-ltb p 4 h)) (operation_i p refl refl h)
 
     pub operation-stops : 4 ≤ p → Turned ws budget whole (give_fuel s budget) t (Err G.WrongKind)
     unfolding ◌>>◌ go_on test give
@@ -161,44 +161,41 @@ module _ {ws t : List ℕ} {budget : ℕ} {whole : Out (Value Number)} (s : Coun
     spent-operation p x = spent-is x _ x.is
 
     -- constants stand for themselves, but for decimals
-    pub spent-integer : (w : ℕ) → Spent ws budget whole t s (Integer w) at e → Giving ws budget whole t s (record { kind = 1; a = w; b = 0; environment = 0 })
+    pub spent-integer : (w : ℕ) → Spent ws budget whole t s (Integer w) at e → Giving ws budget whole t s (RV.Number w)
     unfolding code_at datum_code evaluate_node constant_value or_ground integer integers
-    spent-integer w x = leaving-gives _ (spent-is x _ x.is) _ (number_v (number_in w 0)) refl (number_i refl refl)
+    spent-integer w x = leaving-gives _ (spent-is x _ x.is) _ (number_v (number_in w 0)) refl (number_i w refl refl)
 
-    pub spent-boolean : (w : ℕ) → Spent ws budget whole t s (Boolean w) at e → Giving ws budget whole t s (record { kind = 2; a = w; b = 0; environment = 0 })
+    pub spent-boolean : (w : ℕ) → Spent ws budget whole t s (Boolean w) at e → Giving ws budget whole t s (RV.Boolean (eqb w 1))
     unfolding code_at datum_code evaluate_node constant_value or_ground boolean
-    spent-boolean w x = leaving-gives _ (spent-is x _ x.is) _ (boolean_v (eqb w 1)) refl (boolean_i refl refl)
+    spent-boolean w x = leaving-gives _ (spent-is x _ x.is) _ (boolean_v (eqb w 1)) refl (boolean_i (eqb w 1) refl refl)
 
     pub spent-decimal : (w p : ℕ) → Spent ws budget whole t s (Decimal w p) at e → Turned ws budget whole (give_fuel s budget) t (Err G.WrongKind)
     unfolding code_at datum_code evaluate_node constant_value or_ground decimal
     spent-decimal w p x = leaving-stops _ (spent-is x _ x.is) G.WrongKind (give_fuel s budget) (omega arith) refl
 
-    -- a quoted datum is its place, in two words
+    -- a quoted datum is its place
     datum-gives : {node : Node} (x : Spent ws budget whole t s node at e) → evaluate_node numbers (value numbers budget) (code_at at x.term) x.environment ≡ give (datum_v at)
-        → Giving ws budget whole t s (record { kind = 3; a = at % 4294967296; b = at / 4294967296; environment = 0 })
+        → Giving ws budget whole t s (RV.Datum at)
     unfolding give
     datum-gives x h =
-        leaving-gives _ (subst (λ (m : M (Value Number)). Leaving ws budget whole t s m) h x.leaving) _ (datum_v at) refl (datum_i refl (ap (λ (n : ℕ). datum_v n) (sym (packed-parts at))))
+        leaving-gives _ (subst (λ (m : M (Value Number)). Leaving ws budget whole t s m) h x.leaving) _ (datum_v at) refl (datum_i at refl refl)
 
-    pub spent-name : (n : ℕ) → Spent ws budget whole t s (Name n) at e → Giving ws budget whole t s (record { kind = 3; a = at % 4294967296; b = at / 4294967296; environment = 0 })
+    pub spent-name : (n : ℕ) → Spent ws budget whole t s (Name n) at e → Giving ws budget whole t s (RV.Datum at)
     unfolding code_at datum_code evaluate_node
     spent-name n x = datum-gives x (rw x.is)
 
-    pub spent-list : (n : ℕ) → Spent ws budget whole t s (Several n) at e → Giving ws budget whole t s (record { kind = 3; a = at % 4294967296; b = at / 4294967296; environment = 0 })
+    pub spent-list : (n : ℕ) → Spent ws budget whole t s (Several n) at e → Giving ws budget whole t s (RV.Datum at)
     unfolding code_at datum_code evaluate_node
     spent-list n x = datum-gives x (rw x.is.is)
 
     -- a lambda is a closure
-    pub spent-lambda : (first k : ℕ) → Spent ws budget whole t s (Lambda first k) at e → Giving ws budget whole t s (record { kind = 4; a = at % 4294967296; b = at / 4294967296; environment = e })
+    pub spent-lambda : (first k : ℕ) → Spent ws budget whole t s (Lambda first k) at e → Giving ws budget whole t s (RV.Closure at e)
     unfolding code_at evaluate_node give
     spent-lambda first k x =
         let l = x.is in
         let h : Here ws at (lambda_c first l.names l.body) = subst (λ (z : Plain). Here ws at z) l.is x.here in
         leaving-gives _ (spent-is x _ l.is) _ (closure_v first (length l.names) (code_at (at + (3 + length l.names)) l.body) x.environment) refl
-        (closure_i first l.names l.body x.environment refl
-        (ap (λ (n : ℕ). closure_v first (length l.names) (code_at (n + (3 + length l.names)) l.body) x.environment) (sym (packed-parts at)))
-        (subst (λ (n : ℕ). Here ws n (lambda_c first l.names l.body)) (sym (packed-parts at)) h)
-        x.below x.bound)
+        (closure_i at e first l.names l.body x.environment refl refl h x.below x.bound)
 
 -- ---- nodes with parts: a frame is put, and the first part begins
 

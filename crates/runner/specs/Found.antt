@@ -18,5 +18,5 @@ pub record Bound (t : List ℕ) (e : ℕ) : Type 0 where
 abbrev pub FoundIs : (ws t : List ℕ) (top : ℕ) → Option (Value Number) → P.Option R.Value → Type 0
 FoundIs ws t top none (P.Some v) = ⊥
 FoundIs ws t top none P.None = Unit {0}
-FoundIs ws t top (some x) (P.Some v) = ValueIs ws t top v.kind v.a v.b v.environment x
+FoundIs ws t top (some x) (P.Some v) = ValueIs ws t top v x
 FoundIs ws t top (some x) P.None = ⊥

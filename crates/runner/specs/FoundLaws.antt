@@ -7,8 +7,7 @@ use borrow.Author.Tests.{ne_eqb, eq-eqb}
 use Rattle.evaluation.specs.Evaluate.{Value, Environment, find}
 use Rattle.std.specs.Prelude as P
 use Rattle.runner.specs.Domain.{Number}
-use Rattle.runner.specs.Rows.{cell_word, ValueIs, EnvironmentIs, empty_i, cell_i, beyond_i}
-use Rattle.runner.specs.Stores.{bound_at}
+use Rattle.runner.specs.Rows.{cell_word, bound_at, ValueIs, EnvironmentIs, empty_i, cell_i, beyond_i}
 use Rattle.runner.specs.Kept.{kept_same, value-kept}
 use Rattle.runner.specs.Found.{Bound, FoundIs}
 
@@ -24,7 +23,7 @@ module _ (ws t : List ℕ) (n : ℕ) (word : n < 4294967296) where
   pub record Cell (c : ℕ) (env : Environment Number) : Type 0 where
     pub value : Value Number
     pub rest : Environment Number
-    pub is : ValueIs ws t c (cell_word t c 1) (cell_word t c 2) (cell_word t c 3) (cell_word t c 4) value
+    pub is : ValueIs ws t c (bound_at t c) value
     pub link : cell_word t c 5 ≤ c
     pub linked : EnvironmentIs ws t (cell_word t c 5) rest
     pub own : cell_word t c 0 ≡ n → find n env ≡ some value

@@ -69,7 +69,7 @@ module _ (ws : List ℕ) (budget : ℕ) (whole : Out (Value Number)) where
   pub record Valued (t : List ℕ) (v : R.Value) (units : ℕ) : Type 0 where
     pub value : Value Number
     pub cells : ℕ
-    pub is : ValueIs ws t cells v.kind v.a v.b v.environment value
+    pub is : ValueIs ws t cells v value
     pub goes : whole ≡ done value units
 
   abbrev pub EndIs : List ℕ → Result End Ground → Type 0
@@ -89,7 +89,7 @@ module _ (ws : List ℕ) (budget : ℕ) (whole : Out (Value Number)) where
   -- a value is there, not yet in its row
   pub record Giving (t : List ℕ) (s : Counts) (v : R.Value) : Type 0 where
     pub value : Value Number
-    pub is : ValueIs ws t s.cells v.kind v.a v.b v.environment value
+    pub is : ValueIs ws t s.cells v value
     pub leaving : Leaving t s (give value)
 
   -- a variable is looked up

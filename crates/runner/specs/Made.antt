@@ -13,7 +13,7 @@ use Rattle.words.specs.Code.Ground.{number_of}
 
 -- the value's words, whatever the table; or the ground
 abbrev pub MadeIs : Answer (Value Number) → Result R.Value Ground → Type 0
-MadeIs (answer v) (Ok x) = (ws t : List ℕ) (top : ℕ) → ValueIs ws t top x.kind x.a x.b x.environment v
+MadeIs (answer v) (Ok x) = (ws t : List ℕ) (top : ℕ) → ValueIs ws t top x v
 MadeIs (answer v) (Err g) = ⊥
 MadeIs (ground_number h) (Ok x) = ⊥
 MadeIs (ground_number h) (Err g) = number_of g ≡ h

@@ -11,8 +11,8 @@ use Rattle.runner.specs.declared.rows.Value as R
 use Rattle.runner.specs.declared.rows.Frame.{Frame}
 use Rattle.runner.specs.Domain.{Number, numbers}
 use Rattle.runner.specs.Here.{Here, HereAll}
-use Rattle.runner.specs.Rows.{value_word, frame_word, cell_word, ValueIs, EnvironmentIs, cell_i, ValueIn, ValuesIn, WaitingIs, test_i, parts_i}
-use Rattle.runner.specs.Stores.{value_set, frame_set, cell_set, value_words, frame_words, cell_words, value-own, frame-own, cell-own, packed-parts}
+use Rattle.runner.specs.Rows.{frame_word, cell_word, ValueIs, EnvironmentIs, cell_i, ValueIn, ValuesIn, WaitingIs, test_i, parts_i}
+use Rattle.runner.specs.Stores.{value_set, frame_set, cell_set, frame_words, cell_words, frame-own, cell-own, packed-parts, value-back, bound-back}
 use Rattle.runner.specs.Kept.{Kept, kept-value, kept_frame, kept-cell, value-kept, environment-kept, values-kept, waiting_kept}
 
 -- a frame's words, and the place that two of them are
@@ -24,21 +24,20 @@ module _ (t : List ℕ) (row : ℕ) (room : 16 * (row + 1) ≤ length t) (f : Fr
   place = ap₂ packed (word 2 (omega arith)) (word 1 (omega arith)) ∙ packed-parts f.next
 
 module _ {ws t : List ℕ} (row : ℕ) (room : 16 * (row + 1) ≤ length t) where
-  pub value-put : {cells : ℕ} (v : R.Value) {x : Value Number} → ValueIs ws t cells v.kind v.a v.b v.environment x
+  pub value-put : {cells : ℕ} (v : R.Value) {x : Value Number} → ValueIs ws t cells v x
       → ValueIn ws (value_set t row v) cells row x
   value-put {cells} v x =
-      let f : (i : ℕ) → i < 4 → value_word (value_set t row v) row i ≡ get_or (value_words v) i 0 = λ i l. value-own t row i room v l in
       let g : Kept row 0 cells t (value_set t row v) = kept-value row 0 cells t row v (omega arith) in
-      record { is = rw (f 0 (omega arith), f 1 (omega arith), f 2 (omega arith), f 3 (omega arith)) (value-kept g (omega arith) (omega arith) x) }
+      record { is = rw (value-back t row room v) (value-kept g (omega arith) (omega arith) x) }
 
   -- a variable before those of an environment
   pub cell-put : (n : ℕ) (v : R.Value) (e : ℕ) {x : Value Number} {env : Environment Number} → e ≤ row
-      → ValueIs ws t row v.kind v.a v.b v.environment x → EnvironmentIs ws t e env → EnvironmentIs ws (cell_set t row n v e) (suc row) (bound_e n x env)
+      → ValueIs ws t row v x → EnvironmentIs ws t e env → EnvironmentIs ws (cell_set t row n v e) (suc row) (bound_e n x env)
   cell-put n v e {x} {env} h w q =
       let f : (i : ℕ) → i < 6 → cell_word (cell_set t row n v e) row i ≡ get_or (cell_words n v e) i 0 = λ i l. cell-own t row i room n v e l in
       let g : Kept 0 0 row t (cell_set t row n v e) = kept-cell 0 0 row t row n v e (omega arith) in
       cell_i row e x env refl (ap (λ (m : ℕ). bound_e m x env) (sym (f 0 (omega arith))))
-      (rw (f 1 (omega arith), f 2 (omega arith), f 3 (omega arith), f 4 (omega arith)) (value-kept g (omega arith) (omega arith) w))
+      (rw (bound-back t row room n v e) (value-kept g (omega arith) (omega arith) w))
       (f 5 (omega arith)) h (environment-kept g h q)
 
   module _ {cells m : ℕ} (f : Frame) where

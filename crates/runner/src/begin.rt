@@ -1,28 +1,14 @@
 // A node begins: a unit, then its value or its first part.
-ghost use Rattle.std.specs.Prelude.{◌≡◌};
 ghost use Rattle.core_term.specs.declared.nodes.Node.TheVariants as N;
 ghost use Rattle.runner.specs.Memo.{Memo};
 ghost use Rattle.runner.specs.Machine.{operation_found, Beginning, Leaving, Seeks, Spent, Anywhere, Everywhere, Some, Stands, Turning, Turns, begin_fuel, give_fuel};
 
 use crate::numbers::OPERATIONS;
 use crate::places::after;
-use crate::rows::{
-    BOOLEAN, CLOSURE, DATUM, Frame, NUMBER, OPERATION, PARTS, TEST, Value, find, high, low,
-};
+use crate::rows::{Frame, PARTS, TEST, Value, find};
 use crate::state::{Counts, Turn, push, wait};
 use core_term::nodes::{Node, opened};
 use words::ground::Ground;
-
-fn value(kind: u32, a: u32, b: u32, environment: u32) -> Value
-    ensures { result ≡ record { kind = kind; a = a; b = b; environment = environment } }
-{
-    Value {
-        kind: kind,
-        a: a,
-        b: b,
-        environment: environment,
-    }
-}
 
 // An operation by its place, its unit spent: itself, or the ground that there is none.
 fn operation(table: &mut [u32], s: Counts, p: u32) -> Result<Turn, Ground>
@@ -30,7 +16,7 @@ fn operation(table: &mut [u32], s: Counts, p: u32) -> Result<Turn, Ground>
     ensures { Everywhere (λ ws budget whole. Leaving ws budget whole table.old s (operation_found p)) (give_fuel s) table.new result }
 {
     if p < OPERATIONS {
-        return Ok(push(table, s, value(OPERATION, p, 0, 0)));
+        return Ok(push(table, s, Value::Operation(p)));
     }
     Err(Ground::WrongKind)
 }
@@ -115,13 +101,13 @@ pub fn begin(
     match node {
         Node::Variable(n) => variable(table, t, n, environment),
         Node::Operation(p) => operation(table, t, p),
-        Node::Integer(w) => Ok(push(table, t, value(NUMBER, w, 0, 0))),
-        Node::Boolean(w) => Ok(push(table, t, value(BOOLEAN, w, 0, 0))),
+        Node::Integer(w) => Ok(push(table, t, Value::Number(w))),
+        Node::Boolean(w) => Ok(push(table, t, Value::Boolean(w == 1))),
         Node::Decimal(_, _) => Err(Ground::WrongKind),
-        Node::Name(_) => Ok(push(table, t, value(DATUM, low(at), high(at), 0))),
-        Node::List(_) => Ok(push(table, t, value(DATUM, low(at), high(at), 0))),
+        Node::Name(_) => Ok(push(table, t, Value::Datum(at))),
+        Node::List(_) => Ok(push(table, t, Value::Datum(at))),
         Node::If => test(words, ends, table, t, at, environment),
-        Node::Lambda(_, _) => { Ok(push(table, t, value(CLOSURE, low(at), high(at), environment))) }
+        Node::Lambda(_, _) => { Ok(push(table, t, Value::Closure { at, environment })) }
         Node::Application(n) => application(words, ends, table, t, at, n, environment),
     }
 }

@@ -3,27 +3,24 @@ ghost use Rattle.std.specs.Prelude.{◌≡◌, ℕ, ◌+◌, ◌-◌, ◌*◌, �
 ghost use Rattle.evaluation.specs.Evaluate as S;
 ghost use Rattle.runner.specs.Domain.{Number};
 ghost use Rattle.runner.specs.Memo.{Memo};
-ghost use Rattle.runner.specs.Rows.{ValueIs};
-ghost use Rattle.runner.specs.Stores.{value_at, frame_at};
+ghost use Rattle.runner.specs.declared.rows.Value.TheVariants as R;
+ghost use Rattle.runner.specs.Rows.{ValueIs, value_at};
 ghost use Rattle.runner.specs.Machine.{Coming, Testing, Parting, Complete, Anywhere, Everywhere, Some, Turns, come_fuel};
 
 use crate::numbers::operate;
 use crate::places::after;
-use crate::rows::{
-    BOOLEAN, CLOSURE, Frame, NUMBER, OPERATION, PARTS, TEST, Value, bind, frame_at, place,
-    put_frame, value_at,
-};
+use crate::rows::{Frame, PARTS, TEST, Value, bind, frame_at, put_frame, value_at};
 use crate::state::{Counts, Turn, push};
 use words::ground::Ground;
 
 // Only #f is false.
 fn holds(v: Value) -> bool
-    ensures { (ws t : List ℕ) (top : ℕ) (x : S.Value Number) → ValueIs ws t top v.kind v.a v.b v.environment x → result ≡ S.holds x }
+    ensures { (ws t : List ℕ) (top : ℕ) (x : S.Value Number) → ValueIs ws t top v x → result ≡ S.holds x }
 {
-    if v.kind == BOOLEAN {
-        return v.a == 1;
+    match v {
+        Value::Boolean(b) => b,
+        _ => true,
     }
-    true
 }
 
 // The test of an if has its value.
@@ -63,20 +60,20 @@ fn call(
     words: &[u32],
     table: &mut [u32],
     s: Counts,
-    head: Value,
+    at: usize,
+    environment: u32,
     base: usize,
     n: usize,
 ) -> Result<Turn, Ground>
-    requires { (head ≡ value_at table.old base) × (head.kind ≡ 4) × Some (λ budget whole. Complete words.now budget whole table.old s base n) }
+    requires { (value_at table.old base ≡ R.Closure at environment) × Some (λ budget whole. Complete words.now budget whole table.old s base n) }
     ensures { Turns words.now (λ budget whole. Complete words.now budget whole table.old s base n) (come_fuel s) table.new result }
 {
-    let at = place(head.a, head.b);
     let first = words[at + 1];
     let count = words[at + 2] as usize;
     if n != count {
         return Err(Ground::WrongCount);
     }
-    let bound = bind(table, s.cells, head.environment, first, base + 1, n);
+    let bound = bind(table, s.cells, environment, first, base + 1, n);
     Ok(Turn::Begins(
         Counts {
             values: base,
@@ -93,25 +90,23 @@ fn call(
 fn operation(
     table: &mut [u32],
     s: Counts,
-    head: Value,
+    place: u32,
     base: usize,
     n: usize,
 ) -> Result<Turn, Ground>
-    requires { (head ≡ value_at table.old base) × (head.kind ≡ 5) × Anywhere (λ ws budget whole. Complete ws budget whole table.old s base n) }
+    requires { (value_at table.old base ≡ R.Operation place) × Anywhere (λ ws budget whole. Complete ws budget whole table.old s base n) }
     ensures { Everywhere (λ ws budget whole. Complete ws budget whole table.old s base n) (come_fuel s) table.new result }
 {
     if n != 2 {
         return Err(Ground::WrongCount);
     }
-    let x = value_at(table, base + 1);
-    if x.kind != NUMBER {
+    let Value::Number(x) = value_at(table, base + 1) else {
         return Err(Ground::WrongKind);
-    }
-    let y = value_at(table, base + 2);
-    if y.kind != NUMBER {
+    };
+    let Value::Number(y) = value_at(table, base + 2) else {
         return Err(Ground::WrongKind);
-    }
-    let v = operate(head.a, x, y)?;
+    };
+    let v = operate(place, x, y)?;
     let popped = Counts {
         values: base,
         frames: s.frames - 1,
@@ -126,14 +121,11 @@ fn apply(words: &[u32], table: &mut [u32], s: Counts, base: usize) -> Result<Tur
     ensures { Turns words.now (λ budget whole. Complete words.now budget whole table.old s base (s.values - base - 1)) (come_fuel s) table.new result }
 {
     let n = s.values - base - 1;
-    let head = value_at(table, base);
-    if head.kind == CLOSURE {
-        return call(words, table, s, head, base, n);
+    match value_at(table, base) {
+        Value::Closure { at, environment } => call(words, table, s, at, environment, base, n),
+        Value::Operation(place) => operation(table, s, place, base, n),
+        _ => Err(Ground::WrongKind),
     }
-    if head.kind == OPERATION {
-        return operation(table, s, head, base, n);
-    }
-    Err(Ground::WrongKind)
 }
 
 // A value has come to the top frame.

@@ -17,7 +17,6 @@ ghost use Rattle.runner.specs.ServiceLaws.{Fit, Tested, ToldAs};
 use core_term::is_term_unnamed;
 use machine::go;
 use places::mark;
-use rows::{BOOLEAN, CLOSURE, DATUM, NUMBER, place};
 use state::Counts;
 use words::ground::Ground;
 use words::{BUDGET, OPERATIONS, RUN_RATE};
@@ -62,19 +61,13 @@ fn fit(words: &[u32], budget: u32, table: &[u32]) -> Result<(), Ground>
 fn whole(v: rows::Value) -> Value
     ensures { ToldAs v result }
 {
-    if v.kind == NUMBER {
-        return Value::Integer(v.a);
+    match v {
+        rows::Value::Number(w) => Value::Integer(w),
+        rows::Value::Boolean(b) => Value::Boolean(b),
+        rows::Value::Datum(at) => Value::Datum(at),
+        rows::Value::Closure { .. } => Value::Closure,
+        rows::Value::Operation(_) => Value::Operation,
     }
-    if v.kind == BOOLEAN {
-        return Value::Boolean(v.a == 1);
-    }
-    if v.kind == DATUM {
-        return Value::Datum(place(v.a, v.b));
-    }
-    if v.kind == CLOSURE {
-        return Value::Closure;
-    }
-    Value::Operation
 }
 
 // The evaluation of a term whose tests are passed, with a table for where its parts end.

@@ -1,15 +1,13 @@
 // The four operations on integers, each in a word of two's complement.
-ghost use Rattle.std.specs.Prelude.{◌≡◌, ◌<◌, Ok};
+ghost use Rattle.std.specs.Prelude.{◌≡◌, ◌<◌};
 ghost use Rattle.std.proofs.Math.IntN.{sub_ℕ};
 ghost use Rattle.std.specs.Int.{w32};
 ghost use Rattle.std.proofs.Common.{to_z};
-ghost use Rattle.evaluation.specs.Computation.{answer};
-ghost use Rattle.evaluation.specs.Evaluate.{boolean_v};
 ghost use Rattle.evaluation.specs.Evaluate as S;
 ghost use Rattle.runner.specs.Domain.{numbers, number_in};
 ghost use Rattle.runner.specs.Made.{MadeIs, number_told};
 
-use crate::rows::{BOOLEAN, NUMBER, Value};
+use crate::rows::Value;
 use words::ground::Ground;
 
 pub const SUM: u32 = 0;
@@ -47,17 +45,6 @@ fn lowered(n: u64) -> u32
     }
 }
 
-fn boolean(b: bool) -> Value
-    ensures { MadeIs (answer (boolean_v b)) (Ok result) }
-{
-    Value {
-        kind: BOOLEAN,
-        a: u32::from(b),
-        b: 0,
-        environment: 0,
-    }
-}
-
 // The number that is told as 2^32 more, if it is within 32 bits.
 fn number(n: u64) -> Result<Value, Ground>
     ensures { MadeIs (number_told n) result }
@@ -68,21 +55,16 @@ fn number(n: u64) -> Result<Value, Ground>
     if n >= HALF + WHOLE {
         return Err(Ground::WrongKind);
     }
-    Ok(Value {
-        kind: NUMBER,
-        a: lowered(n - HALF),
-        b: 0,
-        environment: 0,
-    })
+    Ok(Value::Number(lowered(n - HALF)))
 }
 
 // The operation at a place below OPERATIONS, of two numbers.
-pub fn operate(place: u32, x: Value, y: Value) -> Result<Value, Ground>
+pub fn operate(place: u32, x: u32, y: u32) -> Result<Value, Ground>
     requires { place < 4 }
-    ensures { MadeIs (S.operate numbers place (number_in x.a x.b) (number_in y.a y.b)) result }
+    ensures { MadeIs (S.operate numbers place (number_in x 0) (number_in y 0)) result }
 {
-    let a = raised(x.a);
-    let b = raised(y.a);
+    let a = raised(x);
+    let b = raised(y);
     if place == SUM {
         return number(a + b);
     }
@@ -90,7 +72,7 @@ pub fn operate(place: u32, x: Value, y: Value) -> Result<Value, Ground>
         return number(a + WHOLE - b);
     }
     if place == LESS {
-        return Ok(boolean(a < b));
+        return Ok(Value::Boolean(a < b));
     }
-    Ok(boolean(a == b))
+    Ok(Value::Boolean(a == b))
 }

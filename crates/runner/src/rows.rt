@@ -4,9 +4,9 @@ ghost use Rattle.std.specs.Prelude.{◌≡◌, List, ℕ, ◌+◌, ◌*◌, ◌/
 ghost use Rattle.evaluation.specs.Evaluate.{Environment};
 ghost use Rattle.evaluation.specs.Evaluate as S;
 ghost use Rattle.runner.specs.Domain.{Number};
-ghost use Rattle.runner.specs.Rows.{EnvironmentIs};
+ghost use Rattle.runner.specs.Rows.{EnvironmentIs, value_of, value_at};
 ghost use Rattle.runner.specs.Found.{Bound, FoundIs};
-ghost use Rattle.runner.specs.Stores.{value_at, frame_at, value_set, frame_set, cell_set};
+ghost use Rattle.runner.specs.Stores.{frame_at, value_words, value_set, frame_set, cell_set};
 ghost use Rattle.runner.specs.Extended.{Extends, ExtendedBy};
 ghost use Rattle.words.specs.Code.Packed.{packed};
 
@@ -17,25 +17,27 @@ const FRAME: usize = 4;
 
 const CELL: usize = 10;
 
-// A value: a number (its word), a boolean (0, 1), a datum (its place in two words), a closure (the place of its
-// lambda in two words, and its environment), an operation (its place among the operations).
-pub const NUMBER: u32 = 1;
-
-pub const BOOLEAN: u32 = 2;
-
-pub const DATUM: u32 = 3;
-
-pub const CLOSURE: u32 = 4;
-
-pub const OPERATION: u32 = 5;
-
+// A value: a number by its word, a boolean, a datum by its place, a closure by the place of its lambda and its environment, an operation
+// by its place among the operations.
 #[derive(Clone, Copy)]
-pub struct Value {
-    pub kind: u32,
-    pub a: u32,
-    pub b: u32,
-    pub environment: u32,
+pub enum Value {
+    Number(u32),
+    Boolean(bool),
+    Datum(usize),
+    Closure { at: usize, environment: u32 },
+    Operation(u32),
 }
+
+// The first of a value's four words in a row.
+const NUMBER: u32 = 1;
+
+const BOOLEAN: u32 = 2;
+
+const DATUM: u32 = 3;
+
+const CLOSURE: u32 = 4;
+
+const OPERATION: u32 = 5;
 
 // What waits for a value: the test of an if, whose branches begin at `next`; or a part of an application, of which `left` parts are
 // still to be evaluated, the first of them at `next`, and the values since the head's stand from row `base` on.
@@ -71,17 +73,41 @@ pub fn place(low: u32, high: u32) -> usize
     0x1_0000_0000 * high as usize + low as usize
 }
 
+// The words of a value: a place takes two.
+fn words_of(v: Value) -> [u32; 4]
+    ensures { result ≡ value_words v }
+{
+    match v {
+        Value::Number(w) => [NUMBER, w, 0, 0],
+        Value::Boolean(b) => [BOOLEAN, u32::from(b), 0, 0],
+        Value::Datum(at) => [DATUM, low(at), high(at), 0],
+        Value::Closure { at, environment } => [CLOSURE, low(at), high(at), environment],
+        Value::Operation(p) => [OPERATION, p, 0, 0],
+    }
+}
+
+// The value of four words.
+fn value_of(kind: u32, a: u32, b: u32, environment: u32) -> Value
+    ensures { result ≡ value_of kind a b environment }
+{
+    match kind {
+        1 => Value::Number(a),
+        2 => Value::Boolean(a == 1),
+        3 => Value::Datum(place(a, b)),
+        4 => Value::Closure {
+            at: place(a, b),
+            environment,
+        },
+        _ => Value::Operation(a),
+    }
+}
+
 pub fn value_at(table: &[u32], row: usize) -> Value
     requires { 16 * (row + 1) ≤ length table.now }
     ensures { result ≡ value_at table.now row }
 {
     let at = ROW * row;
-    Value {
-        kind: table[at],
-        a: table[at + 1],
-        b: table[at + 2],
-        environment: table[at + 3],
-    }
+    value_of(table[at], table[at + 1], table[at + 2], table[at + 3])
 }
 
 pub fn put_value(table: &mut [u32], row: usize, v: Value)
@@ -89,10 +115,11 @@ pub fn put_value(table: &mut [u32], row: usize, v: Value)
     ensures { table.new ≡ value_set table.old row v }
 {
     let at = ROW * row;
-    table[at] = v.kind;
-    table[at + 1] = v.a;
-    table[at + 2] = v.b;
-    table[at + 3] = v.environment;
+    let words = words_of(v);
+    table[at] = words[0];
+    table[at + 1] = words[1];
+    table[at + 2] = words[2];
+    table[at + 3] = words[3];
 }
 
 pub fn frame_at(table: &[u32], row: usize) -> Frame
@@ -128,11 +155,12 @@ pub fn put_cell(table: &mut [u32], row: usize, number: u32, v: Value, link: u32)
     ensures { table.new ≡ cell_set table.old row number v link }
 {
     let at = ROW * row + CELL;
+    let words = words_of(v);
     table[at] = number;
-    table[at + 1] = v.kind;
-    table[at + 2] = v.a;
-    table[at + 3] = v.b;
-    table[at + 4] = v.environment;
+    table[at + 1] = words[0];
+    table[at + 2] = words[1];
+    table[at + 3] = words[2];
+    table[at + 4] = words[3];
     table[at + 5] = link;
 }
 
@@ -145,12 +173,8 @@ pub fn find(table: &[u32], environment: u32, number: u32) -> Option<Value>
     while e > 0 {
         let at = ROW * (e - 1) + CELL;
         if table[at] == number {
-            return Some(Value {
-                kind: table[at + 1],
-                a: table[at + 2],
-                b: table[at + 3],
-                environment: table[at + 4],
-            });
+            let v = value_of(table[at + 1], table[at + 2], table[at + 3], table[at + 4]);
+            return Some(v);
         }
         e = table[at + 5] as usize;
     }

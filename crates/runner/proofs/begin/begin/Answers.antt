@@ -52,8 +52,7 @@ push-requires c = let a = c.args in
       (
         a.budget,
         p.0,
-        rw c.value.ensures
-            (spent-integer (spent a.s) a.at a.environment _
+        (spent-integer (spent a.s) a.at a.environment _
             (begin-node a.s a.at a.environment p.1 _ _ c.if-s-budget.false c.opened.ensures (c.unwrap-node.ensures ∙ ap Some c.in-Integer.is))),
       ),
     )
@@ -65,8 +64,7 @@ push-requires-in-Boolean c = let a = c.args in
       (
         a.budget,
         p.0,
-        rw c.value-in-Boolean.ensures
-            (spent-boolean (spent a.s) a.at a.environment _
+        (spent-boolean (spent a.s) a.at a.environment _
             (begin-node a.s a.at a.environment p.1 _ _ c.if-s-budget.false c.opened.ensures (c.unwrap-node.ensures ∙ ap Some c.in-Boolean.is))),
       ),
     )
@@ -78,8 +76,7 @@ push-requires-in-Name c = let a = c.args in
       (
         a.budget,
         p.0,
-        rw (c.value-in-Name.ensures, c.low.ensures, c.high.ensures)
-            (spent-name (spent a.s) a.at a.environment _
+        (spent-name (spent a.s) a.at a.environment _
             (begin-node a.s a.at a.environment p.1 _ _ c.if-s-budget.false c.opened.ensures (c.unwrap-node.ensures ∙ ap Some c.in-Name.is))),
       ),
     )
@@ -91,8 +88,7 @@ push-requires-in-List c = let a = c.args in
       (
         a.budget,
         p.0,
-        rw (c.value-in-List.ensures, c.low-in-List.ensures, c.high-in-List.ensures)
-            (spent-list (spent a.s) a.at a.environment _
+        (spent-list (spent a.s) a.at a.environment _
             (begin-node a.s a.at a.environment p.1 _ _ c.if-s-budget.false c.opened.ensures (c.unwrap-node.ensures ∙ ap Some c.in-List.is))),
       ),
     )
@@ -115,8 +111,7 @@ push-requires-in-Lambda c = let a = c.args in
       (
         a.budget,
         p.0,
-        rw (c.value-in-Lambda.ensures, c.low-in-Lambda.ensures, c.high-in-Lambda.ensures)
-            (spent-lambda (spent a.s) a.at a.environment _ _
+        (spent-lambda (spent a.s) a.at a.environment _ _
             (begin-node a.s a.at a.environment p.1 _ _ c.if-s-budget.false c.opened.ensures (c.unwrap-node.ensures ∙ ap Some c.in-Lambda.is))),
       ),
     )
@@ -149,16 +144,14 @@ returns-in-Operation c = λ whole b. let a = c.args in
 pub returns-in-Integer : goal.returns-in-Integer
 returns-in-Integer c = λ whole b. let a = c.args in
     let x = c.push.ensures a.words.now a.budget whole
-    (rw c.value.ensures
-    (spent-integer (spent a.s) a.at a.environment _
+    ((spent-integer (spent a.s) a.at a.environment _
     (begin-node a.s a.at a.environment b _ _ c.if-s-budget.false c.opened.ensures (c.unwrap-node.ensures ∙ ap Some c.in-Integer.is)))) in
     (x.0, omega (arith, x.1, c.if-s-budget.false))
 
 pub returns-in-Boolean : goal.returns-in-Boolean
 returns-in-Boolean c = λ whole b. let a = c.args in
     let x = c.push-in-Boolean.ensures a.words.now a.budget whole
-    (rw c.value-in-Boolean.ensures
-    (spent-boolean (spent a.s) a.at a.environment _
+    ((spent-boolean (spent a.s) a.at a.environment _
     (begin-node a.s a.at a.environment b _ _ c.if-s-budget.false c.opened.ensures (c.unwrap-node.ensures ∙ ap Some c.in-Boolean.is)))) in
     (x.0, omega (arith, x.1, c.if-s-budget.false))
 
@@ -171,16 +164,14 @@ returns-in-Decimal c = λ whole b. let a = c.args in
 pub returns-in-Name : goal.returns-in-Name
 returns-in-Name c = λ whole b. let a = c.args in
     let x = c.push-in-Name.ensures a.words.now a.budget whole
-    (rw (c.value-in-Name.ensures, c.low.ensures, c.high.ensures)
-    (spent-name (spent a.s) a.at a.environment _
+    ((spent-name (spent a.s) a.at a.environment _
     (begin-node a.s a.at a.environment b _ _ c.if-s-budget.false c.opened.ensures (c.unwrap-node.ensures ∙ ap Some c.in-Name.is)))) in
     (x.0, omega (arith, x.1, c.if-s-budget.false))
 
 pub returns-in-List : goal.returns-in-List
 returns-in-List c = λ whole b. let a = c.args in
     let x = c.push-in-List.ensures a.words.now a.budget whole
-    (rw (c.value-in-List.ensures, c.low-in-List.ensures, c.high-in-List.ensures)
-    (spent-list (spent a.s) a.at a.environment _
+    ((spent-list (spent a.s) a.at a.environment _
     (begin-node a.s a.at a.environment b _ _ c.if-s-budget.false c.opened.ensures (c.unwrap-node.ensures ∙ ap Some c.in-List.is)))) in
     (x.0, omega (arith, x.1, c.if-s-budget.false))
 
@@ -193,8 +184,7 @@ returns-in-If c = λ whole b. let a = c.args in
 pub returns-in-Lambda : goal.returns-in-Lambda
 returns-in-Lambda c = λ whole b. let a = c.args in
     let x = c.push-in-Lambda.ensures a.words.now a.budget whole
-    (rw (c.value-in-Lambda.ensures, c.low-in-Lambda.ensures, c.high-in-Lambda.ensures)
-    (spent-lambda (spent a.s) a.at a.environment _ _
+    ((spent-lambda (spent a.s) a.at a.environment _ _
     (begin-node a.s a.at a.environment b _ _ c.if-s-budget.false c.opened.ensures (c.unwrap-node.ensures ∙ ap Some c.in-Lambda.is)))) in
     (x.0, omega (arith, x.1, c.if-s-budget.false))
 

@@ -1,9 +1,10 @@
--- A boolean's word says whether it holds.
-use Rattle.runner.specs.ComeLaws.{holds-boolean, holds-other}
+-- What the value says.
+use Rattle.std.proofs.Common.{sym, ap, ◌∙◌}
+use Rattle.runner.specs.ComeLaws.{holds_of, holds-is, holds-other}
 use Rattle.runner.proofs.come.holds.Goals as goal
 
-pub returns-then-v-eq-BOOLEAN : goal.returns-then-v-eq-BOOLEAN
-returns-then-v-eq-BOOLEAN c = λ ws t top x i. holds-boolean c.if-v-eq-BOOLEAN.true i
+pub returns-in-Boolean : goal.returns-in-Boolean
+returns-in-Boolean c = λ ws t top x i. sym (ap holds_of c.in-Boolean.is) ∙ holds-is i
 
-pub returns : goal.returns
-returns c = λ ws t top x i. holds-other c.if-v-eq-BOOLEAN.false i
+pub returns-in_default : goal.returns-in_default
+returns-in_default c = λ ws t top x i. holds-other c.in_default.not-Boolean i

@@ -18,4 +18,4 @@ lowered-requires c = omega (arith, c.if-n-lt-HALF.false, c.if-n.false)
 
 pub returns : goal.returns
 returns c = made_by _ (sym (number-within _ c.if-n-lt-HALF.false c.if-n.false))
-    (λ ws t top. number_i refl (ap number_v (sym c.lowered.ensures)))
+    (λ ws t top. number_i _ refl (ap number_v (sym c.lowered.ensures)))

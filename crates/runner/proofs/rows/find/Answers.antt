@@ -15,7 +15,7 @@ pub bounds-table-at : goal.bounds-table-at
 bounds-table-at c = omega (arith, c.loop-e.invariant.0, c.loop-e-test.true)
 
 pub returns-then-table-at : goal.returns-then-table-at
-returns-then-table-at c = seeking-own _ _ _ _ c.loop-e.invariant.1 (omega (arith, c.ranges)) c.loop-e-test.true c.if-table-at.true
+returns-then-table-at c = λ ws env i. rw c.value_of-v.ensures (seeking-own _ _ _ _ c.loop-e.invariant.1 (omega (arith, c.ranges)) c.loop-e-test.true c.if-table-at.true ws env i)
 
 pub loop-e-smaller : goal.loop-e-smaller
 loop-e-smaller c = let next = seeking-other _ _ _ _ c.loop-e.invariant.1 (omega (arith, c.ranges)) c.loop-e-test.true c.if-table-at.false c.requires in
