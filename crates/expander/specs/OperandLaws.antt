@@ -1,5 +1,5 @@
 -- Laws of an operand that is done at once, one for each way through the code: a name, an empty list, a constant.
-use Rattle.std.specs.Prelude.{◌≡◌, refl, List, ℕ, ◌≤◌}
+use Rattle.std.specs.Prelude.{◌≡◌, refl, List, ℕ, ◌≤◌, Ok, Err}
 use Rattle.words.specs.Limits.{macros_most, core_rate}
 use Rattle.datum.specs.Constant.{decimal_kind}
 use Rattle.recipe.specs.Tree.{Tree, size}
@@ -7,10 +7,11 @@ use Rattle.expansion.specs.Lookup.{lookup}
 use Rattle.arena.specs.Arena.{word_at, reference_at, name_at, tree_at}
 use Rattle.arena.specs.Nodes.{OpensConstant, opens-empty, opens-name, opens-constant}
 use Rattle.turns.specs.declared.answers.Reached.{Reached}
-use Rattle.turns.specs.declared.answers.Ended.{Ended}
+use Rattle.turns.specs.declared.answers.Refused.{Refused}
+use Rattle.turns.specs.Answers.{Ended, Refuses}
 use Rattle.turns.specs.Memory.{tables, CoreRoom, Ready, Placed}
 use Rattle.turns.specs.Turns.{Ends, Expands}
-use Rattle.turns.specs.Leaves.{Refuses, Leaf, name_end, ConstantLeft}
+use Rattle.turns.specs.Leaves.{Leaf, name_end, ConstantLeft}
 use Rattle.turns.specs.DispatchLaws.{empty-over, name-over, constant-over, constant-kind, leaf_room, constant-room}
 use Rattle.expander.specs.CycleLaws.{going_start, going-over}
 
@@ -35,8 +36,8 @@ module _ (work core macros : List ℕ) (fuel node w : ℕ) (r : Reached) (placed
         over-expands operations core' e
         (name-over macros_most operations work core macros fuel node w r ready core' (word_at work node 2) (reference_at work node 1) (opens-name work node kind kind-is _ _ is refl refl) e l)
 
-    pub empty-expands : (operations : List ℕ) → kind ≡ 0 → (e : Ended) → Refuses 13 r e → Expands operations fuel here r (tables work core macros) (tables work core macros) e
-    empty-expands operations is e l = over-expands operations core e (empty-over macros_most operations work core macros fuel node w r ready (opens-empty work node kind kind-is is) e l)
+    pub empty-expands : (operations : List ℕ) → kind ≡ 0 → (y : Refused) → Refuses 13 r y → Expands operations fuel here r (tables work core macros) (tables work core macros) (Err y)
+    empty-expands operations is y l = over-expands operations core (Err y) (empty-over macros_most operations work core macros fuel node w r ready (opens-empty work node kind kind-is is) y l)
 
     module _ (some : kind ≡ 0 → ⊥) (no_name : kind ≡ 3 → ⊥) (no-pair : kind ≡ 4 → ⊥) (first second : ℕ) (first-is : first ≡ word_at work node 2) (second_is : second ≡ word_at work node 1) where
       constant-opens : OpensConstant work node kind first second

@@ -1,4 +1,4 @@
-// The rules of a form's macros, parsed once, when the form is reached. Bad is ground 15.
+// The rules of a form's macros, parsed once, when the form is reached.
 
 ghost use Rattle.std.specs.Prelude.{◌≡◌, true, cond, ℕ};
 ghost use Rattle.expansion.specs.Forms.{is_macros};
@@ -6,20 +6,12 @@ ghost use Rattle.arena.specs.Arena.{tree_at};
 ghost use Rattle.turns.specs.MacroRules.{OneAsk, OneLeft, AllAsk, AllLeft};
 ghost use Rattle.turns.specs.MacroTurns.{MacroRoom, KnownLeft, MacrosLeft};
 
-use crate::answers::{Reached, Turn};
-use crate::leaf;
+use crate::answers::{Reached, Refused, Turn};
 use arena::{cells, lists};
+use forms::shapes::Bound;
 use forms::{binders, shapes};
 use rule_cells::rules;
-use words::packed;
-use words::packed::Built;
-
-// The new top, or rules that break their rules.
-#[derive(Clone, Copy)]
-pub enum Read {
-    Good(u32),
-    Bad,
-}
+use words::ground::Ground;
 
 // The rules of macro `count`.
 fn one_macro(
@@ -29,15 +21,13 @@ fn one_macro(
     wrap: u32,
     count: u32,
     top: u32,
-) -> Read
+) -> Option<u32>
     requires { OneAsk work.old macros.old form wrap count top }
     ensures { OneLeft (tree_at work.old form wrap) work.old work.new macros.old macros.new count top result }
 {
-    let Built::At(at, upper) = packed::parts(rules::rules(work, form, wrap, top)) else {
-        return Read::Bad;
-    };
-    macros[count as usize] = at;
-    Read::Good(upper)
+    let parsed = rules::rules(work, form, wrap, top)?;
+    macros[count as usize] = parsed.at;
+    Some(parsed.top)
 }
 
 // The rules of each (name rules) of a list, as macros from `count` on.
@@ -48,7 +38,7 @@ fn all_macros(
     wrap: u32,
     count: u32,
     top: u32,
-) -> Read
+) -> Option<u32>
     requires { AllAsk work.old macros.old list wrap count top }
     ensures { AllLeft (tree_at work.old list wrap) work.old work.new macros.old macros.new count top result }
 {
@@ -59,13 +49,10 @@ fn all_macros(
         let entry = cells::reference(work, at, cells::HEAD);
         let form = lists::element(work, entry, 1);
         at = cells::reference(work, at, cells::TAIL);
-        let Read::Good(upper) = one_macro(work, macros, form, wrap, n, end) else {
-            return Read::Bad;
-        };
-        end = upper;
+        end = one_macro(work, macros, form, wrap, n, end)?;
         n += 1;
     }
-    Read::Good(end)
+    Some(end)
 }
 
 // The wrap of a form's rules: that of its scope, or the one round the form.
@@ -86,7 +73,7 @@ fn macros_body(
     wrap: u32,
     inside: bool,
     reached: Reached,
-) -> Turn
+) -> Result<Turn, Refused>
     requires { (MacroRoom work.old macros.old node wrap reached) × ((limit : ℕ) × (is_macros limit (tree_at work.old node wrap) ≡ true)) }
     ensures { KnownLeft (tree_at work.old node wrap) inside reached work.old work.new macros.old macros.new result }
 {
@@ -94,12 +81,12 @@ fn macros_body(
     let list = lists::element(work, node, 1);
     let count = lists::count(work, list);
     let body = lists::element(work, node, 2);
-    let scope = binders::bind_macros(work, node, wrap, first, reached.top);
+    let scope = binders::bind(work, node, wrap, Bound::Keywords, first, reached.top);
     let within = rules_wrap(inside, scope.wrap, wrap);
-    let Read::Good(top) = all_macros(work, macros, list, within, first, scope.top) else {
-        return Turn::Over(leaf::refuse(15, reached));
+    let Some(top) = all_macros(work, macros, list, within, first, scope.top) else {
+        return Err(reached.refused(Ground::BadRules));
     };
-    Turn::Again(body, scope.wrap, reached.grown(top, count))
+    Ok(Turn::Again(body, scope.wrap, reached.grown(top, count)))
 }
 
 // (let-syntax ((name rules) ...) body) of at most `limit` macros, and letrec-syntax, whose rules stand inside the scope
@@ -111,15 +98,15 @@ pub fn let_syntax(
     inside: bool,
     limit: u32,
     reached: Reached,
-) -> Turn
+) -> Result<Turn, Refused>
     requires { MacroRoom work.old macros.old node wrap reached }
     ensures { MacrosLeft limit (tree_at work.old node wrap) inside reached work.old work.new macros.old macros.new result }
 {
     if !shapes::is_macros(work, node, limit) {
-        return Turn::Over(leaf::refuse(13, reached));
+        return Err(reached.refused(Ground::BadForm));
     }
-    if !binders::keywords_distinct(work, node, wrap) {
-        return Turn::Over(leaf::refuse(14, reached));
+    if !binders::names_distinct(work, node, wrap, Bound::Keywords) {
+        return Err(reached.refused(Ground::DoubleName));
     }
     macros_body(work, macros, node, wrap, inside, reached)
 }

@@ -5,11 +5,9 @@ ghost use Rattle.arena.specs.Arena.{tree_at};
 ghost use Rattle.turns.specs.Memory.{macros_at};
 ghost use Rattle.turns.specs.Uses.{rules_word, outcome_of, UseRoom, UseLeft};
 
-use crate::answers::{Reached, Turn};
-use crate::leaf;
+use crate::answers::{Reached, Refused, Turn};
 use arena::{cells, lists};
 use steps::apply;
-use steps::apply::Applied;
 
 // The rules of macro n, of `count` so far; none past them.
 fn rules_of(macros: &[u32], count: u32, n: u32) -> u32
@@ -31,7 +29,7 @@ pub fn macro_use(
     wrap: u32,
     number: u32,
     reached: Reached,
-) -> Turn
+) -> Result<Turn, Refused>
     requires { UseRoom work.old macros.now fuel node wrap reached }
     ensures { UseLeft (outcome_of (macros_at work.old macros.now reached.macros) number fuel (tree_at work.old node wrap) reached) fuel reached work.old work.new result }
 {
@@ -41,12 +39,10 @@ pub fn macro_use(
     let operands = lists::rest(work, node);
     let used = cells::put_mark(work, reached.top, m, wrap);
     match apply::apply(work, used, rules, operands, used, limit) {
-        Applied::NoRule => Turn::Over(leaf::refuse(16, reached)),
-        Applied::Differ => Turn::Over(leaf::refuse(17, reached)),
-        Applied::Costly => Turn::Over(leaf::refuse(18, reached)),
-        Applied::Done(root, cost) => {
-            let result = cells::put_mark(work, root, m, 0);
-            Turn::Again(root, result, reached.stepped(result, cost))
+        Err(why) => Err(reached.refused(why)),
+        Ok(done) => {
+            let result = cells::put_mark(work, done.root, m, 0);
+            Ok(Turn::Again(done.root, result, reached.stepped(result, done.cost)))
         }
     }
 }
