@@ -1,5 +1,5 @@
 -- Laws of a lambda's formals: the walk through their list.
-use Rattle.std.specs.Prelude.{◌≡◌, Bool, true, false, not, List, [], ◌∷◌, ◌++◌, ℕ, zero, suc, ◌+◌, ◌*◌, ◌-◌, ◌≤◌, ◌<◌, eqb, length, get_or, set}
+use Rattle.std.specs.Prelude.{◌≡◌, Bool, true, false, not, List, [], ◌∷◌, ◌++◌, ℕ, zero, suc, ◌+◌, ◌*◌, ◌-◌, ◌≤◌, ◌<◌, eqb, length, get_or, set, Some}
 use Rattle.std.proofs.Math.Path.{refl, ap}
 use Rattle.std.proofs.Common.{sym, subst, ◌∙◌, append_assoc, append-nil, arith, length-set}
 use Rattle.std.proofs.Math.Option.{Option, none, some}
@@ -15,7 +15,6 @@ use Rattle.recipe.specs.Table.{kind_at}
 use Rattle.recipe.specs.TreeFrom.{head_at, tail_at}
 use Rattle.comparison.specs.Grammar.{is_free, distinct, are_formals, names, after, formals}
 use Rattle.comparison.specs.Agrees.{bind}
-use Rattle.supplier.specs.declared.grammar.Bound.TheVariants.{Formals}
 use Rattle.supplier.specs.Items.{DatumAt, Held}
 use Rattle.supplier.specs.ItemsLaws.{as-datum, pair-datum, name-datum, empty-datum, name-kind, none_is, more-is, as-list, datum-in, ListAt}
 use Rattle.supplier.specs.Scope.{name_in, scope_of, innermost, Kept}
@@ -267,7 +266,7 @@ module _ (ws : List ℕ) (i : ℕ) (before : List ℕ) (top v : ℕ) (scope : Li
       (λ q. taking-none k (head_at ws j) refl (eqb-true _ 3 q) (head_at ws (head_at ws j)) refl (formals-many t.passed (head_at ws (head_at ws j)) (sym t.count ∙ e)))
       (λ q. passing-other ws i j t.passed t.passing (head_at ws j) k refl (eqb-false _ 3 q))
 
-  pub taking-end : kind_at ws j ≡ 0 → (d : Datum) → DatumAt ws i d → FormalsAre d top v before scope (Formals n)
+  pub taking-end : kind_at ws j ≡ 0 → (d : Datum) → DatumAt ws i d → FormalsAre d top v before scope (Some n)
   taking-end k d h = (
     t.passed,
     passing-end ws i j t.passed t.passing k t.good d h,

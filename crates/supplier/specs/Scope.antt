@@ -1,5 +1,5 @@
 -- The code's scope: a number for each formal, its name in the text and our variable, the innermost formal last.
-use Rattle.std.specs.Prelude.{◌≡◌, cond, List, [], ◌∷◌, ℕ, zero, suc, ◌/◌, ◌%◌, ◌<◌, eqb, get_or}
+use Rattle.std.specs.Prelude.{◌≡◌, cond, List, [], ◌∷◌, ℕ, zero, suc, ◌/◌, ◌%◌, ◌<◌, eqb, get_or, Option, None, Some}
 use Rattle.words.specs.Limits.{names_most}
 use Rattle.comparison.specs.Agrees as A
 
@@ -22,6 +22,11 @@ scope_of scope (suc k) = (name_in scope k, variable_in scope k) ∷ scope_of sco
 unfoldable pub innermost : ℕ → List ℕ → ℕ → ℕ
 innermost n scope zero = 0
 innermost n scope (suc k) = let outer = innermost n scope k in cond (eqb n (name_in scope k)) (suc k) outer
+
+-- the place after one that was found, 0 where there is none
+unfoldable pub place_after : Option ℕ → ℕ
+place_after None = 0
+place_after (Some k) = suc k
 
 -- the first `top` are as they were
 abbrev pub Kept : ℕ → List ℕ → List ℕ → Type 0

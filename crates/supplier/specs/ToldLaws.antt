@@ -1,5 +1,6 @@
 -- Laws of what the code finds, one for each way through it.
-use Rattle.std.specs.Prelude.{◌≡◌, Bool, true, ◌&&◌, List, [], ◌∷◌, ◌++◌, eqb}
+use Rattle.std.specs.Prelude.{◌≡◌, Bool, true, ◌&&◌, List, [], ◌∷◌, ◌++◌, eqb, Option, Ok, Err, Some}
+use Rattle.std.specs.Prelude as P
 use Rattle.std.proofs.Math.Path.{refl, sym, ap, ap₂, subst}
 use Rattle.std.proofs.Common.{◌∙◌, take_all}
 use Rattle.std.proofs.Math.Bool.{false}
@@ -8,24 +9,26 @@ use native.Mathlib.Omega.{arith}
 use Rattle.std.proofs.Math.ListN.{length, get_or, take, drop, length-drop, length-append}
 use Rattle.std.proofs.Math.Seq.{drop-drop, length-take-le}
 use borrow.Author.Tests.{eq-eqb, ne_eqb, lt-ltb, le-ltb}
+use Rattle.std.specs.Result.{result_unwrap_or}
 use Rattle.words.specs.Lists.{equal}
+use Rattle.words.specs.ListLaws.{rest-is}
 use Rattle.words.specs.TestLaws.{and_both, and-none-left, and-none-right}
 use Rattle.datum.specs.Constant.{Constant, constant_words, integer, boolean, decimal}
 use Rattle.datum.specs.NameTable.{name_at, has_name}
 use Rattle.core_term.specs.Node as N
 use Rattle.core_term.specs.Node.{Got, got, missing, node_at, node_words}
 use Rattle.core_term.specs.NodeLaws.{node-read}
-use Rattle.core_term.specs.Code.Opened.{node_in}
+use Rattle.core_term.specs.Code.Opened.{node_in, opened_in}
 use Rattle.core_term.specs.declared.nodes.Node.{Node}
-use Rattle.core_term.specs.declared.nodes.Node.TheVariants.{Variable, Operation, Integer, Boolean, Decimal, Name, List as Several, If, Lambda, Application, None}
-use Rattle.supplier.specs.declared.front.Walked.{Walked}
+use Rattle.core_term.specs.declared.nodes.Node.TheVariants.{Variable, Operation, Integer, Boolean, Decimal, Name, List as Several, If, Lambda, Application}
+use Rattle.supplier.specs.declared.front.Difference.{Difference}
+use Rattle.supplier.specs.declared.front.Difference.TheVariants.{Other, Open, Outside}
 use Rattle.supplier.specs.declared.front.Front.{Front}
 use Rattle.comparison.specs.Grammar.{is_free}
-use Rattle.supplier.specs.Walk.{Found, outside, open', other, same, left_of, joined, met, Ours, our, ours_of, variable_sort, takes, constant_here, quoted_name, is_place, is_operation, free, reference, name_here}
-use Rattle.supplier.specs.Scope.{variable_in, scope_of, innermost}
+use Rattle.supplier.specs.Walk.{Found, outside, other, same, left_of, joined, met, Ours, our, ours_of, variable_sort, takes, constant_here, quoted_name, is_place, is_operation, free, reference, name_here}
+use Rattle.supplier.specs.Scope.{variable_in, scope_of, place_after, innermost}
 use Rattle.supplier.specs.ScopeLaws.{innermost-most, meant-none, meant-some}
-use Rattle.supplier.specs.Forms.{Joined}
-use Rattle.supplier.specs.Told.{found_of, Stands, Told, ours_in, Fronted}
+use Rattle.supplier.specs.Told.{Walked, found_of, Told, ours_in, Fronted}
 
 -- ---- findings
 
@@ -38,84 +41,51 @@ drop_past [] (suc k) h = refl
 drop_past (w ∷ ws) zero h = absurd (omega arith)
 drop_past (w ∷ ws) (suc k) h = drop_past ws k (omega arith)
 
--- after a difference how many were taken says nothing
-rank-only : (ws vs : List ℕ) (rank n m : ℕ) → 1 ≤ rank → found_of ws rank n ≡ found_of vs rank m
+pub told_same : (ws : List ℕ) (n : ℕ) → n ≤ length ws → Told ws (same (drop n ws)) (Ok n)
 unfolding found_of
-rank-only ws vs zero n m h = absurd (omega arith)
-rank-only ws vs (suc zero) n m h = refl
-rank-only ws vs (suc (suc zero)) n m h = refl
-rank-only ws vs (suc (suc (suc k))) n m h = refl
+told_same ws n h = record { is = refl; within = h }
 
-lost-stands : (ws : List ℕ) (rank n : ℕ) → 1 ≤ rank → n ≡ length ws → Stands ws rank n
-unfolding found_of left_of
-lost-stands ws rank n h e = record { within = omega arith; left = go rank h ∙ sym (drop_past ws n (omega arith)) }
-  where
-    go : (k : ℕ) → 1 ≤ k → left_of (found_of ws k n) ≡ []
-    go zero l = absurd (omega arith)
-    go (suc zero) l = refl
-    go (suc (suc zero)) l = refl
-    go (suc (suc (suc k))) l = refl
-
-pub told-lost : (ws : List ℕ) (rank : ℕ) → 1 ≤ rank → Told ws (found_of ws rank 0) (record { rank = rank; taken = length ws })
-told-lost ws rank h = record { is = rank-only ws ws rank (length ws) 0 h; stands = lost-stands ws rank (length ws) h refl }
-
-same-stands : (ws : List ℕ) (n : ℕ) → n ≤ length ws → Stands ws 0 n
-unfolding found_of left_of
-same-stands ws n h = record { within = h; left = refl }
-
-pub told_same : (ws : List ℕ) (n : ℕ) → n ≤ length ws → Told ws (same (drop n ws)) (record { rank = 0; taken = n })
+told-other : (ws : List ℕ) → Told ws other (Err Other)
 unfolding found_of
-told_same ws n h = record { is = refl; stands = same-stands ws n h }
+told-other ws = record { is = refl; within = tt }
+
+pub told-outside : (ws : List ℕ) → Told ws outside (Err Outside)
+unfolding found_of
+told-outside ws = record { is = refl; within = tt }
 
 -- ---- one thing found behind another
 
-module _ (ws vs : List ℕ) (n m k : ℕ) where
-  join_up : (b f : ℕ) → b < f → found_of ws f k ≡ joined (found_of ws b n) (found_of vs f m)
+module _ (ws vs : List ℕ) where
+  pub joined-then : (n : ℕ) (e : Difference) → Told ws (joined (found_of ws (Ok n)) (found_of vs (Err e))) (Err e)
   unfolding found_of joined
-  join_up zero f h = rank-only ws vs f k m (omega arith)
-  join_up (suc zero) zero h = absurd (omega arith)
-  join_up (suc zero) (suc zero) h = absurd (omega arith)
-  join_up (suc zero) (suc (suc zero)) h = refl
-  join_up (suc zero) (suc (suc (suc f))) h = refl
-  join_up (suc (suc zero)) zero h = absurd (omega arith)
-  join_up (suc (suc zero)) (suc zero) h = absurd (omega arith)
-  join_up (suc (suc zero)) (suc (suc zero)) h = absurd (omega arith)
-  join_up (suc (suc zero)) (suc (suc (suc f))) h = refl
-  join_up (suc (suc (suc b))) zero h = absurd (omega arith)
-  join_up (suc (suc (suc b))) (suc zero) h = absurd (omega arith)
-  join_up (suc (suc (suc b))) (suc (suc zero)) h = absurd (omega arith)
-  join_up (suc (suc (suc b))) (suc (suc (suc f))) h = refl
+  joined-then n Other = record { is = refl; within = tt }
+  joined-then n Open = record { is = refl; within = tt }
+  joined-then n Outside = record { is = refl; within = tt }
 
-  join_kept : (b f : ℕ) → 1 ≤ b → f ≤ b → found_of ws b k ≡ joined (found_of ws b n) (found_of vs f m)
+  pub joined-first : (d : Difference) (m : ℕ) → Told ws (joined (found_of ws (Err d)) (found_of vs (Ok m))) (Err d)
   unfolding found_of joined
-  join_kept zero f l h = absurd (omega arith)
-  join_kept (suc zero) zero l h = refl
-  join_kept (suc zero) (suc zero) l h = refl
-  join_kept (suc zero) (suc (suc f)) l h = absurd (omega arith)
-  join_kept (suc (suc zero)) zero l h = refl
-  join_kept (suc (suc zero)) (suc zero) l h = refl
-  join_kept (suc (suc zero)) (suc (suc zero)) l h = refl
-  join_kept (suc (suc zero)) (suc (suc (suc f))) l h = absurd (omega arith)
-  join_kept (suc (suc (suc b))) f l h = refl
+  joined-first Other m = record { is = refl; within = tt }
+  joined-first Open m = record { is = refl; within = tt }
+  joined-first Outside m = record { is = refl; within = tt }
 
-module _ (before found : Walked) (most : ℕ) where
-  pub joined-up : before.rank < found.rank → Joined before found most (record { rank = found.rank; taken = most })
-  joined-up h ws e =
-      (join_up ws (drop before.taken ws) before.taken found.taken most before.rank found.rank h, lost-stands ws found.rank most (omega arith) (sym e))
+pub joined-both : (ws : List ℕ) (n m : ℕ) → n ≤ length ws → m ≤ length (drop n ws)
+    → Told ws (joined (found_of ws (Ok n)) (found_of (left_of (found_of ws (Ok n))) (Ok m))) (Ok (n + m))
+unfolding found_of left_of joined
+joined-both ws n m h l = record { is = ap same (sym (drop-drop m n ws)); within = omega (arith, length-drop n ws) }
 
-  pub joined-kept : 0 < before.rank → found.rank ≤ before.rank → Joined before found most (record { rank = before.rank; taken = most })
-  joined-kept l h ws e =
-      (join_kept ws (drop before.taken ws) before.taken found.taken most before.rank found.rank (omega arith) h, lost-stands ws before.rank most (omega arith) (sym e))
-
-  pub joined_same : before.rank ≤ 0 → found.rank ≤ before.rank → before.taken ≤ most → found.taken ≤ most - before.taken
-      → Joined before found most (record { rank = 0; taken = before.taken + found.taken })
-  unfolding found_of joined
-  joined_same l h p q ws e =
-      let a : before.rank ≡ 0 = omega (arith, l) in
-      let b : found.rank ≡ 0 = omega (arith, l, h) in
-      (rw (a, b, drop-drop found.taken before.taken ws), same-stands ws (before.taken + found.taken) (omega (arith, e, p, q)))
+-- the words that are left, behind those that were taken
+pub words-behind : (ws : List ℕ) (f : Walked) (n : ℕ) → n ≡ result_unwrap_or f (length ws) → take (length ws - n) (drop n ws) ≡ left_of (found_of ws f)
+unfolding found_of left_of
+words-behind ws (Ok k) n e = rest-is n ws ∙ ap (λ x. drop x ws) e
+words-behind ws (Err Other) n e = rest-is n ws ∙ drop_past ws n (omega (arith, e))
+words-behind ws (Err Open) n e = rest-is n ws ∙ drop_past ws n (omega (arith, e))
+words-behind ws (Err Outside) n e = rest-is n ws ∙ drop_past ws n (omega (arith, e))
 
 -- ---- our node as numbers
+
+pub opened-as : (ws : List ℕ) (r : Option Node) (n m : Node) → opened_in ws r ≡ node_at ws → r ≡ Some n → n ≡ m → node_in ws m ≡ node_at ws
+unfolding opened_in
+opened-as ws r n m h e f = ap (node_in ws) (sym f) ∙ ap (opened_in ws) (sym e) ∙ h
 
 fronted : (ws : List ℕ) (x : N.Node) (k : ℕ) → got x (drop k ws) ≡ node_at ws → length (node_words x) ≡ k → (r : Front) → ours_in ws r ≡ ours_of (got x (drop k ws)) → r.size ≡ k → Fronted ws r
 fronted ws x k h l r e s =
@@ -161,8 +131,8 @@ module _ (ws : List ℕ) where
   unfolding node_in ours_in ours_of node_words
   front-application n h = fronted ws (N.application_n n) 2 h refl (by 7 n 0 0 2) refl refl
 
-  pub front-none : node_in ws None ≡ node_at ws → Fronted ws (by 8 0 0 0 (length ws))
-  unfolding node_in ours_in ours_of
+  pub front-none : opened_in ws P.None ≡ node_at ws → Fronted ws (by 8 0 0 0 (length ws))
+  unfolding opened_in ours_in ours_of
   front-none h = record { is = ap (λ l. our 8 0 0 0 l) (drop_past ws (length ws) (omega arith)) ∙ ap ours_of h; within = omega arith }
 
   module _ (v count : ℕ) (h : node_in ws (Lambda v count) ≡ node_at ws) where
@@ -192,28 +162,28 @@ module _ (ws : List ℕ) (r : Front) (f : Fronted ws r) (test : Ours → Bool) w
   abbrev tested : Found
   tested = met (test (ours_of (node_at ws))) (ours_of (node_at ws)).left
 
-  met-same : test (ours_in ws r) ≡ true → Told ws tested (record { rank = 0; taken = r.size })
+  met-same : test (ours_in ws r) ≡ true → Told ws tested (Ok r.size)
   unfolding ours_in met
-  met-same h = subst (λ o. Told ws (met (test o) o.left) (record { rank = 0; taken = r.size })) f.is (rw h (told_same ws r.size f.within))
+  met-same h = subst (λ o. Told ws (met (test o) o.left) (Ok r.size)) f.is (rw h (told_same ws r.size f.within))
 
-  met-other : test (ours_in ws r) ≡ false → (w : Walked) → Told ws (found_of ws 1 0) w → Told ws tested w
-  unfolding found_of met
-  met-other h w t = subst (λ o. Told ws (met (test o) o.left) w) f.is (rw h t)
+  met-other : test (ours_in ws r) ≡ false → Told ws tested (Err Other)
+  unfolding met
+  met-other h = subst (λ o. Told ws (met (test o) o.left) (Err Other)) f.is (rw h (told-other ws))
 
 module _ (ws : List ℕ) (r : Front) (f : Fronted ws r) where
   module _ (k n : ℕ) where
     abbrev wanted : Ours → Bool
     wanted o = eqb k o.sort && eqb n o.first
 
-    pub takes-sort : (r.sort ≡ k → ⊥) → (w : Walked) → Told ws (found_of ws 1 0) w → Told ws (takes k n (ours_of (node_at ws))) w
+    pub takes-sort : (r.sort ≡ k → ⊥) → Told ws (takes k n (ours_of (node_at ws))) (Err Other)
     unfolding takes ours_in
     takes-sort h = met-other ws r f wanted (rw (ne_eqb k r.sort (λ e. h (sym e))))
 
-    pub takes-number : (m : ℕ) → m ≡ r.first → (m ≡ n → ⊥) → (w : Walked) → Told ws (found_of ws 1 0) w → Told ws (takes k n (ours_of (node_at ws))) w
+    pub takes-number : (m : ℕ) → m ≡ r.first → (m ≡ n → ⊥) → Told ws (takes k n (ours_of (node_at ws))) (Err Other)
     unfolding takes ours_in
     takes-number m e h = met-other ws r f wanted (and-none-right (eqb k r.sort) _ (ne_eqb n r.first (λ q. h (e ∙ sym q))))
 
-    pub takes_same : r.sort ≡ k → (m : ℕ) → m ≡ r.first → m ≡ n → Told ws (takes k n (ours_of (node_at ws))) (record { rank = 0; taken = r.size })
+    pub takes_same : r.sort ≡ k → (m : ℕ) → m ≡ r.first → m ≡ n → Told ws (takes k n (ours_of (node_at ws))) (Ok r.size)
     unfolding takes ours_in
     takes_same h m e i = met-same ws r f wanted (and_both _ _ (eq-eqb k r.sort (sym h)) (eq-eqb n r.first (sym i ∙ e)))
 
@@ -224,28 +194,28 @@ module _ (ws : List ℕ) (r : Front) (f : Fronted ws r) where
     abbrev Here : Walked → Type 0
     Here w = Told ws (constant_here a (ours_of (node_at ws))) w
 
-    pub constant-sort : (r.sort ≡ 0 → ⊥) → (w : Walked) → Told ws (found_of ws 1 0) w → Here w
+    pub constant-sort : (r.sort ≡ 0 → ⊥) → Here (Err Other)
     unfolding constant_here ours_in
     constant-sort h = met-other ws r f constant_is (rw (ne_eqb 0 r.sort (λ e. h (sym e))))
 
-    pub constant-kind : (r.first ≡ a.kind → ⊥) → (w : Walked) → Told ws (found_of ws 1 0) w → Here w
+    pub constant-kind : (r.first ≡ a.kind → ⊥) → Here (Err Other)
     unfolding constant_here ours_in
     constant-kind h = met-other ws r f constant_is (and-none-right (eqb 0 r.sort) _ (and-none-left _ _ (ne_eqb a.kind r.first (λ e. h (sym e)))))
 
-    pub constant-first : (m : ℕ) → m ≡ r.second → (m ≡ a.first → ⊥) → (w : Walked) → Told ws (found_of ws 1 0) w → Here w
+    pub constant-first : (m : ℕ) → m ≡ r.second → (m ≡ a.first → ⊥) → Here (Err Other)
     unfolding constant_here ours_in
     constant-first m e h =
         met-other ws r f constant_is
         (and-none-right (eqb 0 r.sort) _ (and-none-right (eqb a.kind r.first) _ (and-none-left _ _ (ne_eqb a.first r.second (λ q. h (e ∙ sym q))))))
 
-    pub constant-second : (m : ℕ) → m ≡ r.third → (m ≡ a.second → ⊥) → (w : Walked) → Told ws (found_of ws 1 0) w → Here w
+    pub constant-second : (m : ℕ) → m ≡ r.third → (m ≡ a.second → ⊥) → Here (Err Other)
     unfolding constant_here ours_in
     constant-second m e h =
         met-other ws r f constant_is
         (and-none-right (eqb 0 r.sort) _ (and-none-right (eqb a.kind r.first) _ (and-none-right (eqb a.first r.second) _ (ne_eqb a.second r.third (λ q. h (e ∙ sym q))))))
 
     pub constant-same : r.sort ≡ 0 → r.first ≡ a.kind → (m : ℕ) → m ≡ r.second → m ≡ a.first → (k : ℕ) → k ≡ r.third → k ≡ a.second
-        → Here (record { rank = 0; taken = r.size })
+        → Here (Ok r.size)
     unfolding constant_here ours_in
     constant-same s t m e i k g j =
         met-same ws r f constant_is
@@ -260,21 +230,21 @@ module _ (theirs ours operations ws : List ℕ) (r : Front) (f : Fronted ws r) (
   abbrev Quoted : Walked → Type 0
   Quoted w = Told ws (quoted_name theirs ours operations n (ours_of (node_at ws))) w
 
-  pub quoted-sort : (r.sort ≡ 3 → ⊥) → (w : Walked) → Told ws (found_of ws 1 0) w → Quoted w
+  pub quoted-sort : (r.sort ≡ 3 → ⊥) → Quoted (Err Other)
   unfolding quoted_name ours_in
   quoted-sort h = met-other ws r f spelled_so (rw (ne_eqb 3 r.sort (λ e. h (sym e))))
 
   module _ (m : ℕ) (e : m ≡ r.first) where
-    pub quoted-unnamed : has_name ours m ≡ false → (w : Walked) → Told ws (found_of ws 1 0) w → Quoted w
+    pub quoted-unnamed : has_name ours m ≡ false → Quoted (Err Other)
     unfolding quoted_name ours_in
     quoted-unnamed h = met-other ws r f spelled_so (and-none-right (eqb 3 r.sort) _ (and-none-left _ _ (ap (has_name ours) (sym e) ∙ h)))
 
-    pub quoted-other : equal (name_at theirs n) (name_at ours m) ≡ false → (w : Walked) → Told ws (found_of ws 1 0) w → Quoted w
+    pub quoted-other : equal (name_at theirs n) (name_at ours m) ≡ false → Quoted (Err Other)
     unfolding quoted_name ours_in
     quoted-other h =
         met-other ws r f spelled_so (and-none-right (eqb 3 r.sort) _ (and-none-right (has_name ours r.first) _ (ap (λ k. equal (name_at theirs n) (name_at ours k)) (sym e) ∙ h)))
 
-    pub quoted-same : r.sort ≡ 3 → has_name ours m ≡ true → equal (name_at theirs n) (name_at ours m) ≡ true → Quoted (record { rank = 0; taken = r.size })
+    pub quoted-same : r.sort ≡ 3 → has_name ours m ≡ true → equal (name_at theirs n) (name_at ours m) ≡ true → Quoted (Ok r.size)
     unfolding quoted_name ours_in
     quoted-same s h i =
         met-same ws r f spelled_so
@@ -305,38 +275,42 @@ module _ (theirs ours operations ws : List ℕ) (r : Front) (f : Fronted ws r) (
   abbrev Free : Walked → Type 0
   Free w = Told ws (free theirs ours operations n (ours_of (node_at ws))) w
 
-  pub free-same : (b : Bool) → Place b → b ≡ true → Free (record { rank = 0; taken = r.size })
+  pub free-same : (b : Bool) → Place b → b ≡ true → Free (Ok r.size)
   unfolding free ours_in
   free-same b e h =
       let l : drop r.size ws ≡ (ours_of (node_at ws)).left = ap (λ o. o.left) f.is in
       rw (sym e ∙ h) (told-as ws _ _ _ (ap same l) (told_same ws r.size f.within))
 
-  module _ (b : Bool) (e : Place b) (h : b ≡ false) (d : Bool) (i : d ≡ is_operation theirs ours operations n) (w : Walked) where
-    pub free_other : d ≡ true → Told ws (found_of ws 1 0) w → Free w
-    unfolding free found_of
-    free_other k t = rw (sym e ∙ h, sym i ∙ k) t
+  module _ (b : Bool) (e : Place b) (h : b ≡ false) (d : Bool) (i : d ≡ is_operation theirs ours operations n) where
+    pub free_other : d ≡ true → Free (Err Other)
+    unfolding free
+    free_other k = rw (sym e ∙ h, sym i ∙ k) (told-other ws)
 
-    pub free_open : d ≡ false → Told ws (found_of ws 2 0) w → Free w
+    pub free_open : d ≡ false → Free (Err Open)
     unfolding free found_of
-    free_open k t = rw (sym e ∙ h, sym i ∙ k) t
+    free_open k = rw (sym e ∙ h, sym i ∙ k) (record { is = refl; within = tt })
 
 -- a name as an expression
-module _ (theirs ours operations ws scope : List ℕ) (top n : ℕ) (w : Walked) where
-  abbrev Refers : Type 0
-  Refers = Told ws (name_here theirs ours operations false (scope_of scope top) n (ours_of (node_at ws))) w
+module _ (theirs ours operations ws scope : List ℕ) (top n : ℕ) where
+  abbrev Refers : Walked → Type 0
+  Refers w = Told ws (name_here theirs ours operations false (scope_of scope top) n (ours_of (node_at ws))) w
 
-  pub reference-outside : n < 3 → Told ws (found_of ws 3 0) w → Refers
+  pub reference-outside : n < 3 → Refers (Err Outside)
   unfolding name_here is_free found_of
-  reference-outside l t = rw (le-ltb 2 n (omega arith)) t
+  reference-outside l = rw (le-ltb 2 n (omega arith)) (record { is = refl; within = tt })
 
-  module _ (l : 3 ≤ n) (k : ℕ) (e : k ≡ innermost n scope top) where
-    pub reference-free : k ≡ 0 → Told ws (free theirs ours operations n (ours_of (node_at ws))) w → Refers
-    unfolding name_here is_free reference
-    reference-free z t = rw (lt-ltb 2 n (omega arith), meant-none n scope top (sym e ∙ z)) t
+  module _ (l : 3 ≤ n) (w : Walked) where
+    pub reference-free : place_after P.None ≡ innermost n scope top → Told ws (free theirs ours operations n (ours_of (node_at ws))) w → Refers w
+    unfolding name_here is_free reference place_after
+    reference-free e t = rw (lt-ltb 2 n (omega arith), meant-none n scope top (sym e)) t
 
-    pub reference-variable : (k ≡ 0 → ⊥) → (v : ℕ) → v ≡ variable_in scope (k - 1) → Told ws (takes variable_sort v (ours_of (node_at ws))) w → Refers
-    unfolding name_here is_free reference
-    reference-variable z v i t = rw (lt-ltb 2 n (omega arith), meant-some n scope top k (sym e) z, sym i) t
+    pub reference-variable : (k : ℕ) → place_after (Some k) ≡ innermost n scope top → (v : ℕ) → v ≡ variable_in scope k → Told ws (takes variable_sort v (ours_of (node_at ws))) w → Refers w
+    unfolding name_here is_free reference place_after
+    reference-variable k e v i t =
+        let s : suc k - 1 ≡ k = omega arith in
+        let m = meant-some n scope top (suc k) (sym e) (λ z. omega (arith, z)) in
+        rw (lt-ltb 2 n (omega arith), m, s, sym i) t
 
-    pub reference-within : (k ≡ 0 → ⊥) → k - 1 < top
-    reference-within z = omega (arith, e, z, innermost-most n scope top)
+pub found-below : (scope : List ℕ) (top n k : ℕ) → place_after (Some k) ≡ innermost n scope top → k < top
+unfolding place_after
+found-below scope top n k e = omega (arith, e, innermost-most n scope top)

@@ -5,25 +5,21 @@ ghost use Rattle.core_term.specs.Node.{node_at};
 ghost use Rattle.core_term.specs.Code.Opened.{node_in};
 ghost use Rattle.core_term.specs.declared.nodes.Node.TheVariants.{Lambda};
 ghost use Rattle.supplier.specs.Walk.{ours_of, takes, constant_here};
-ghost use Rattle.supplier.specs.Told.{found_of, Fronted, Told};
+ghost use Rattle.supplier.specs.Told.{Fronted, Told};
 
 use core_term::nodes::{Node, opened};
 
-// What is found: the same so far, another, open (22), outside the grammar (21); the later goes before the earlier.
-pub const SAME: u32 = 0;
-
-pub const OTHER: u32 = 1;
-
-pub const OPEN: u32 = 2;
-
-pub const OUTSIDE: u32 = 3;
-
-// With the words of ours that are taken: all of them after a difference.
-#[derive(Clone, Copy)]
-pub struct Walked {
-    pub rank: u32,
-    pub taken: usize,
+// What keeps a text from being our term: something else stands there, a name is open (22), something is outside the grammar (21); the later
+// goes before the earlier.
+#[derive(Clone, Copy, PartialEq, Eq, PartialOrd, Ord)]
+pub enum Difference {
+    Other,
+    Open,
+    Outside,
 }
+
+// How many words of ours are taken, where the text is the same so far.
+pub type Walked = Result<usize, Difference>;
 
 // Sorts of nodes.
 const CONSTANT: u32 = 0;
@@ -54,12 +50,6 @@ pub struct Front {
     pub size: usize,
 }
 
-pub fn wide(n: u32) -> usize
-    ensures { result ≡ n }
-{
-    n as usize
-}
-
 fn of(sort: u32, first: u32, second: u32, third: u32, size: usize) -> Front
     ensures { result ≡ record { sort = sort; first = first; second = second; third = third; size = size } }
 {
@@ -78,8 +68,8 @@ fn lambda(words: &[u32], first: u32, count: u32) -> Front
     ensures { Fronted words.now result }
 {
     let names = words.len() - 3;
-    if wide(count) < names {
-        return of(LAMBDA, count, first, 0, wide(count) + 3);
+    if (count as usize) < names {
+        return of(LAMBDA, count, first, 0, count as usize + 3);
     }
     of(LAMBDA, names as u32, first, 0, words.len())
 }
@@ -87,7 +77,10 @@ fn lambda(words: &[u32], first: u32, count: u32) -> Front
 pub fn own(words: &[u32]) -> Front
     ensures { Fronted words.now result }
 {
-    match opened(words) {
+    let Some(node) = opened(words) else {
+        return of(NONE, 0, 0, 0, words.len());
+    };
+    match node {
         Node::Variable(n) => of(VARIABLE, n, 0, 0, 2),
         Node::Operation(n) => of(OPERATION, n, 0, 0, 2),
         Node::Integer(w) => of(CONSTANT, 1, w, 0, 2),
@@ -98,18 +91,6 @@ pub fn own(words: &[u32]) -> Front
         Node::If => of(IF, 0, 0, 0, 1),
         Node::Lambda(first, count) => lambda(words, first, count),
         Node::Application(n) => of(APPLICATION, n, 0, 0, 2),
-        Node::None => of(NONE, 0, 0, 0, words.len()),
-    }
-}
-
-// After a difference no words are left.
-pub fn lost(words: &[u32], rank: u32) -> Walked
-    requires { 1 ≤ rank }
-    ensures { Told words.now (found_of words.now rank 0) result }
-{
-    Walked {
-        rank: rank,
-        taken: words.len(),
     }
 }
 
@@ -119,15 +100,12 @@ pub fn takes(words: &[u32], sort: u32, number: usize) -> Walked
 {
     let node = own(words);
     if node.sort != sort {
-        return lost(words, OTHER);
+        return Err(Difference::Other);
     }
-    if wide(node.first) != number {
-        return lost(words, OTHER);
+    if node.first as usize != number {
+        return Err(Difference::Other);
     }
-    Walked {
-        rank: SAME,
-        taken: node.size,
-    }
+    Ok(node.size)
 }
 
 // A constant, by its kind and two words.
@@ -136,19 +114,16 @@ pub fn constant(words: &[u32], kind: u32, first: usize, second: usize) -> Walked
 {
     let node = own(words);
     if node.sort != CONSTANT {
-        return lost(words, OTHER);
+        return Err(Difference::Other);
     }
     if node.first != kind {
-        return lost(words, OTHER);
+        return Err(Difference::Other);
     }
-    if wide(node.second) != first {
-        return lost(words, OTHER);
+    if node.second as usize != first {
+        return Err(Difference::Other);
     }
-    if wide(node.third) != second {
-        return lost(words, OTHER);
+    if node.third as usize != second {
+        return Err(Difference::Other);
     }
-    Walked {
-        rank: SAME,
-        taken: node.size,
-    }
+    Ok(node.size)
 }
