@@ -34,6 +34,7 @@ fn toggle(marks: &mut [u32], start: usize, count: usize, m: u32) -> usize
 }
 
 // A mark on the name in hand; a word past the limit marks nothing. Answers the new count, where there is room for one mark more.
+#[tactic(auto, using(crate::specs::HandLaws::count_most))]
 pub fn mark(marks: &mut [u32], start: usize, count: usize, m: u32) -> Option<usize>
     requires { Hand marks.old start count }
     ensures { MatchOption result (length marks.new ≤ start + step_limit) (MarksAfter (marked m) marks.old marks.new start count) }
