@@ -76,12 +76,10 @@ fn places(powers: &[usize], n: usize) -> usize
     requires { (powers.now ≡ tens) × (10 ≤ n) }
     ensures { (result < 20) × (10 ^ result ≤ n) × (n < 10 ^ (result + 1)) }
 {
-    let mut k = 1;
-    while k < 19 {
+    for k in 1..19 {
         if n < power(powers, k + 1) {
             return k;
         }
-        k = k + 1;
     }
     19
 }
@@ -92,12 +90,10 @@ fn lay(powers: &[usize], n: usize, k: usize, out: &mut [u8], at: usize)
     ensures { out.new ≡ laid true (padded k n) at out.old }
 {
     let mut left = n;
-    let mut i = k;
-    while i > 0 {
-        let part = split(left, power(powers, i));
-        out[at + (k - i)] = part.digit;
+    for i in 0..k {
+        let part = split(left, power(powers, k - i));
+        out[at + i] = part.digit;
         left = part.left;
-        i = i - 1;
     }
     out[at + k] = 48 + left as u8;
 }
