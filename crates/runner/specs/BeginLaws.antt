@@ -28,6 +28,7 @@ use Rattle.evaluation.proofs.Steps.{Waiting, test_w, parts_w, value, resume, beg
 use Rattle.runner.specs.declared.rows.Value as R
 use Rattle.runner.specs.declared.rows.Value.TheVariants as RV
 use Rattle.runner.specs.declared.rows.Frame.{Frame}
+use Rattle.runner.specs.declared.rows.Frame.TheVariants as F
 use Rattle.runner.specs.declared.state.Counts.{Counts}
 use Rattle.runner.specs.declared.state.Turn.TheVariants.{Begins, Comes}
 use Rattle.runner.specs.Domain.{Number, numbers, number_in}
@@ -38,7 +39,7 @@ use Rattle.runner.specs.Here.{here-node}
 use Rattle.runner.specs.NodeIs.{NodeIs, node-is}
 use Rattle.runner.specs.Due.{some-by}
 use Rattle.runner.specs.Rows.{frame_word, ValueIs, number_i, boolean_i, datum_i, closure_i, operation_i, none_i, WaitingIs, test_i, parts_i}
-use Rattle.runner.specs.Stores.{value_set, frame_set, value_words, frame_words, length-stored, value-back, frame-own, packed-parts}
+use Rattle.runner.specs.Stores.{value_set, frame_set, value_words, next_of, frame_words, length-stored, value-back, frame-own, packed-parts}
 use Rattle.runner.specs.Kept.{Kept, kept_same, kept-value, kept_frame, environment-kept, value-kept, waiting_kept}
 use Rattle.runner.specs.Found.{Bound, FoundIs}
 use Rattle.runner.specs.Machine.{operation_found, Beginning, Leaving, Giving, Seeks, Spent, Turned, begin_fuel, give_fuel}
@@ -207,7 +208,7 @@ module _ {ws t : List ℕ} {budget : ℕ} {whole : Out (Value Number)} (s : Coun
   pub frame_row : {node : Node} → Spent ws budget whole t s node at e → 16 * (s.frames + 1) ≤ length t
   frame_row x = omega (arith, x.leaving.free, x.leaving.room.within, x.leaving.room.lent)
 
-  module _ {node : Node} (x : Spent ws budget whole t s node at e) (f : Frame) (same : f.environment ≡ e) where
+  module _ {node : Node} (x : Spent ws budget whole t s node at e) (f : Frame) where
     -- what waits under the new frame is kept
     frame-kept : Kept s.values s.frames s.cells t (frame_set t s.frames f)
     frame-kept = kept_frame s.values s.frames s.cells t s.frames f (omega arith)
@@ -215,8 +216,8 @@ module _ {ws t : List ℕ} {budget : ℕ} {whole : Out (Value Number)} (s : Coun
     frame-words : (i : ℕ) → i < 6 → frame_word (frame_set t s.frames f) s.frames i ≡ get_or (frame_words f) i 0
     frame-words i h = frame-own t s.frames i (frame_row x) f h
 
-    frame-next : packed (frame_word (frame_set t s.frames f) s.frames 2) (frame_word (frame_set t s.frames f) s.frames 1) ≡ f.next
-    frame-next = ap₂ packed (frame-words 2 (omega arith)) (frame-words 1 (omega arith)) ∙ packed-parts f.next
+    frame-next : packed (frame_word (frame_set t s.frames f) s.frames 2) (frame_word (frame_set t s.frames f) s.frames 1) ≡ next_of f
+    frame-next = ap₂ packed (frame-words 2 (omega arith)) (frame-words 1 (omega arith)) ∙ packed-parts (next_of f)
 
     -- the part that begins, and what waits for it
     frame-begins : (part : ℕ) (term : Plain) (w : Waiting numbers budget) → Here ws part term
@@ -251,35 +252,35 @@ module _ {ws t : List ℕ} {budget : ℕ} {whole : Out (Value Number)} (s : Coun
         )
 
   pub spent-if : (x : Spent ws budget whole t s If at e) (next : ℕ) → next ≡ at + 1 + length (encode x.is.test)
-      → Turned ws budget whole (give_fuel s budget) (frame_set t s.frames (record { what = 1; next = next; left = 0; base = 0; environment = e })) (Ok (Begins (framed s) (at + 1) e))
+      → Turned ws budget whole (give_fuel s budget) (frame_set t s.frames (F.Test (record { next = next; environment = e }))) (Ok (Begins (framed s) (at + 1) e))
   unfolding code_at
   spent-if x next h =
       let i = x.is in
       let l = x.leaving in
-      let f : Frame = record { what = 1; next = next; left = 0; base = 0; environment = e } in
+      let f : Frame = F.Test (record { next = next; environment = e }) in
       let to = at + 1 + length (encode i.test) in
-      let g = frame-kept x f refl in
-      let own = frame-words x f refl in
-      frame-begins x f refl (at + 1) i.test
+      let g = frame-kept x f in
+      let own = frame-words x f in
+      frame-begins x f (at + 1) i.test
       (test_w (code_at to i.yes) (code_at (to + length (encode i.yes)) i.no) x.environment) i.branches.test
-      (test_i (own 0 (omega arith)) (frame-next x f refl ∙ h) (own 5 (omega arith)) i.branches.yes i.branches.no x.below
+      (test_i (own 0 (omega arith)) (frame-next x f ∙ h) (own 5 (omega arith)) i.branches.yes i.branches.no x.below
       (environment-kept g x.below x.bound) (waiting_kept g (omega arith) (omega arith) (omega arith) l.stacked))
       (ap (λ (z : Plain). begins numbers budget (code_at at z) x.environment l.waiting (s.units - 1)) i.is
       ∙ begins-if numbers budget _ _ _ x.environment l.waiting (s.units - 1) (omega (arith, l.free, l.room.within)))
 
   pub spent-application : (left : ℕ) (x : Spent ws budget whole t s (Application left) at e) (next : ℕ) → next ≡ at + 2 + length (encode x.is.head)
-      → Turned ws budget whole (give_fuel s budget) (frame_set t s.frames (record { what = 2; next = next; left = left; base = s.values; environment = e })) (Ok (Begins (framed s) (at + 2) e))
+      → Turned ws budget whole (give_fuel s budget) (frame_set t s.frames (F.Parts (record { next = next; left = left; base = s.values; environment = e }))) (Ok (Begins (framed s) (at + 2) e))
   unfolding code_at
   spent-application left x next h =
       let i = x.is in
       let l = x.leaving in
-      let f : Frame = record { what = 2; next = next; left = left; base = s.values; environment = e } in
-      let g = frame-kept x f refl in
-      let own = frame-words x f refl in
+      let f : Frame = F.Parts (record { next = next; left = left; base = s.values; environment = e }) in
+      let g = frame-kept x f in
+      let own = frame-words x f in
       let rows : s.values + 0 ≡ s.values = omega arith in
-      frame-begins x f refl (at + 2) i.head
+      frame-begins x f (at + 2) i.head
       (parts_w [] (codes_at (at + 2 + length (encode i.head)) i.operands) x.environment) i.parts.head
-      (parts_i (own 0 (omega arith)) (frame-next x f refl ∙ h) (own 3 (omega arith)) (own 4 (omega arith)) (own 5 (omega arith)) i.parts.operands i.many
+      (parts_i (own 0 (omega arith)) (frame-next x f ∙ h) (own 3 (omega arith)) (own 4 (omega arith)) (own 5 (omega arith)) i.parts.operands i.many
       none_i rows x.below (environment-kept g x.below x.bound) (waiting_kept g (omega arith) (omega arith) (omega arith) l.stacked))
       (ap (λ (z : Plain). begins numbers budget (code_at at z) x.environment l.waiting (s.units - 1)) i.is
       ∙ begins-application numbers budget _ _ x.environment l.waiting (s.units - 1) (omega (arith, l.free, l.room.within)))

@@ -20,13 +20,16 @@ use Rattle.evaluation.proofs.Steps.{Waiting, parts_w, value, apply_all, resume, 
 use Rattle.runner.specs.declared.rows.Value as R
 use Rattle.runner.specs.declared.rows.Value.TheVariants as RV
 use Rattle.runner.specs.declared.rows.Frame.{Frame}
+use Rattle.runner.specs.declared.rows.Frame.TheVariants as F
+use Rattle.runner.specs.declared.rows.Branches.{Branches}
+use Rattle.runner.specs.declared.rows.Parts.{Parts}
 use Rattle.runner.specs.declared.rows.Extended.{Extended}
 use Rattle.runner.specs.declared.state.Counts.{Counts}
 use Rattle.runner.specs.declared.state.Turn.TheVariants.{Begins}
 use Rattle.runner.specs.Domain.{Number, numbers, number_in}
 use Rattle.runner.specs.Here.{Here, here-first, here-body, here-inside, begins-word}
 use Rattle.runner.specs.Rows.{value_at, frame_word, EnvironmentIs, ValueIs, number_i, boolean_i, datum_i, closure_i, operation_i, ValueIn, ValuesIn, none_i, more_i, WaitingIs, nothing_i, test_i, parts_i}
-use Rattle.runner.specs.Stores.{frame_at, frame_set, frame_words, length-stored, frame-own, packed-parts}
+use Rattle.runner.specs.Stores.{branches_at, parts_at, frame_at, frame-test, frame-parts, frame_set, frame_words, length-stored, frame-own, packed-parts}
 use Rattle.runner.specs.Kept.{kept_frame, environment-kept, values-kept, waiting_kept}
 use Rattle.runner.specs.Extended.{Extends, ExtendedBy}
 use Rattle.runner.specs.Made.{MadeIs}
@@ -99,11 +102,11 @@ module _ {ws t : List ℕ} {budget : ℕ} {whole : Out (Value Number)} (s : Coun
   come-row = omega (arith, c.room.rows, c.room.within, c.room.lent)
 
   -- the test of an if
-  pub come-test : (frame_at t (s.frames - 1)).what ≡ 1 → Testing ws budget whole t s (frame_at t (s.frames - 1))
+  come-test : frame_word t (s.frames - 1) 0 ≡ 1 → Testing ws budget whole t s (branches_at t (s.frames - 1))
   come-test h = go s.frames (s.values - 1) refl refl c.waiting c.stacked c.goes
     where
       go : (n row : ℕ) → s.frames ≡ n → s.values - 1 ≡ row → (k : List (Waiting numbers budget)) → WaitingIs ws t s.cells budget n row k
-          → whole ≡ resume numbers budget k c.value s.units → Testing ws budget whole t s (frame_at t (s.frames - 1))
+          → whole ≡ resume numbers budget k c.value s.units → Testing ws budget whole t s (branches_at t (s.frames - 1))
       go n row q u k nothing_i w = absurd (omega arith)
       go n row q u k' (test_i {f = f} {next = next} {e = e} {y = y} {z = z} {env = env} {k = k} i p j x x' l b r) w =
           let d : s.frames - 1 ≡ f = omega arith in
@@ -131,12 +134,12 @@ module _ {ws t : List ℕ} {budget : ℕ} {whole : Out (Value Number)} (s : Coun
           absurd (omega (arith, i, g))
 
   -- a part of an application, and another is next
-  pub come-part : ((frame_at t (s.frames - 1)).what ≡ 1 → ⊥) → 0 < (frame_at t (s.frames - 1)).left → Parting ws budget whole t s (frame_at t (s.frames - 1))
+  come-part : (frame_word t (s.frames - 1) 0 ≡ 1 → ⊥) → 0 < frame_word t (s.frames - 1) 3 → Parting ws budget whole t s (parts_at t (s.frames - 1))
   unfolding codes_at count
   come-part h g = go s.frames (s.values - 1) refl refl c.waiting c.stacked c.goes
     where
       go : (n row : ℕ) → s.frames ≡ n → s.values - 1 ≡ row → (k : List (Waiting numbers budget)) → WaitingIs ws t s.cells budget n row k
-          → whole ≡ resume numbers budget k c.value s.units → Parting ws budget whole t s (frame_at t (s.frames - 1))
+          → whole ≡ resume numbers budget k c.value s.units → Parting ws budget whole t s (parts_at t (s.frames - 1))
       go n row q u k' nothing_i w = absurd (omega arith)
       go n row q u k' (test_i {f = f} i p j x x' l b r) w =
           let d : f ≡ s.frames - 1 = omega arith in
@@ -167,8 +170,8 @@ module _ {ws t : List ℕ} {budget : ℕ} {whole : Out (Value Number)} (s : Coun
           })
 
   -- the last part of an application
-  pub come-last : ((frame_at t (s.frames - 1)).what ≡ 1 → ⊥) → (frame_at t (s.frames - 1)).left ≤ 0
-      → Complete ws budget whole t s (frame_at t (s.frames - 1)).base (s.values - (frame_at t (s.frames - 1)).base - 1)
+  come-last : (frame_word t (s.frames - 1) 0 ≡ 1 → ⊥) → frame_word t (s.frames - 1) 3 ≤ 0
+      → Complete ws budget whole t s (frame_word t (s.frames - 1) 4) (s.values - (frame_word t (s.frames - 1) 4) - 1)
   unfolding codes_at count apply_all
   come-last h g = go s.frames (s.values - 1) refl refl c.waiting c.stacked c.goes
     where
@@ -198,7 +201,7 @@ module _ {ws t : List ℕ} {budget : ℕ} {whole : Out (Value Number)} (s : Coun
 
       go : (n row : ℕ) → s.frames ≡ n → s.values - 1 ≡ row → (k : List (Waiting numbers budget)) → WaitingIs ws t s.cells budget n row k
           → whole ≡ resume numbers budget k c.value s.units
-          → Complete ws budget whole t s (frame_at t (s.frames - 1)).base (s.values - (frame_at t (s.frames - 1)).base - 1)
+          → Complete ws budget whole t s (frame_word t (s.frames - 1) 4) (s.values - (frame_word t (s.frames - 1) 4) - 1)
       go n row q u k' nothing_i w = absurd (omega arith)
       go n row q u k' (test_i {f = f} i p j x x' l b r) w =
           let d : f ≡ s.frames - 1 = omega arith in
@@ -215,9 +218,25 @@ module _ {ws t : List ℕ} {budget : ℕ} {whole : Out (Value Number)} (s : Coun
           (rw (length-append vs (c.value ∷ [])) (omega arith)) (rw (length-append vs (c.value ∷ [])) (omega (arith, r, u, c.some)))
           (rw d st) (w ∙ comes-last numbers budget vs env k c.value s.units))
 
+  -- by the frame
+  pub come-branch : (f : Branches) → frame_at t (s.frames - 1) ≡ F.Test f → Testing ws budget whole t s f
+  come-branch f e = let q = frame-test _ _ _ f e in subst (λ (f : Branches). Testing ws budget whole t s f) q.1 (come-test q.0)
+
+  module _ (f : Parts) (e : frame_at t (s.frames - 1) ≡ F.Parts f) where
+    come-is : (frame_word t (s.frames - 1) 0 ≡ 1 → ⊥) × (parts_at t (s.frames - 1) ≡ f)
+    come-is = frame-parts _ _ _ f e
+
+    pub come-next : 0 < f.left → Parting ws budget whole t s f
+    come-next h = subst (λ (f : Parts). Parting ws budget whole t s f) come-is.1 (come-part come-is.0 (subst (λ (f : Parts). 0 < f.left) (sym come-is.1) h))
+
+    pub come-complete : f.left ≤ 0 → Complete ws budget whole t s f.base (s.values - f.base - 1)
+    come-complete h =
+        subst (λ (f : Parts). Complete ws budget whole t s f.base (s.values - f.base - 1)) come-is.1
+        (come-last come-is.0 (subst (λ (f : Parts). f.left ≤ 0) (sym come-is.1) h))
+
 -- ---- the test of an if
 
-module _ {ws t : List ℕ} {budget : ℕ} {whole : Out (Value Number)} (s : Counts) (f : Frame) (x : Testing ws budget whole t s f) where
+module _ {ws t : List ℕ} {budget : ℕ} {whole : Out (Value Number)} (s : Counts) (f : Branches) (x : Testing ws budget whole t s f) where
   -- the branch that it picks begins
   picked : (at : ℕ) (branch : Plain) → Here ws at branch
       → whole ≡ begins numbers budget (code_at at branch) x.environment x.waiting s.units
@@ -254,14 +273,14 @@ module _ {ws t : List ℕ} {budget : ℕ} {whole : Out (Value Number)} (s : Coun
 
 -- ---- the next part of an application
 
-module _ {ws t : List ℕ} {budget : ℕ} {whole : Out (Value Number)} (s : Counts) (f : Frame) (x : Parting ws budget whole t s f) where
+module _ {ws t : List ℕ} {budget : ℕ} {whole : Out (Value Number)} (s : Counts) (f : Parts) (x : Parting ws budget whole t s f) where
   -- the frame waits for it
   pub parting-begins : (next : ℕ) → next ≡ f.next + length (encode x.first)
-      → Turned ws budget whole (come_fuel s budget) (frame_set t (s.frames - 1) (record { what = 2; next = next; left = f.left - 1; base = f.base; environment = f.environment }))
+      → Turned ws budget whole (come_fuel s budget) (frame_set t (s.frames - 1) (F.Parts (record { next = next; left = f.left - 1; base = f.base; environment = f.environment })))
       (Ok (Begins s f.next f.environment))
   parting-begins next e =
       let row = s.frames - 1 in
-      let waiting : Frame = record { what = 2; next = next; left = f.left - 1; base = f.base; environment = f.environment } in
+      let waiting : Frame = F.Parts (record { next = next; left = f.left - 1; base = f.base; environment = f.environment }) in
       let room : 16 * (row + 1) ≤ length t = omega (arith, x.framed, x.room.rows, x.room.within, x.room.lent) in
       let own : (i : ℕ) → i < 6 → frame_word (frame_set t row waiting) row i ≡ get_or (frame_words waiting) i 0 = λ i h. frame-own t row i room waiting h in
       let to : packed (frame_word (frame_set t row waiting) row 2) (frame_word (frame_set t row waiting) row 1) ≡ f.next + length (encode x.first) =

@@ -10,7 +10,8 @@ use Rattle.evaluation.specs.Computation.{Out, done, refused, M, ◌>>=◌, ◌>>
 use Rattle.evaluation.specs.Evaluate.{Value, operation_v, Environment, find, holds, apply, evaluate_node}
 use Rattle.evaluation.proofs.Steps.{Waiting, parts_w, value, resume, begins}
 use Rattle.runner.specs.declared.rows.Value as R
-use Rattle.runner.specs.declared.rows.Frame.{Frame}
+use Rattle.runner.specs.declared.rows.Branches.{Branches}
+use Rattle.runner.specs.declared.rows.Parts.{Parts}
 use Rattle.runner.specs.declared.state.Counts.{Counts}
 use Rattle.runner.specs.declared.state.Turn.{Turn}
 use Rattle.runner.specs.declared.state.Turn.TheVariants.{Begins, Comes}
@@ -112,7 +113,7 @@ module _ (ws : List ℕ) (budget : ℕ) (whole : Out (Value Number)) where
   -- ---- a value has come to a frame
 
   -- the test of an if has its value
-  pub record Testing (t : List ℕ) (s : Counts) (f : Frame) : Type 0 where
+  pub record Testing (t : List ℕ) (s : Counts) (f : Branches) : Type 0 where
     pub room : Room budget t s
     pub some : 1 ≤ s.values
     pub framed : 1 ≤ s.frames
@@ -130,7 +131,7 @@ module _ (ws : List ℕ) (budget : ℕ) (whole : Out (Value Number)) where
     pub goes : whole ≡ begins numbers budget (cond (holds value) (code_at f.next yes) (code_at (f.next + length (encode yes)) no)) environment waiting s.units
 
   -- a part of an application has its value, and another is next
-  pub record Parting (t : List ℕ) (s : Counts) (f : Frame) : Type 0 where
+  pub record Parting (t : List ℕ) (s : Counts) (f : Parts) : Type 0 where
     pub room : Room budget t s
     pub framed : 1 ≤ s.frames
     pub first : Plain

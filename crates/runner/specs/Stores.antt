@@ -6,27 +6,65 @@ use Rattle.words.specs.Code.Packed.{packed}
 use Rattle.runner.specs.declared.rows.Value.{Value}
 use Rattle.runner.specs.declared.rows.Value.TheVariants.{Number, Boolean, Datum, Closure, Operation}
 use Rattle.runner.specs.declared.rows.Frame.{Frame}
+use Rattle.runner.specs.declared.rows.Frame.TheVariants as F
+use Rattle.runner.specs.declared.rows.Branches.{Branches}
+use Rattle.runner.specs.declared.rows.Parts.{Parts}
 use Rattle.runner.specs.Rows.{value_word, frame_word, cell_word, value_of, value_at, bound_at}
 
 -- ---- reading
 
+-- the branches, or the parts, that a row's frame is of
+abbrev pub branches_at : List ℕ → (row : ℕ) → Branches
+branches_at t row = record { next = packed (frame_word t row 2) (frame_word t row 1); environment = frame_word t row 5 }
+
+abbrev pub parts_at : List ℕ → (row : ℕ) → Parts
+parts_at t row =
+    record { next = packed (frame_word t row 2) (frame_word t row 1); left = frame_word t row 3; base = frame_word t row 4; environment = frame_word t row 5 }
+
+-- which of them, by the first word
+abbrev pub frame_of : ℕ → Branches → Parts → Frame
+frame_of zero b p = F.Parts p
+frame_of (suc zero) b p = F.Test b
+frame_of (suc (suc k)) b p = F.Parts p
+
 abbrev pub frame_at : List ℕ → (row : ℕ) → Frame
-frame_at t row =
-    record {
-      what = frame_word t row 0;
-      next = packed (frame_word t row 2) (frame_word t row 1);
-      left = frame_word t row 3;
-      base = frame_word t row 4;
-      environment = frame_word t row 5;
-    }
+frame_at t row = frame_of (frame_word t row 0) (branches_at t row) (parts_at t row)
 
 -- a value's first word stands at its row's start, a frame's at its column's; a place comes from its two words
 pub value_read : (t : List ℕ) (row : ℕ) → value_of (get_or t (16 * row) 0) (value_word t row 1) (value_word t row 2) (value_word t row 3) ≡ value_at t row
 value_read t row = rw (add-zero (16 * row))
 
-pub frame-read : (t : List ℕ) (row next : ℕ) → next ≡ packed (frame_word t row 2) (frame_word t row 1)
-    → record { what = get_or t (16 * row + 4) 0; next = next; left = frame_word t row 3; base = frame_word t row 4; environment = frame_word t row 5 } ≡ frame_at t row
-frame-read t row next h = rw (add-zero (16 * row + 4), h)
+pub frame-read : (t : List ℕ) (row : ℕ) → frame_of (get_or t (16 * row + 4) 0) (branches_at t row) (parts_at t row) ≡ frame_at t row
+frame-read t row = rw (add-zero (16 * row + 4))
+
+-- what a frame says of its first word
+module _ (k : ℕ) (b : Branches) (p : Parts) where
+  pub frame-one : k ≡ 1 → frame_of k b p ≡ F.Test b
+  frame-one h = rw h
+
+  pub frame-other : (k ≡ 1 → ⊥) → frame_of k b p ≡ F.Parts p
+  frame-other h = go k h
+    where
+      go : (k : ℕ) → (k ≡ 1 → ⊥) → frame_of k b p ≡ F.Parts p
+      go zero h = refl
+      go (suc zero) h = absurd (h refl)
+      go (suc (suc k)) h = refl
+
+  pub frame-test : (f : Branches) → frame_of k b p ≡ F.Test f → (k ≡ 1) × (b ≡ f)
+  frame-test f h = go k h
+    where
+      go : (k : ℕ) → frame_of k b p ≡ F.Test f → (k ≡ 1) × (b ≡ f)
+      go zero h = cc
+      go (suc zero) h = (refl, cc)
+      go (suc (suc k)) h = cc
+
+  pub frame-parts : (f : Parts) → frame_of k b p ≡ F.Parts f → (k ≡ 1 → ⊥) × (p ≡ f)
+  frame-parts f h = go k h
+    where
+      go : (k : ℕ) → frame_of k b p ≡ F.Parts f → (k ≡ 1 → ⊥) × (p ≡ f)
+      go zero h = (λ e. omega (arith, e), cc)
+      go (suc zero) h = cc
+      go (suc (suc k)) h = (λ e. omega (arith, e), cc)
 
 -- ---- writing
 
@@ -67,8 +105,28 @@ environment_of (Operation p) = 0
 abbrev pub value_words : Value → List ℕ
 value_words v = kind_of v ∷ first_of v ∷ second_of v ∷ environment_of v ∷ []
 
+abbrev pub what_of : Frame → ℕ
+what_of (F.Test b) = 1
+what_of (F.Parts p) = 2
+
+abbrev pub next_of : Frame → ℕ
+next_of (F.Test b) = b.next
+next_of (F.Parts p) = p.next
+
+abbrev pub left_of : Frame → ℕ
+left_of (F.Test b) = 0
+left_of (F.Parts p) = p.left
+
+abbrev pub base_of : Frame → ℕ
+base_of (F.Test b) = 0
+base_of (F.Parts p) = p.base
+
+abbrev pub frame_environment : Frame → ℕ
+frame_environment (F.Test b) = b.environment
+frame_environment (F.Parts p) = p.environment
+
 abbrev pub frame_words : Frame → List ℕ
-frame_words f = f.what ∷ f.next % 4294967296 ∷ f.next / 4294967296 ∷ f.left ∷ f.base ∷ f.environment ∷ []
+frame_words f = what_of f ∷ next_of f % 4294967296 ∷ next_of f / 4294967296 ∷ left_of f ∷ base_of f ∷ frame_environment f ∷ []
 
 abbrev pub cell_words : (number : ℕ) → Value → (link : ℕ) → List ℕ
 cell_words n v link = n ∷ kind_of v ∷ first_of v ∷ second_of v ∷ environment_of v ∷ link ∷ []

@@ -5,7 +5,7 @@ ghost use Rattle.runner.specs.Machine.{operation_found, Beginning, Leaving, Seek
 
 use crate::numbers::OPERATIONS;
 use crate::places::after;
-use crate::rows::{Frame, PARTS, TEST, Value, find};
+use crate::rows::{Branches, Frame, Parts, Value, find};
 use crate::state::{Counts, Turn, push, wait};
 use core_term::nodes::{Node, opened};
 use words::ground::Ground;
@@ -44,14 +44,11 @@ fn test(
     requires { Memo words.now ends.now × Some (λ budget whole. Spent words.now budget whole table.old s N.If at environment) }
     ensures { Turns words.now (λ budget whole. Spent words.now budget whole table.old s N.If at environment) (give_fuel s) table.new result }
 {
-    let f = Frame {
-        what: TEST,
+    let f = Frame::Test(Branches {
         next: after(words, ends, at + 1),
-        left: 0,
-        base: 0,
-        environment: environment,
-    };
-    Ok(wait(table, s, f, at + 1))
+        environment,
+    });
+    Ok(wait(table, s, f, at + 1, environment))
 }
 
 // An application of a head to operands, its unit spent: its head begins.
@@ -67,14 +64,13 @@ fn application(
     requires { Memo words.now ends.now × Some (λ budget whole. Spent words.now budget whole table.old s (N.Application operands) at environment) }
     ensures { Turns words.now (λ budget whole. Spent words.now budget whole table.old s (N.Application operands) at environment) (give_fuel s) table.new result }
 {
-    let f = Frame {
-        what: PARTS,
+    let f = Frame::Parts(Parts {
         next: after(words, ends, at + 2),
         left: operands,
         base: s.values as u32,
-        environment: environment,
-    };
-    Ok(wait(table, s, f, at + 2))
+        environment,
+    });
+    Ok(wait(table, s, f, at + 2, environment))
 }
 
 // The node at a place, in an environment.

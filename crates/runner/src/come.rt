@@ -9,7 +9,7 @@ ghost use Rattle.runner.specs.Machine.{Coming, Testing, Parting, Complete, Anywh
 
 use crate::numbers::operate;
 use crate::places::after;
-use crate::rows::{Frame, PARTS, TEST, Value, bind, frame_at, put_frame, value_at};
+use crate::rows::{Branches, Frame, Parts, Value, bind, frame_at, put_frame, value_at};
 use crate::state::{Counts, Turn, push};
 use words::ground::Ground;
 
@@ -24,7 +24,13 @@ fn holds(v: Value) -> bool
 }
 
 // The test of an if has its value.
-fn branch(words: &[u32], ends: &[u32], table: &[u32], s: Counts, f: Frame) -> Result<Turn, Ground>
+fn branch(
+    words: &[u32],
+    ends: &[u32],
+    table: &[u32],
+    s: Counts,
+    f: Branches,
+) -> Result<Turn, Ground>
     requires { Memo words.now ends.now × Some (λ budget whole. Testing words.now budget whole table.now s f) }
     ensures { Turns words.now (λ budget whole. Testing words.now budget whole table.now s f) (come_fuel s) table.now result }
 {
@@ -41,17 +47,16 @@ fn branch(words: &[u32], ends: &[u32], table: &[u32], s: Counts, f: Frame) -> Re
 }
 
 // The next part of an application.
-fn part(words: &[u32], ends: &[u32], table: &mut [u32], s: Counts, f: Frame) -> Result<Turn, Ground>
+fn part(words: &[u32], ends: &[u32], table: &mut [u32], s: Counts, f: Parts) -> Result<Turn, Ground>
     requires { Memo words.now ends.now × (1 ≤ f.left) × Some (λ budget whole. Parting words.now budget whole table.old s f) }
     ensures { Turns words.now (λ budget whole. Parting words.now budget whole table.old s f) (come_fuel s) table.new result }
 {
-    let waiting = Frame {
-        what: PARTS,
+    let waiting = Parts {
         next: after(words, ends, f.next),
         left: f.left - 1,
         ..f
     };
-    put_frame(table, s.frames - 1, waiting);
+    put_frame(table, s.frames - 1, Frame::Parts(waiting));
     Ok(Turn::Begins(s, f.next, f.environment))
 }
 
@@ -133,12 +138,13 @@ pub fn come(words: &[u32], ends: &[u32], table: &mut [u32], s: Counts) -> Result
     requires { Memo words.now ends.now × (1 ≤ s.frames) × Some (λ budget whole. Coming words.now budget whole table.old s) }
     ensures { Turns words.now (λ budget whole. Coming words.now budget whole table.old s) (come_fuel s) table.new result }
 {
-    let f = frame_at(table, s.frames - 1);
-    if f.what == TEST {
-        return branch(words, ends, table, s, f);
+    match frame_at(table, s.frames - 1) {
+        Frame::Test(f) => branch(words, ends, table, s, f),
+        Frame::Parts(f) => {
+            if f.left > 0 {
+                return part(words, ends, table, s, f);
+            }
+            apply(words, table, s, f.base as usize)
+        }
     }
-    if f.left > 0 {
-        return part(words, ends, table, s, f);
-    }
-    apply(words, table, s, f.base as usize)
 }

@@ -6,7 +6,7 @@ ghost use Rattle.evaluation.specs.Evaluate as S;
 ghost use Rattle.runner.specs.Domain.{Number};
 ghost use Rattle.runner.specs.Rows.{EnvironmentIs, value_of, value_at};
 ghost use Rattle.runner.specs.Found.{Bound, FoundIs};
-ghost use Rattle.runner.specs.Stores.{frame_at, value_words, value_set, frame_set, cell_set};
+ghost use Rattle.runner.specs.Stores.{frame_at, value_words, frame_words, value_set, frame_set, cell_set};
 ghost use Rattle.runner.specs.Extended.{Extends, ExtendedBy};
 ghost use Rattle.words.specs.Code.Packed.{packed};
 
@@ -41,18 +41,30 @@ const OPERATION: u32 = 5;
 
 // What waits for a value: the test of an if, whose branches begin at `next`; or a part of an application, of which `left` parts are
 // still to be evaluated, the first of them at `next`, and the values since the head's stand from row `base` on.
-pub const TEST: u32 = 1;
-
-pub const PARTS: u32 = 2;
+#[derive(Clone, Copy)]
+pub enum Frame {
+    Test(Branches),
+    Parts(Parts),
+}
 
 #[derive(Clone, Copy)]
-pub struct Frame {
-    pub what: u32,
+pub struct Branches {
+    pub next: usize,
+    pub environment: u32,
+}
+
+#[derive(Clone, Copy)]
+pub struct Parts {
     pub next: usize,
     pub left: u32,
     pub base: u32,
     pub environment: u32,
 }
+
+// The first of a frame's six words in a row.
+const TEST: u32 = 1;
+
+const PARTS: u32 = 2;
 
 // A place in two words.
 pub fn low(place: usize) -> u32
@@ -122,17 +134,38 @@ pub fn put_value(table: &mut [u32], row: usize, v: Value)
     table[at + 3] = words[3];
 }
 
+// The words of a frame.
+fn frame_words(f: Frame) -> [u32; 6]
+    ensures { result ≡ frame_words f }
+{
+    match f {
+        Frame::Test(b) => [TEST, low(b.next), high(b.next), 0, 0, b.environment],
+        Frame::Parts(p) => [
+            PARTS,
+            low(p.next),
+            high(p.next),
+            p.left,
+            p.base,
+            p.environment,
+        ],
+    }
+}
+
 pub fn frame_at(table: &[u32], row: usize) -> Frame
     requires { 16 * (row + 1) ≤ length table.now }
     ensures { result ≡ frame_at table.now row }
 {
     let at = ROW * row + FRAME;
-    Frame {
-        what: table[at],
-        next: place(table[at + 1], table[at + 2]),
-        left: table[at + 3],
-        base: table[at + 4],
-        environment: table[at + 5],
+    let next = place(table[at + 1], table[at + 2]);
+    let environment = table[at + 5];
+    match table[at] {
+        1 => Frame::Test(Branches { next, environment }),
+        _ => Frame::Parts(Parts {
+            next,
+            left: table[at + 3],
+            base: table[at + 4],
+            environment,
+        }),
     }
 }
 
@@ -141,12 +174,13 @@ pub fn put_frame(table: &mut [u32], row: usize, f: Frame)
     ensures { table.new ≡ frame_set table.old row f }
 {
     let at = ROW * row + FRAME;
-    table[at] = f.what;
-    table[at + 1] = low(f.next);
-    table[at + 2] = high(f.next);
-    table[at + 3] = f.left;
-    table[at + 4] = f.base;
-    table[at + 5] = f.environment;
+    let words = frame_words(f);
+    table[at] = words[0];
+    table[at + 1] = words[1];
+    table[at + 2] = words[2];
+    table[at + 3] = words[3];
+    table[at + 4] = words[4];
+    table[at + 5] = words[5];
 }
 
 // A variable's cell: its number, its value, and the environment that it is put before.

@@ -36,9 +36,9 @@ pub fn push(table: &mut [u32], s: Counts, v: Value) -> Turn
 }
 
 // A frame, and then the node at a place.
-pub fn wait(table: &mut [u32], s: Counts, f: Frame, at: usize) -> Turn
+pub fn wait(table: &mut [u32], s: Counts, f: Frame, at: usize, environment: u32) -> Turn
     requires { 16 * (s.frames + 1) ≤ length table.old }
-    ensures { (result ≡ T.Begins (framed s) at f.environment) × (table.new ≡ frame_set table.old s.frames f) }
+    ensures { (result ≡ T.Begins (framed s) at environment) × (table.new ≡ frame_set table.old s.frames f) }
 {
     put_frame(table, s.frames, f);
     Turn::Begins(
@@ -47,6 +47,6 @@ pub fn wait(table: &mut [u32], s: Counts, f: Frame, at: usize) -> Turn
             ..s
         },
         at,
-        f.environment,
+        environment,
     )
 }

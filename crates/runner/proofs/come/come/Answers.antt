@@ -1,44 +1,27 @@
 -- By the top frame.
-use mathlib.Core.Path.{sym, ap, subst, ◌∙◌}
-use Prim.Native.Nat.{◌≤◌, ◌<◌}
-use Rattle.runner.specs.declared.rows.Frame.{Frame}
-use Rattle.runner.specs.ComeLaws.{come-test, come-part, come-last}
+use mathlib.Core.Path.{sym, ◌∙◌}
+use Rattle.runner.specs.ComeLaws.{come-branch, come-next, come-complete}
 use Rattle.runner.proofs.come.come.Goals as goal
 
 pub branch-words-requires : goal.branch-words-requires
-branch-words-requires c = let a = c.args in let p = c.requires in let e = c.frame_at-f.ensures in
-    (p.0, (p.2.0, p.2.1, rw e (come-test a.s p.2.2 p.1 (sym (ap (λ (f : Frame). f.what) e) ∙ c.if-f-eq-TEST.true))))
+branch-words-requires c = let p = c.requires in
+    (p.0, (p.2.0, p.2.1, come-branch c.args.s p.2.2 p.1 _ (sym c.frame_at.ensures ∙ c.in-Test.is)))
 
-pub returns-then-f-eq-TEST : goal.returns-then-f-eq-TEST
-returns-then-f-eq-TEST c = λ budget whole x. let a = c.args in let p = c.requires in let e = c.frame_at-f.ensures in
-    c.branch-words.ensures budget whole (rw e (come-test a.s x p.1 (sym (ap (λ (f : Frame). f.what) e) ∙ c.if-f-eq-TEST.true)))
+pub returns-in-Test : goal.returns-in-Test
+returns-in-Test c = λ budget whole x. c.branch-words.ensures budget whole (come-branch c.args.s x c.requires.1 _ (sym c.frame_at.ensures ∙ c.in-Test.is))
 
 pub part-requires : goal.part-requires
-part-requires c = let a = c.args in let p = c.requires in let e = c.frame_at-f.ensures in (
-  p.0,
-  c.if-f-gt0.true,
-  (
-    p.2.0,
-    p.2.1,
-    rw e (come-part a.s p.2.2 p.1 (λ i. c.if-f-eq-TEST.false (ap (λ (f : Frame). f.what) e ∙ i))
-        (subst (λ (f : Frame). 0 < f.left) e c.if-f-gt0.true)),
-  ),
-)
+part-requires c = let p = c.requires in
+    (p.0, c.if-f-gt0.true, (p.2.0, p.2.1, come-next c.args.s p.2.2 p.1 _ (sym c.frame_at.ensures ∙ c.in-Parts.is) c.if-f-gt0.true))
 
 pub returns-then-f-gt0 : goal.returns-then-f-gt0
-returns-then-f-gt0 c = λ budget whole x. let a = c.args in let p = c.requires in let e = c.frame_at-f.ensures in
-    c.part.ensures budget whole (rw e (come-part a.s x p.1 (λ i. c.if-f-eq-TEST.false (ap (λ (f : Frame). f.what) e ∙ i))
-    (subst (λ (f : Frame). 0 < f.left) e c.if-f-gt0.true)))
+returns-then-f-gt0 c = λ budget whole x. c.part.ensures budget whole
+    (come-next c.args.s x c.requires.1 _ (sym c.frame_at.ensures ∙ c.in-Parts.is) c.if-f-gt0.true)
 
 pub apply-requires : goal.apply-requires
-apply-requires c = let a = c.args in let p = c.requires in let e = c.frame_at-f.ensures in (
-  p.2.0,
-  p.2.1,
-  rw e (come-last a.s p.2.2 p.1 (λ i. c.if-f-eq-TEST.false (ap (λ (f : Frame). f.what) e ∙ i))
-      (subst (λ (f : Frame). f.left ≤ 0) e c.if-f-gt0.false)),
-)
+apply-requires c = let p = c.requires in
+    (p.2.0, p.2.1, come-complete c.args.s p.2.2 p.1 _ (sym c.frame_at.ensures ∙ c.in-Parts.is) c.if-f-gt0.false)
 
-pub returns : goal.returns
-returns c = λ budget whole x. let a = c.args in let p = c.requires in let e = c.frame_at-f.ensures in
-    c.apply.ensures budget whole (rw e (come-last a.s x p.1 (λ i. c.if-f-eq-TEST.false (ap (λ (f : Frame). f.what) e ∙ i))
-    (subst (λ (f : Frame). f.left ≤ 0) e c.if-f-gt0.false)))
+pub returns-else-f-gt0 : goal.returns-else-f-gt0
+returns-else-f-gt0 c = λ budget whole x. c.apply.ensures budget whole
+    (come-complete c.args.s x c.requires.1 _ (sym c.frame_at.ensures ∙ c.in-Parts.is) c.if-f-gt0.false)
