@@ -9,7 +9,7 @@ mod places; // where parts end
 mod rows; // rows of the lent table
 mod state; // what a turn is
 
-ghost use Rattle.std.specs.Prelude.{◌≡◌, length, replicate};
+ghost use Rattle.std.specs.Prelude.{length};
 ghost use Rattle.runner.specs.Memo.{Memo};
 ghost use Rattle.runner.specs.Service.{Ran};
 ghost use Rattle.runner.specs.ServiceLaws.{Fit, Tested, ToldAs};
@@ -23,6 +23,8 @@ use words::{BUDGET, OPERATIONS, RUN_RATE};
 
 // A term of no more words takes the short table of ends; the long one has a word for each word of any expansion's term.
 const SHORT: usize = 1024;
+
+const LONG: usize = 36864;
 
 // What a term's value is: a number by its word, a quoted datum by its place.
 #[derive(Clone, Copy, Debug, PartialEq, Eq)]
@@ -96,27 +98,15 @@ fn evaluated(
     })
 }
 
-fn short_ends() -> [u32; 1024]
-    ensures { result ≡ replicate 1024 0 }
-{
-    [0; 1024]
-}
-
-fn long_ends() -> [u32; 36864]
-    ensures { result ≡ replicate 36864 0 }
-{
-    [0; 36864]
-}
-
 // The value of the term that words spell, on a budget, with a table lent.
 pub fn run(words: &[u32], budget: u32, table: &mut [u32]) -> Result<Outcome, Ground>
     ensures { Ran words.now budget table.old table.new result }
 {
     fit(words, budget, table)?;
     if words.len() <= SHORT {
-        let mut ends = short_ends();
+        let mut ends = [0; SHORT];
         return evaluated(words, &mut ends, budget, table);
     }
-    let mut ends = long_ends();
+    let mut ends = [0; LONG];
     evaluated(words, &mut ends, budget, table)
 }

@@ -250,17 +250,9 @@ pub fn bind(
     requires { Extends table.old cells environment from count }
     ensures { ExtendedBy table.old cells environment first from count table.new result }
 {
-    let mut e = environment;
-    let mut c = cells;
-    let mut i = 0;
-    while i < count {
-        let next = extend(table, c, e, first as usize + i, from + i);
-        e = next.environment;
-        c = next.cells;
-        i = i + 1;
+    let mut e = Extended { environment, cells };
+    for i in 0..count {
+        e = extend(table, e.cells, e.environment, first as usize + i, from + i);
     }
-    Extended {
-        environment: e,
-        cells: c,
-    }
+    e
 }

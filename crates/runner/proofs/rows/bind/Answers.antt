@@ -11,17 +11,11 @@ overflow_add-first c = record { fits = omega (arith, c.ranges, c.loop-i-test.tru
 pub overflow_add-from : goal.overflow_add-from
 overflow_add-from c = record { fits = omega (arith, c.loop-i-test.true, c.requires.values, c.well_formed.0) }
 
-pub extend-next-requires : goal.extend-next-requires
-extend-next-requires c = binding-room _ _ _ _ _ _ c.loop-i.invariant c.requires c.loop-i-test.true
-
-pub overflow_add-i : goal.overflow_add-i
-overflow_add-i c = record { fits = omega (arith, c.loop-i-test.true, c.requires.values, c.well_formed.0) }
-
-pub loop-i-smaller : goal.loop-i-smaller
-loop-i-smaller c = omega (arith, c.loop-i-test.true)
+pub extend-e-requires : goal.extend-e-requires
+extend-e-requires c = binding-room _ _ _ _ _ _ c.loop-i.invariant c.requires c.loop-i-test.true
 
 pub loop-i-preserved : goal.loop-i-preserved
-loop-i-preserved c = binding-more _ _ _ _ _ _ c.loop-i.invariant c.loop-i-test.true c.extend-next.auto.table c.extend-next.ensures
+loop-i-preserved c = binding-more _ _ _ _ _ _ c.loop-i.invariant c.loop-i-test.true c.extend-e.auto.table c.extend-e.ensures
 
 pub shape_of-table : goal.shape_of-table
 shape_of-table c = c.loop-i.invariant.sized
