@@ -9,10 +9,10 @@ ghost use Rattle.reader.specs.Code.Stored.{NameTable};
 ghost use Rattle.reader.specs.Code.Reached.{Ended};
 ghost use Rattle.reader.specs.Served.{ServedElements, Served};
 
-use crate::element::{Move, advance};
+use crate::element::take;
 use crate::names::{ENTRIES, enter_base};
 use crate::place::Place;
-use lexer::token::Cursor;
+use lexer::token_reader::token_from;
 use words::ground::Ground;
 
 mod element; // one token after another
@@ -38,29 +38,20 @@ fn read_text(
     requires name_table { NameTable base_names names.old index.old }
     ensures { Ended wanted text.now items.new names.new result }
 {
-    let mut cursor = Cursor { at: 0 };
+    let mut at = 0;
     let mut place = Place {
         next: 0,
         pair: 0,
         depth: 0,
         count: 0,
         missing: wanted,
-        known: 8,
+        known: words::BASE_NAMES,
     };
-    loop {
-        match advance(text, cursor, place, items, names, index) {
-            Move::On(p, c) => {
-                place = p;
-                cursor = c;
-            }
-            Move::Done(counts) => {
-                return Ok(counts);
-            }
-            Move::Refused(ground) => {
-                return Err(ground);
-            }
-        }
+    while let Some(lexeme) = token_from(text, at) {
+        place = take(text, lexeme, place, items, names, index)?;
+        at = lexeme.next;
     }
+    place.counts()
 }
 
 // Both tables wholly zero.

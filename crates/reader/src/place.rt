@@ -2,7 +2,9 @@
 ghost use Rattle.std.specs.Prelude.{◌≡◌, ◌&&◌, cond, ◌+◌, ◌*◌, ◌-◌, ◌≤◌, eqb, length};
 ghost use Rattle.words.specs.Limits.{items_most};
 ghost use Rattle.reader.specs.Code.Placed.{put3, Sound, begun_at, TokenPut, ListOpened, ListClosed};
+ghost use Rattle.reader.specs.Code.Moved.{counts_of};
 
+use crate::Counts;
 use datum::kinds;
 use words::ITEM;
 use words::ground::Ground;
@@ -41,6 +43,22 @@ impl Place {
             return Err(Ground::TooMany);
         }
         Ok(())
+    }
+
+    // The counts at the end of the text: ground 5 where a list is open or an element missing.
+    #[tactic(auto, unfolding(crate::specs::Code::Moved::counts_of))]
+    pub fn counts(self) -> Result<Counts, Ground>
+        requires { self.next ≤ items_most }
+        ensures { result ≡ counts_of self }
+    {
+        if self.is_complete() {
+            Ok(Counts {
+                items: self.next + 1,
+                names: self.known,
+            })
+        } else {
+            Err(Ground::Unbalanced)
+        }
     }
 
     // How many elements the text lacks once one more has begun.

@@ -12,9 +12,6 @@ use Rattle.words.specs.declared.ground.Ground.{Ground}
 use Rattle.words.specs.declared.ground.Ground.TheVariants as G
 use Rattle.reader.specs.declared.Counts.{Counts}
 use Rattle.reader.specs.declared.place.Place.{Place}
-use Rattle.lexer.specs.declared.token.Cursor.{Cursor}
-use Rattle.reader.specs.declared.element.Move as M
-use Rattle.reader.specs.declared.element.Move.TheVariants as MV
 use Rattle.reading.specs.Token.{tokens}
 use Rattle.reading.specs.Numbering.{base_names}
 use Rattle.reading.specs.Elements as E
@@ -35,10 +32,12 @@ use Rattle.words.specs.TableLaws.{zeros-left}
 use Rattle.reader.specs.Code.Index.{index_size}
 use Rattle.reader.proofs.OfCode.IndexLaws.{indexed-none}
 use Rattle.reader.specs.Code.Stored.{NameTable}
-use Rattle.lexer.specs.Told.{meanings_from}
-use Rattle.reader.specs.Code.Placed.{Holds, items_of, items_around, words_of, words_around, open_pair, next_item, placed}
+use Rattle.lexer.specs.Told.{meanings_from, Took}
+use Rattle.reading.specs.Meaning.{Meaning}
+use Rattle.reader.specs.Code.Placed.{Holds, Taken, items_of, items_around, words_of, words_around, open_pair, next_item, placed}
 use Rattle.words.specs.TableLaws.{filled-same}
-use Rattle.reader.specs.Code.Moved.{outcome_from, Whole, Moved, Advanced}
+use Rattle.reader.specs.Code.Moved.{counts_of, outcome_from, Whole, Outcome, Moved}
+use Rattle.reader.specs.Code.MovedLaws.{taken-moved, ended-moved}
 use Rattle.reader.specs.Served.{numbers_of, ServedElements}
 use Rattle.reader.specs.Code.Reached.{Reached}
 
@@ -72,28 +71,30 @@ module _ (wanted : ℕ) (text words bytes index : List ℕ) where
   }
 
   pub reached-first : item_words_least ≤ length words → words ≡ replicate (length words) 0 → NameTable base_names bytes index
-      → Reached wanted text words bytes index (first_place wanted) (record { at = 0 })
+      → Reached wanted text words bytes index (first_place wanted) 0
   unfolding start outcome_from meanings_from elements_of recipe_over tokens
   reached-first l z b = record { reading = start base_names wanted; holds = first_holds l z b; indexed = b.indexed; high = omega arith; same = refl }
 
-  module _ (p : Place) (c : Cursor) (r : Reached wanted text words bytes index p c) (words' bytes' index' : List ℕ) (m : M.Move)
-      (a : Advanced text c.at p words words' bytes bytes' index index' m) where
-    here : (v : M.Move) → m ≡ v → Moved text c.at r.reading words' bytes' index' v
-    here v e = subst (Moved text c.at r.reading words' bytes' index') e (a r.reading r.holds r.indexed)
+  module _ (p : Place) (at : ℕ) (r : Reached wanted text words bytes index p at) where
+    -- a token that is taken
+    module _ (m : Meaning) (next : ℕ) (t : Took text at m next) (words' bytes' index' : List ℕ) (s : Result Place Ground)
+        (a : Taken m p words words' bytes bytes' index index' s) where
+      here : (v : Result Place Ground) → s ≡ v → Moved text at r.reading next words' bytes' index' v
+      here v e =
+          let h = a r.reading r.holds r.indexed in
+          subst (Moved text at r.reading next words' bytes' index') e (taken-moved text at r.reading words' bytes' index' m next t h.1 s h.0)
 
-    pub reached-on : (q : Place) (d : Cursor) → m ≡ MV.On q d → Reached wanted text words' bytes' index' q d
-    reached-on q d e =
-        let o = here (MV.On q d) e in
-        record { reading = o.next; holds = o.holds; indexed = o.indexed; high = o.high; same = sym o.same ∙ r.same }
+      pub reached-on : (q : Place) → s ≡ Ok q → Reached wanted text words' bytes' index' q next
+      reached-on q e =
+          let o = here (Ok q) e in
+          record { reading = o.next; holds = o.holds; indexed = o.indexed; high = o.high; same = sym o.same ∙ r.same }
 
-    pub reached-later : (q : Place) (d : Cursor) → m ≡ MV.On q d → (c.at < d.at) × (d.at ≤ length text)
-    reached-later q d e = let o = here (MV.On q d) e in (o.low, o.high)
+      pub reached-refused : (g : Ground) → s ≡ Err g → elements_of wanted text ≡ refused_for begun (number_of g)
+      reached-refused g e = sym r.same ∙ here (Err g) e
 
-    pub reached-done : (n : Counts) → m ≡ MV.Done n → Whole (elements_of wanted text) n words' bytes'
-    reached-done n e = subst (λ o. Whole o n words' bytes') r.same (here (MV.Done n) e)
-
-    pub reached-refused : (g : Ground) → m ≡ MV.Refused g → elements_of wanted text ≡ refused_for begun (number_of g)
-    reached-refused g e = sym r.same ∙ here (MV.Refused g) e
+    -- no token is left
+    pub reached-end : meanings_from text at ≡ [] → Outcome (elements_of wanted text) words bytes (counts_of p)
+    reached-end e = subst (λ o. Outcome o words bytes (counts_of p)) r.same (ended-moved text at r.reading p words bytes r.holds e)
 
 -- ---- the call
 

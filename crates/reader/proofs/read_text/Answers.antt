@@ -1,51 +1,61 @@
-use Rattle.std.proofs.Common.{arith, refl, ◌∙◌}
+use Rattle.std.proofs.Common.{arith, refl, sym, ◌∙◌}
+use Rattle.std.proofs.lemmas.Result.{err_from_is_err_and}
+use Rattle.lexer.specs.AnsweredLaws.{answered-told, answered-range, answered-short}
 use Rattle.reader.specs.Code.StepLaws.{holds-sound}
 use Rattle.reader.proofs.OfCode.NameStepLaws.{holds-names}
-use Rattle.reader.proofs.OfCode.ServedLaws.{reached-first, reached-on, reached-later, reached-done, reached-refused}
+use Rattle.reader.proofs.OfCode.ServedLaws.{reached-first, reached-on, reached-refused, reached-end}
 use Rattle.reader.proofs.read_text.Goals as goal
 
-pub loop-p-init : goal.loop-p-init
-loop-p-init c =
+pub loop-lexeme-init : goal.loop-lexeme-init
+loop-lexeme-init c =
     let args = c.args in
     let pre = c.requires in
     (refl, refl, refl, reached-first args.wanted args.text.now args.items.now args.names.now args.index.now pre.item_words_least_in_bounds.0 pre.item_words_least_in_bounds.1 pre.name_table)
 
-pub advance-requires : goal.advance-requires
-advance-requires c =
-    let r = c.loop-p.invariant.3 in
+pub take-requires : goal.take-requires
+take-requires c =
+    let r = c.loop-lexeme.invariant.3 in
+    let l = c.in-Some.lexeme in
+    let told = answered-told c.args.text.now c.loop-lexeme.at _ c.token_from.ensures r.high _ c.in-Some.is in
+    let long = answered-range c.args.text.now c.loop-lexeme.at _ c.token_from.ensures l c.in-Some.is in
     record {
-      at_in_bounds = r.high;
-      sound = holds-sound r.reading c.loop-p.place c.loop-p.items c.loop-p.names r.holds;
-      names_sound = holds-names r.reading c.loop-p.place c.loop-p.items c.loop-p.names r.holds c.loop-p.index r.indexed;
+      in_text = (omega (arith, long), told.1.high);
+      short = λ n. answered-short c.args.text.now c.loop-lexeme.at _ c.token_from.ensures l c.in-Some.is n;
+      sound = holds-sound r.reading c.loop-lexeme.place c.loop-lexeme.items c.loop-lexeme.names r.holds;
+      names_sound = holds-names r.reading c.loop-lexeme.place c.loop-lexeme.items c.loop-lexeme.names r.holds c.loop-lexeme.index r.indexed;
     }
 
-pub loop-p-smaller : goal.loop-p-smaller
-loop-p-smaller c =
-    let args = c.args in
-    let l = reached-later args.wanted args.text.now c.loop-p.items c.loop-p.names c.loop-p.index c.loop-p.place c.loop-p.cursor c.loop-p.invariant.3
-    c.advance.new.items c.advance.new.names c.advance.new.index c.advance.result c.advance.ensures c.in-On.p
-    c.in-On.c c.in-On.is in omega (arith, l.0, l.1)
+pub returns-in_err-place : goal.returns-in_err-place
+returns-in_err-place c =
+    let r = c.loop-lexeme.invariant.3 in
+    let l = c.in-Some.lexeme in
+    let told = answered-told c.args.text.now c.loop-lexeme.at _ c.token_from.ensures r.high _ c.in-Some.is in
+    let p = err_from_is_err_and c.from_residual.result c.from_residual.ensures.1 in
+    rw (p.1, p.2)
+    (reached-refused c.args.wanted c.args.text.now c.loop-lexeme.items c.loop-lexeme.names c.loop-lexeme.index c.loop-lexeme.place c.loop-lexeme.at r
+    _ l.next told.1 c.take.new.items c.take.new.names c.take.new.index c.take.result c.take.ensures _ c.in_err-place.was)
 
-pub loop-p-preserved : goal.loop-p-preserved
-loop-p-preserved c =
-    let args = c.args in (
-      c.advance.auto.items ∙ c.loop-p.invariant.0,
-      c.advance.auto.names ∙ c.loop-p.invariant.1,
-      c.advance.auto.index ∙ c.loop-p.invariant.2,
-      reached-on args.wanted args.text.now
-          c.loop-p.items c.loop-p.names c.loop-p.index c.loop-p.place c.loop-p.cursor c.loop-p.invariant.3 c.advance.new.items
-          c.advance.new.names c.advance.new.index c.advance.result c.advance.ensures c.in-On.p c.in-On.c c.in-On.is,
+pub loop-lexeme-smaller : goal.loop-lexeme-smaller
+loop-lexeme-smaller c =
+    let r = c.loop-lexeme.invariant.3 in
+    let told = answered-told c.args.text.now c.loop-lexeme.at _ c.token_from.ensures r.high _ c.in-Some.is in
+    omega (arith, told.1.low, told.1.high)
+
+pub loop-lexeme-preserved : goal.loop-lexeme-preserved
+loop-lexeme-preserved c =
+    let r = c.loop-lexeme.invariant.3 in
+    let l = c.in-Some.lexeme in
+    let told = answered-told c.args.text.now c.loop-lexeme.at _ c.token_from.ensures r.high _ c.in-Some.is in (
+      c.take.auto.items ∙ c.loop-lexeme.invariant.0,
+      c.take.auto.names ∙ c.loop-lexeme.invariant.1,
+      c.take.auto.index ∙ c.loop-lexeme.invariant.2,
+      reached-on c.args.wanted c.args.text.now c.loop-lexeme.items c.loop-lexeme.names c.loop-lexeme.index c.loop-lexeme.place c.loop-lexeme.at r
+          _ l.next told.1 c.take.new.items c.take.new.names c.take.new.index c.take.result c.take.ensures _ c.in_ok-place.was,
     )
 
-pub returns-in-Done : goal.returns-in-Done
-returns-in-Done c =
-    let args = c.args in
-    reached-done args.wanted args.text.now c.loop-p.items c.loop-p.names c.loop-p.index c.loop-p.place c.loop-p.cursor c.loop-p.invariant.3
-    c.advance.new.items c.advance.new.names c.advance.new.index c.advance.result c.advance.ensures c.in-Done.counts c.in-Done.is
-
-pub returns-in-Refused : goal.returns-in-Refused
-returns-in-Refused c =
-    let args = c.args in
-    reached-refused args.wanted args.text.now c.loop-p.items c.loop-p.names c.loop-p.index c.loop-p.place c.loop-p.cursor c.loop-p.invariant.3
-    c.advance.new.items c.advance.new.names c.advance.new.index c.advance.result c.advance.ensures c.in-Refused.ground
-    c.in-Refused.is
+pub returns : goal.returns
+returns c =
+    let r = c.loop-lexeme.invariant.3 in
+    let none = answered-told c.args.text.now c.loop-lexeme.at _ c.token_from.ensures r.high _ c.in_default.is in
+    rw c.counts.ensures
+    (reached-end c.args.wanted c.args.text.now c.loop-lexeme.items c.loop-lexeme.names c.loop-lexeme.index c.loop-lexeme.place c.loop-lexeme.at r none)

@@ -150,3 +150,8 @@ IndexedAfter m r index = (q : Reading) → takes m r ≡ got q → Indexed q.kno
 abbrev pub NamePut : Place → List ℕ → List ℕ → List ℕ → List ℕ → List ℕ → List ℕ → Result Place Ground → Type 0
 NamePut p word words words' bytes bytes' index' s =
     (r : Reading) → Holds r p words bytes → Stepped (takes (name word) r) words' bytes' s × IndexedAfter (name word) r index'
+
+-- a token that means m is taken, whatever reading the code holds
+abbrev pub Taken : Meaning → Place → List ℕ → List ℕ → List ℕ → List ℕ → List ℕ → List ℕ → Result Place Ground → Type 0
+Taken m p words words' bytes bytes' index index' s =
+    (r : Reading) → Holds r p words bytes → Indexed r.known index → Stepped (takes m r) words' bytes' s × IndexedAfter m r index'
