@@ -1,5 +1,5 @@
 -- What the turn of let-syntax and letrec-syntax needs and leaves, by words alone.
-use Rattle.std.specs.Prelude.{◌≡◌, Bool, true, cond, List, ◌++◌, map, ℕ, ◌+◌, ◌*◌, ◌≤◌, ◌<◌, length, take, Ok, Err}
+use Rattle.std.specs.Prelude.{◌≡◌, Bool, true, false, cond, List, ◌++◌, map, ℕ, ◌+◌, ◌*◌, ◌≤◌, ◌<◌, length, take, Ok, Err}
 use Rattle.std.proofs.Math.Option.{none, some}
 use Rattle.words.specs.Options.{traverse}
 use Rattle.recipe.specs.Name.{macro, Name, distinct}
@@ -15,6 +15,8 @@ use Rattle.turns.specs.declared.answers.Turn.TheVariants.{Again, Operands, Over}
 use Rattle.turns.specs.Ends.{End, refused_end, needs, given}
 use Rattle.turns.specs.Numbers.{grown}
 use Rattle.turns.specs.Memory.{item_rate, macros_at, number_most, Placed}
+use Rattle.turns.specs.declared.macros.RulesStand.{RulesStand}
+use Rattle.turns.specs.declared.macros.RulesStand.TheVariants.{Outside, Inside}
 use Rattle.turns.specs.Answers.{TurnEnd, Refuses}
 use Rattle.turns.specs.MacroRules.{Below}
 
@@ -34,6 +36,11 @@ pub record MacroRoom (work macros : List ℕ) (node w : ℕ) (r : Reached) : Typ
   pub placed : Placed work r.top node w
   pub below : Below macros r.macros r.top
   pub space : (limit : ℕ) → is_macros limit (tree_at work node w) ≡ true → MacroSpace (tree_at work node w) work macros r
+
+-- whether the rules stand inside the scope of their names
+abbrev pub is_inside : RulesStand → Bool
+is_inside Outside = false
+is_inside Inside = true
 
 -- the rules forms of a tree whose names are macros from k on; inside their scope or not
 unfoldable pub forms_of : (inside : Bool) → Tree → ℕ → List Tree

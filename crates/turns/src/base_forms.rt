@@ -7,6 +7,7 @@ ghost use Rattle.turns.specs.Memory.{CoreRoom};
 ghost use Rattle.turns.specs.Scopes.{Roomy, QuoteRoom, QuoteLeft, IfLeft, BoundLeft, LambdaLeft};
 
 use crate::answers::{Reached, Refused, Turn};
+use crate::listed::Listed;
 use crate::output;
 use arena::lists;
 use core_term::codes;
@@ -36,32 +37,37 @@ pub fn quoted(
 pub fn condition(
     work: &[u32],
     core: &mut [u32],
-    node: u32,
-    tail: u32,
-    wrap: u32,
+    form: Listed,
     reached: Reached,
 ) -> Result<Turn, Refused>
     requires { CoreRoom core.old reached.at 1 }
-    ensures { IfLeft work.now node tail wrap reached core.old core.new result }
+    ensures { IfLeft work.now form.node form.tail form.wrap reached core.old core.new result }
 {
-    if !lists::is_list_of(work, node, 4) {
+    if !lists::is_list_of(work, form.node, 4) {
         return Err(reached.refused(Ground::BadForm));
     }
-    Ok(Turn::Operands(tail, wrap, output::put_if(core, reached)))
+    Ok(Turn::Operands(form.tail, form.wrap, output::put_if(core, reached)))
 }
 
 // A lambda's binders and words, past its tests: its body stands for it.
-fn lambda_body(work: &mut [u32], core: &mut [u32], node: u32, wrap: u32, reached: Reached) -> Turn
-    requires { (Roomy work.old core.old node wrap reached) × (is_lambda (tree_at work.old node wrap) ≡ true) }
-    ensures { BoundLeft (tree_at work.old node wrap) reached work.old work.new core.old core.new result }
+fn lambda_body(work: &mut [u32], core: &mut [u32], form: Listed, reached: Reached) -> Turn
+    requires { (Roomy work.old core.old form.node form.wrap reached) × (is_lambda (tree_at work.old form.node form.wrap) ≡ true) }
+    ensures { BoundLeft (tree_at work.old form.node form.wrap) reached work.old work.new core.old core.new result }
 {
     let first = reached.variables;
-    let list = lists::element(work, node, 1);
+    let list = lists::element(work, form.node, 1);
     let count = lists::count(work, list);
-    let body = lists::element(work, node, 2);
+    let body = lists::element(work, form.node, 2);
     let at = quotes::put(core, reached.at as usize, &[codes::LAMBDA, first, count]);
     let end = binders::put_numbers(work, list, core, at);
-    let scope = binders::bind(work, node, wrap, Bound::Formals, first, reached.top);
+    let scope = binders::bind(
+        work,
+        form.node,
+        form.wrap,
+        Bound::Formals,
+        first,
+        reached.top,
+    );
     Turn::Again(
         body,
         scope.wrap,
@@ -73,18 +79,17 @@ fn lambda_body(work: &mut [u32], core: &mut [u32], node: u32, wrap: u32, reached
 pub fn lambda(
     work: &mut [u32],
     core: &mut [u32],
-    node: u32,
-    wrap: u32,
+    form: Listed,
     reached: Reached,
 ) -> Result<Turn, Refused>
-    requires { Roomy work.old core.old node wrap reached }
-    ensures { LambdaLeft (tree_at work.old node wrap) reached work.old work.new core.old core.new result }
+    requires { Roomy work.old core.old form.node form.wrap reached }
+    ensures { LambdaLeft (tree_at work.old form.node form.wrap) reached work.old work.new core.old core.new result }
 {
-    if !shapes::is_lambda(work, node) {
+    if !shapes::is_lambda(work, form.node) {
         return Err(reached.refused(Ground::BadForm));
     }
-    if !binders::names_distinct(work, node, wrap, Bound::Formals) {
+    if !binders::names_distinct(work, form.node, form.wrap, Bound::Formals) {
         return Err(reached.refused(Ground::DoubleName));
     }
-    Ok(lambda_body(work, core, node, wrap, reached))
+    Ok(lambda_body(work, core, form, reached))
 }

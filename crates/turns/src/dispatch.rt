@@ -10,6 +10,8 @@ ghost use Rattle.turns.specs.Turns.{TurnedBy};
 ghost use Rattle.turns.specs.Dispatch.{Headed, FormHead, FormRoom, Turns, Applies};
 
 use crate::answers::{Reached, Refused, Turn};
+use crate::listed::Listed;
+use crate::macros::RulesStand;
 use crate::{base_forms, leaf, macros, output, uses};
 use arena::nodes::Node;
 use arena::{lists, nodes};
@@ -17,15 +19,6 @@ use core_term::codes;
 use resolution::names;
 use resolution::names::Meaning;
 use words::ground::Ground;
-
-// A list at hand: its node, its head and its tail, and the wrap that waits on it.
-#[derive(Clone, Copy)]
-struct Listed {
-    node: u32,
-    head: u32,
-    tail: u32,
-    wrap: u32,
-}
 
 // A list whose head finds base form k.
 fn form(
@@ -43,18 +36,17 @@ fn form(
         return Ok(Turn::Over(base_forms::quoted(work, core, list.node, reached)?));
     }
     if k == names::IF {
-        return base_forms::condition(work, core, list.node, list.tail, list.wrap, reached);
+        return base_forms::condition(work, core, list, reached);
     }
     if k == names::LAMBDA {
-        return base_forms::lambda(work, core, list.node, list.wrap, reached);
+        return base_forms::lambda(work, core, list, reached);
     }
     if k == names::LET_SYNTAX {
         return macros::let_syntax(
             work,
             macros,
-            list.node,
-            list.wrap,
-            false,
+            list,
+            RulesStand::Outside,
             words::MACROS,
             reached,
         );
@@ -63,9 +55,8 @@ fn form(
         return macros::let_syntax(
             work,
             macros,
-            list.node,
-            list.wrap,
-            true,
+            list,
+            RulesStand::Inside,
             words::MACROS,
             reached,
         );
@@ -112,7 +103,7 @@ fn named(
             );
             Ok(Turn::Operands(list.tail, list.wrap, headed))
         }
-        Meaning::Macro(n) => uses::macro_use(work, macros, fuel, list.node, list.wrap, n, reached),
+        Meaning::Macro(n) => uses::macro_use(work, macros, fuel, list, n, reached),
         Meaning::Form(k) => form(work, core, macros, k, list, reached),
     }
 }

@@ -4,14 +4,22 @@ ghost use Rattle.std.specs.Prelude.{◌≡◌, true, cond, ℕ};
 ghost use Rattle.expansion.specs.Forms.{is_macros};
 ghost use Rattle.arena.specs.Arena.{tree_at};
 ghost use Rattle.turns.specs.MacroRules.{OneAsk, OneLeft, AllAsk, AllLeft};
-ghost use Rattle.turns.specs.MacroTurns.{MacroRoom, KnownLeft, MacrosLeft};
+ghost use Rattle.turns.specs.MacroTurns.{MacroRoom, is_inside, KnownLeft, MacrosLeft};
 
 use crate::answers::{Reached, Refused, Turn};
+use crate::listed::Listed;
 use arena::{cells, lists};
 use forms::shapes::Bound;
 use forms::{binders, shapes};
 use rule_cells::rules;
 use words::ground::Ground;
+
+// Whether the rules of a form's macros stand inside the scope of its names: letrec-syntax's do, and let-syntax's do not.
+#[derive(Clone, Copy)]
+pub enum RulesStand {
+    Outside,
+    Inside,
+}
 
 // The rules of macro `count`.
 fn one_macro(
@@ -56,33 +64,39 @@ fn all_macros(
 }
 
 // The wrap of a form's rules: that of its scope, or the one round the form.
-fn rules_wrap(inside: bool, scope: u32, outer: u32) -> u32
-    ensures { result ≡ cond inside scope outer }
+fn rules_wrap(stand: RulesStand, scope: u32, outer: u32) -> u32
+    ensures { result ≡ cond (is_inside stand) scope outer }
 {
-    if inside {
-        return scope;
+    match stand {
+        RulesStand::Outside => outer,
+        RulesStand::Inside => scope,
     }
-    outer
 }
 
 // A form's macros, past its tests, whatever limit it has passed: its body stands for it.
 fn macros_body(
     work: &mut [u32],
     macros: &mut [u32],
-    node: u32,
-    wrap: u32,
-    inside: bool,
+    form: Listed,
+    stand: RulesStand,
     reached: Reached,
 ) -> Result<Turn, Refused>
-    requires { (MacroRoom work.old macros.old node wrap reached) × ((limit : ℕ) × (is_macros limit (tree_at work.old node wrap) ≡ true)) }
-    ensures { KnownLeft (tree_at work.old node wrap) inside reached work.old work.new macros.old macros.new result }
+    requires { (MacroRoom work.old macros.old form.node form.wrap reached) × ((limit : ℕ) × (is_macros limit (tree_at work.old form.node form.wrap) ≡ true)) }
+    ensures { KnownLeft (tree_at work.old form.node form.wrap) (is_inside stand) reached work.old work.new macros.old macros.new result }
 {
     let first = reached.macros;
-    let list = lists::element(work, node, 1);
+    let list = lists::element(work, form.node, 1);
     let count = lists::count(work, list);
-    let body = lists::element(work, node, 2);
-    let scope = binders::bind(work, node, wrap, Bound::Keywords, first, reached.top);
-    let within = rules_wrap(inside, scope.wrap, wrap);
+    let body = lists::element(work, form.node, 2);
+    let scope = binders::bind(
+        work,
+        form.node,
+        form.wrap,
+        Bound::Keywords,
+        first,
+        reached.top,
+    );
+    let within = rules_wrap(stand, scope.wrap, form.wrap);
     let Some(top) = all_macros(work, macros, list, within, first, scope.top) else {
         return Err(reached.refused(Ground::BadRules));
     };
@@ -93,20 +107,19 @@ fn macros_body(
 pub fn let_syntax(
     work: &mut [u32],
     macros: &mut [u32],
-    node: u32,
-    wrap: u32,
-    inside: bool,
+    form: Listed,
+    stand: RulesStand,
     limit: u32,
     reached: Reached,
 ) -> Result<Turn, Refused>
-    requires { MacroRoom work.old macros.old node wrap reached }
-    ensures { MacrosLeft limit (tree_at work.old node wrap) inside reached work.old work.new macros.old macros.new result }
+    requires { MacroRoom work.old macros.old form.node form.wrap reached }
+    ensures { MacrosLeft limit (tree_at work.old form.node form.wrap) (is_inside stand) reached work.old work.new macros.old macros.new result }
 {
-    if !shapes::is_macros(work, node, limit) {
+    if !shapes::is_macros(work, form.node, limit) {
         return Err(reached.refused(Ground::BadForm));
     }
-    if !binders::names_distinct(work, node, wrap, Bound::Keywords) {
+    if !binders::names_distinct(work, form.node, form.wrap, Bound::Keywords) {
         return Err(reached.refused(Ground::DoubleName));
     }
-    macros_body(work, macros, node, wrap, inside, reached)
+    macros_body(work, macros, form, stand, reached)
 }

@@ -6,6 +6,7 @@ ghost use Rattle.turns.specs.Memory.{macros_at};
 ghost use Rattle.turns.specs.Uses.{rules_word, outcome_of, UseRoom, UseLeft};
 
 use crate::answers::{Reached, Refused, Turn};
+use crate::listed::Listed;
 use arena::{cells, lists};
 use steps::apply;
 
@@ -25,19 +26,18 @@ pub fn macro_use(
     work: &mut [u32],
     macros: &[u32],
     fuel: u32,
-    node: u32,
-    wrap: u32,
+    list: Listed,
     number: u32,
     reached: Reached,
 ) -> Result<Turn, Refused>
-    requires { UseRoom work.old macros.now fuel node wrap reached }
-    ensures { UseLeft (outcome_of (macros_at work.old macros.now reached.macros) number fuel (tree_at work.old node wrap) reached) fuel reached work.old work.new result }
+    requires { UseRoom work.old macros.now fuel list.node list.wrap reached }
+    ensures { UseLeft (outcome_of (macros_at work.old macros.now reached.macros) number fuel (tree_at work.old list.node list.wrap) reached) fuel reached work.old work.new result }
 {
     let m = reached.steps + 1;
     let limit = fuel - reached.sum;
     let rules = rules_of(macros, reached.macros, number);
-    let operands = lists::rest(work, node);
-    let used = cells::put_mark(work, reached.top, m, wrap);
+    let operands = lists::rest(work, list.node);
+    let used = cells::put_mark(work, reached.top, m, list.wrap);
     match apply::apply(work, used, rules, operands, used, limit) {
         Err(why) => Err(reached.refused(why)),
         Ok(done) => {
