@@ -40,6 +40,7 @@ pub enum Meaning {
 }
 
 // The key of a variable's binding; variables are fewer than items and fuel together.
+#[tactic(auto, unfolding(recipe::specs::Name::binding_key))]
 pub fn variable_key(n: u32) -> u32
     requires { n < 2147483647 }
     ensures { result ≡ binding_key (some (variable n)) }
@@ -48,6 +49,7 @@ pub fn variable_key(n: u32) -> u32
 }
 
 // The key of a macro's binding.
+#[tactic(auto, unfolding(recipe::specs::Name::binding_key))]
 pub fn macro_key(n: u32) -> u32
     requires { n < 2147483647 }
     ensures { result ≡ binding_key (some (macro n)) }
