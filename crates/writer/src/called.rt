@@ -6,6 +6,13 @@ ghost use Rattle.writer.specs.Called.{called_by, Tells};
 
 use core_term::nodes::shape_at;
 
+// Where the names of variables stand, by number: in a table, or in the words of their term.
+#[derive(Clone, Copy)]
+pub enum Called<'a> {
+    Table(&'a [u32]),
+    Words(&'a [u32]),
+}
+
 // Names into the table, from `at` on.
 fn put(names: &[u32], table: &mut [u32], at: usize)
     requires { at + length names.now ≤ length table.old }
@@ -32,6 +39,14 @@ pub fn note(words: &[u32], count: usize, table: &mut [u32])
     }
 }
 
+// The name of variable n, noted in a table.
+fn noted(table: &[u32], n: usize) -> usize
+    requires { n < length table.now }
+    ensures { result ≡ slice_index table.now n }
+{
+    table[n] as usize
+}
+
 // The name of variable n, by going through the words up to its lambda.
 fn find(words: &[u32], n: usize) -> usize
     requires { IsTerm words.now × (n < length (called_in words.now)) }
@@ -54,12 +69,12 @@ fn find(words: &[u32], n: usize) -> usize
 }
 
 // The name of variable n, in a table or in the words.
-pub fn name_of(n: usize, called: &[u32], direct: bool) -> usize
-    requires { (n < length (called_by direct called.now)) × (Tells direct called.now) }
-    ensures { result ≡ slice_index (called_by direct called.now) n }
+pub fn name_of(n: usize, called: Called) -> usize
+    requires { (n < length (called_by called)) × (Tells called) }
+    ensures { result ≡ slice_index (called_by called.entry) n }
 {
-    if direct {
-        return called[n] as usize;
+    match called {
+        Called::Table(table) => noted(table, n),
+        Called::Words(words) => find(words, n),
     }
-    find(called, n)
 }

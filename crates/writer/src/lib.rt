@@ -20,7 +20,7 @@ ghost use Rattle.writer.specs.Walk.{Begins};
 ghost use Rattle.writer.specs.Writing.{text_of};
 ghost use Rattle.writer.specs.Wrote.{has_room, Measured, Wrote};
 
-use called::note;
+use called::{Called, note};
 use core_term::count_variables;
 use names::Pen;
 use term::term;
@@ -43,15 +43,15 @@ fn has_room(words: &[u32], out: &[u8]) -> bool
 }
 
 // Whether out holds the text of words' term. Where it may be too short, a walk measures the text and lays no byte.
-fn text_fits(words: &[u32], names: &[u8], out: &mut [u8], called: &[u32], direct: bool) -> bool
-    requires { (Begins (said_by names.now direct called.now) false words.now) × (Tells direct called.now) × (called_by direct called.now ≡ called_in words.now) }
+fn text_fits(words: &[u32], names: &[u8], out: &mut [u8], called: Called) -> bool
+    requires { (Begins (said_by names.now called) false words.now) × (Tells called) × (called_by called ≡ called_in words.now) }
     ensures { (operations : ℕ) (t : Plain) → term_of operations (has_name names.now) words.now ≡ some t → Measured (text (name_at names.now) t) out.old out.new result }
 {
     if has_room(words, out) {
         return true;
     }
-    let measuring = Pen { ink: false, direct };
-    term(words, names, out, 0, false, called, measuring).is_some()
+    let measuring = Pen { ink: false, called };
+    term(words, names, out, 0, false, measuring).is_some()
 }
 
 // The text of words' term into out, with the names of its variables. No byte is laid before it is known that the text fits.
@@ -60,17 +60,16 @@ fn write_called(
     operations: u32,
     names: &[u8],
     out: &mut [u8],
-    called: &[u32],
-    direct: bool,
+    called: Called,
 ) -> Result<usize, Ground>
-    requires { (is_term operations (has_name names.now) words.now ≡ true) × (Tells direct called.now) × (called_by direct called.now ≡ called_in words.now) }
+    requires { (is_term operations (has_name names.now) words.now ≡ true) × (Tells called) × (called_by called ≡ called_in words.now) }
     ensures { Wrote (text_of words.now operations names.now) out.old out.new result }
 {
-    if !text_fits(words, names, out, called, direct) {
+    if !text_fits(words, names, out, called) {
         return Err(Ground::NoRoom);
     }
-    let laying = Pen { ink: true, direct };
-    let Some(step) = term(words, names, out, 0, false, called, laying) else {
+    let laying = Pen { ink: true, called };
+    let Some(step) = term(words, names, out, 0, false, laying) else {
         return Err(Ground::NoRoom);
     };
     Ok(step.end)
@@ -89,7 +88,13 @@ fn write_noting(
     ensures { Wrote (text_of words.now operations names.now) out.old out.new result }
 {
     note(words, count, table);
-    write_called(words, operations, names, out, &table[..count], true)
+    write_called(
+        words,
+        operations,
+        names,
+        out,
+        Called::Table(&table[..count]),
+    )
 }
 
 // Names of so many variables are noted in a table. Where a term has more, each is found in the words.
@@ -113,5 +118,5 @@ pub fn write(words: &[u32], operations: u32, names: &[u8], out: &mut [u8]) -> Re
         let mut table = [0u32; VARIABLES];
         return write_noting(words, operations, names, out, count, &mut table);
     }
-    write_called(words, operations, names, out, words, false)
+    write_called(words, operations, names, out, Called::Words(words))
 }

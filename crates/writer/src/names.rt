@@ -8,15 +8,15 @@ ghost use Rattle.writer.specs.Pieces.{formals_text};
 ghost use Rattle.writer.specs.OpenedLaws.{Naming};
 
 use crate::bytes::{byte, copy};
-use crate::called::name_of;
+use crate::called::{Called, name_of};
 use crate::numbers::{gap, numbered};
 use words::SLOT;
 
-// What stays the same on a walk: whether bytes are laid, and whether the names of variables stand in a table of their own.
+// What stays the same on a walk: whether bytes are laid, and where the names of variables stand.
 #[derive(Clone, Copy)]
-pub struct Pen {
+pub struct Pen<'a> {
     pub ink: bool,
-    pub direct: bool,
+    pub called: Called<'a>,
 }
 
 // The variables of a lambda: the first, and their count.
@@ -38,21 +38,13 @@ pub fn name(n: usize, names: &[u8], out: &mut [u8], at: usize, ink: bool) -> Opt
 }
 
 // Variable n and its name, as v0.t.
-pub fn variable(
-    n: usize,
-    names: &[u8],
-    out: &mut [u8],
-    at: usize,
-    ink: bool,
-    called: &[u32],
-    direct: bool,
-) -> Option<usize>
-    requires { (at ≤ length out.old) × (Naming (said_by names.now direct called.now) (suc n)) × (Tells direct called.now) }
-    ensures { Left ink (variable_text (name_at names.now) (called_by direct called.now) n) at out.old out.new result }
+pub fn variable(n: usize, names: &[u8], out: &mut [u8], at: usize, pen: Pen) -> Option<usize>
+    requires { (at ≤ length out.old) × (Naming (said_by names.now pen.called) (suc n)) × (Tells pen.called) }
+    ensures { Left pen.entry.ink (variable_text (name_at names.now) (called_by pen.entry.called) n) at out.old out.new result }
 {
-    let a = numbered(b'v', n, out, at, ink)?;
-    let b = byte(b'.', out, a, ink)?;
-    name(name_of(n, called, direct), names, out, b, ink)
+    let a = numbered(b'v', n, out, at, pen.ink)?;
+    let b = byte(b'.', out, a, pen.ink)?;
+    name(name_of(n, pen.called), names, out, b, pen.ink)
 }
 
 // v0.t v1.u: the variables of a lambda, with a space before the first where one is wanted.
@@ -62,20 +54,19 @@ pub fn formals(
     names: &[u8],
     out: &mut [u8],
     at: usize,
-    called: &[u32],
     pen: Pen,
 ) -> Option<usize>
-    requires { (at ≤ length out.old) × (bound.first + bound.count < 18446744073709551616) × (Naming (said_by names.now pen.direct called.now) (bound.first + bound.count)) × (Tells pen.direct called.now) }
-    ensures { Left pen.ink (formals_text (said_by names.now pen.direct called.now) wanted bound.first bound.count) at out.old out.new result }
+    requires { (at ≤ length out.old) × (bound.first + bound.count < 18446744073709551616) × (Naming (said_by names.now pen.called) (bound.first + bound.count)) × (Tells pen.called) }
+    ensures { Left pen.entry.ink (formals_text (said_by names.now pen.entry.called) wanted bound.first bound.count) at out.old out.new result }
 {
     if bound.count == 0 {
         return Some(at);
     }
     let a = gap(wanted, out, at, pen.ink)?;
-    let b = variable(bound.first, names, out, a, pen.ink, called, pen.direct)?;
+    let b = variable(bound.first, names, out, a, pen)?;
     let rest = Bound {
         first: bound.first + 1,
         count: bound.count - 1,
     };
-    formals(true, rest, names, out, b, called, pen)
+    formals(true, rest, names, out, b, pen)
 }

@@ -37,19 +37,12 @@ fn name_opening(
 }
 
 // (lambda (v0.t v1.u) and a space
-fn lambda_opening(
-    bound: Bound,
-    names: &[u8],
-    out: &mut [u8],
-    at: usize,
-    called: &[u32],
-    pen: Pen,
-) -> Option<usize>
-    requires { (at ≤ length out.old) × (bound.first + bound.count < 18446744073709551616) × (Naming (said_by names.now pen.direct called.now) (bound.first + bound.count)) × (Tells pen.direct called.now) }
-    ensures { Left pen.ink (bytes "(lambda (" ++ (formals_text (said_by names.now pen.direct called.now) false bound.first bound.count ++ bytes ") ")) at out.old out.new result }
+fn lambda_opening(bound: Bound, names: &[u8], out: &mut [u8], at: usize, pen: Pen) -> Option<usize>
+    requires { (at ≤ length out.old) × (bound.first + bound.count < 18446744073709551616) × (Naming (said_by names.now pen.called) (bound.first + bound.count)) × (Tells pen.called) }
+    ensures { Left pen.entry.ink (bytes "(lambda (" ++ (formals_text (said_by names.now pen.entry.called) false bound.first bound.count ++ bytes ") ")) at out.old out.new result }
 {
     let a = copy(b"(lambda (", out, at, pen.ink)?;
-    let b = formals(false, bound, names, out, a, called, pen)?;
+    let b = formals(false, bound, names, out, a, pen)?;
     copy(b") ", out, b, pen.ink)
 }
 
@@ -91,14 +84,13 @@ pub fn begin(
     out: &mut [u8],
     at: usize,
     inner: bool,
-    called: &[u32],
     pen: Pen,
 ) -> Option<usize>
-    requires { (at ≤ length out.old) × Opened (said_by names.now pen.direct called.now) node × (Tells pen.direct called.now) }
-    ensures { (x : N.Node) → Stands node x → Left pen.ink (opening (said_by names.now pen.direct called.now) inner x) at out.old out.new result }
+    requires { (at ≤ length out.old) × Opened (said_by names.now pen.called) node × (Tells pen.called) }
+    ensures { (x : N.Node) → Stands node x → Left pen.entry.ink (opening (said_by names.now pen.entry.called) inner x) at out.old out.new result }
 {
     match node {
-        Node::Variable(n) => variable(n as usize, names, out, at, pen.ink, called, pen.direct),
+        Node::Variable(n) => variable(n as usize, names, out, at, pen),
         Node::Operation(n) => numbered(b'o', n as usize, out, at, pen.ink),
         Node::Integer(w) => integer(w, out, at, pen.ink),
         Node::Boolean(w) => boolean(w, out, at, pen.ink),
@@ -111,7 +103,7 @@ pub fn begin(
                 first: first as usize,
                 count: count as usize,
             };
-            lambda_opening(bound, names, out, at, called, pen)
+            lambda_opening(bound, names, out, at, pen)
         }
         Node::Application(_) => byte(b'(', out, at, pen.ink),
     }

@@ -38,19 +38,18 @@ pub fn term(
     out: &mut [u8],
     at: usize,
     inner: bool,
-    called: &[u32],
     pen: Pen,
 ) -> Option<Step>
-    requires { (at ≤ length out.old) × Begins (said_by names.now pen.direct called.now) inner words.now × (Tells pen.direct called.now) }
-    ensures { (t : Plain) (left : List ℕ) → Fits (said_by names.now pen.direct called.now) inner t → words.now ≡ encode t ++ left → Walked pen.ink (text_in (said_by names.now pen.direct called.now) inner t) (length (encode t)) at out.old out.new result }
+    requires { (at ≤ length out.old) × Begins (said_by names.now pen.called) inner words.now × (Tells pen.called) }
+    ensures { (t : Plain) (left : List ℕ) → Fits (said_by names.now pen.entry.called) inner t → words.now ≡ encode t ++ left → Walked pen.entry.ink (text_in (said_by names.now pen.entry.called) inner t) (length (encode t)) at out.old out.new result }
 {
     let node = opened(words)?;
-    let begun = begin(node, names, out, at, inner, called, pen)?;
+    let begun = begin(node, names, out, at, inner, pen)?;
     let shape = shape_of(node);
     if shape.parts == 0 {
         return close(node, shape.own, out, begun, inner, pen.ink);
     }
-    let row = parts(words, shape, names, out, begun, called, pen)?;
+    let row = parts(words, shape, names, out, begun, pen)?;
     close(node, row.used, out, row.end, inner, pen.ink)
 }
 
@@ -62,18 +61,17 @@ fn parts(
     names: &[u8],
     out: &mut [u8],
     at: usize,
-    called: &[u32],
     pen: Pen,
 ) -> Option<Step>
-    requires { (at ≤ length out.old) × Begins (said_by names.now pen.direct called.now) false words.now × (ShapedAt words.now shape) × (Tells pen.direct called.now) }
-    ensures { (t : Plain) (left : List ℕ) → Fits (said_by names.now pen.direct called.now) false t → words.now ≡ encode t ++ left → Walked pen.ink (row_text (said_by names.now pen.direct called.now) t) (length (encode t)) at out.old out.new result }
+    requires { (at ≤ length out.old) × Begins (said_by names.now pen.called) false words.now × (ShapedAt words.now shape) × (Tells pen.called) }
+    ensures { (t : Plain) (left : List ℕ) → Fits (said_by names.now pen.entry.called) false t → words.now ≡ encode t ++ left → Walked pen.entry.ink (row_text (said_by names.now pen.entry.called) t) (length (encode t)) at out.old out.new result }
 {
     let quoted = shape.quoted;
     let mut used = shape.own;
     let mut to = at;
     for i in 0..shape.parts {
         let start = gap(i > 0, out, to, pen.ink)?;
-        let part = term(&words[used..], names, out, start, quoted, called, pen)?;
+        let part = term(&words[used..], names, out, start, quoted, pen)?;
         used += part.used;
         to = part.end;
     }

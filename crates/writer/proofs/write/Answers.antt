@@ -1,7 +1,7 @@
 -- The words are a term's, with so many variables, whose names are noted in a table that holds them all or found in the words.
-use Rattle.std.proofs.Common.{false, sym, refl, ◌∙◌, rules}
+use Rattle.std.proofs.Common.{sym, refl, ◌∙◌, rules}
 use Rattle.core_term.specs.Code.Counted.{counted_none}
-use Rattle.writer.specs.CalledLaws.{called-words}
+use Rattle.writer.specs.Called.{called_by}
 use Rattle.writer.specs.WroteLaws.{no-term, counted-term, counted-names, is-told}
 use Rattle.writer.proofs.write.Goals as goal
 
@@ -21,8 +21,9 @@ write_noting-requires-then-count-le-VARIABLES c =
     (counted-term a.words.now a.operations a.names.now _ k, counted-names a.words.now a.operations a.names.now _ k, search rules)
 
 pub write_called-requires : goal.write_called-requires
+unfolding called_by
 write_called-requires c =
     let a = c.args in
     let k = sym c.count_variables.ensures ∙ c.in-Some.is in
     let t = counted-term a.words.now a.operations a.names.now _ k in
-    (t, λ e. is-told a.words.now a.operations a.names.now t, called-words false a.words.now refl)
+    (t, is-told a.words.now a.operations a.names.now t, refl)

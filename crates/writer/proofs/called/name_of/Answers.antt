@@ -1,21 +1,20 @@
-use Rattle.std.proofs.Common.{ℕ, ◌<◌, List, length, get_or, sym, ap, ◌∙◌, subst, arith}
-use Rattle.writer.specs.CalledLaws.{called-table, called-words}
+use Rattle.std.proofs.Common.{◌<◌, length, slice_index, sym, ap, ◌∙◌, subst}
+use Rattle.writer.specs.declared.called.Called.{Called as Place}
+use Rattle.writer.specs.Called.{called_by, Tells}
 use Rattle.writer.proofs.called.name_of.Goals as goal
 
-pub offset_bounds-called-n : goal.offset_bounds-called-n
-offset_bounds-called-n c =
-    omega (arith, c.requires.0, ap length (called-table c.args.direct c.args.called.now c.if-direct.true), c.well_formed.1.0.1)
+pub noted-requires : goal.noted-requires
+unfolding called_by
+noted-requires c = subst (λ (z : Place). c.args.n < length (called_by z)) c.in-Table.is c.requires.0
 
-pub bounds-called-n : goal.bounds-called-n
-bounds-called-n c = omega (arith, c.requires.0, ap length (called-table c.args.direct c.args.called.now c.if-direct.true))
-
-pub returns-then-direct : goal.returns-then-direct
-returns-then-direct c = ap (λ (l : List ℕ). get_or l c.args.n 0) (sym (called-table c.args.direct c.args.called.now c.if-direct.true))
+pub returns-in-Table : goal.returns-in-Table
+unfolding called_by
+returns-in-Table c = c.noted.ensures ∙ sym (ap (λ (z : Place). slice_index (called_by z) c.args.n) c.in-Table.is)
 
 pub find-requires : goal.find-requires
-find-requires c =
-    (c.requires.1 c.if-direct.false, subst (λ (l : List ℕ). c.args.n < length l) (called-words c.args.direct c.args.called.now c.if-direct.false) c.requires.0)
+unfolding called_by
+find-requires c = (subst Tells c.in-Words.is c.requires.1, subst (λ (z : Place). c.args.n < length (called_by z)) c.in-Words.is c.requires.0)
 
-pub returns : goal.returns
-returns c =
-    c.find.ensures ∙ ap (λ (l : List ℕ). get_or l c.args.n 0) (sym (called-words c.args.direct c.args.called.now c.if-direct.false))
+pub returns-in-Words : goal.returns-in-Words
+unfolding called_by
+returns-in-Words c = c.find.ensures ∙ sym (ap (λ (z : Place). slice_index (called_by z) c.args.n) c.in-Words.is)

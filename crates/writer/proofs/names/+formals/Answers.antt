@@ -7,12 +7,12 @@ use Rattle.writer.proofs.names.+formals.Goals as goal
 pub returns-then-bound-eq0 : goal.returns-then-bound-eq0
 returns-then-bound-eq0 t c =
     let a = c.args in
-    left_is (sym (formals-none (said_by a.names.now a.pen.direct a.called.now) a.wanted a.bound.first _ c.if-bound-eq0.true)) (left-none a.pen.ink _ a.out.now c.requires.0)
+    left_is (sym (formals-none (said_by a.names.now a.pen.called) a.wanted a.bound.first _ c.if-bound-eq0.true)) (left-none a.pen.ink _ a.out.now c.requires.0)
 
 pub returns-in_err-a : goal.returns-in_err-a
 returns-in_err-a t c =
     let a = c.args in
-    left_is (sym (formals-more (said_by a.names.now a.pen.direct a.called.now) _ _ _ c.if-bound-eq0.false)) (left-stops c.gap.ensures _ c.in_err-a.was c.from_residual.ensures)
+    left_is (sym (formals-more (said_by a.names.now a.pen.called) _ _ _ c.if-bound-eq0.false)) (left-stops c.gap.ensures _ c.in_err-a.was c.from_residual.ensures)
 
 pub variable-requires : goal.variable-requires
 variable-requires t c =
@@ -22,7 +22,7 @@ variable-requires t c =
 pub returns-in_err-b : goal.returns-in_err-b
 returns-in_err-b t c =
     let a = c.args in
-    left_is (sym (formals-more (said_by a.names.now a.pen.direct a.called.now) _ _ _ c.if-bound-eq0.false)) (left-then c.gap.ensures _ c.in_ok-a.was (left-stops c.variable.ensures _ c.in_err-b.was c.from_residual-in_err-b.ensures))
+    left_is (sym (formals-more (said_by a.names.now a.pen.called) _ _ _ c.if-bound-eq0.false)) (left-then c.gap.ensures _ c.in_ok-a.was (left-stops c.variable.ensures _ c.in_err-b.was c.from_residual-in_err-b.ensures))
 
 pub formals-requires : goal.formals-requires
 formals-requires t c =
@@ -32,4 +32,4 @@ formals-requires t c =
 pub returns : goal.returns
 returns t c =
     let a = c.args in
-    left_is (sym (formals-more (said_by a.names.now a.pen.direct a.called.now) _ _ _ c.if-bound-eq0.false)) (left-then c.gap.ensures _ c.in_ok-a.was (left-then c.variable.ensures _ c.in_ok-b.was c.formals.ensures))
+    left_is (sym (formals-more (said_by a.names.now a.pen.called) _ _ _ c.if-bound-eq0.false)) (left-then c.gap.ensures _ c.in_ok-a.was (left-then c.variable.ensures _ c.in_ok-b.was c.formals.ensures))

@@ -13,4 +13,4 @@ decreases-term l = 2 * length l.words.now + 1
 
 abbrev pub invariant-parts-loop-i : goal.invariant-parts-loop-i
 invariant-parts-loop-i l =
-    Going (said_by l.names l.pen.direct l.called) l.pen.ink l.quoted l.words l.at l.fn.out l.used (l.fn.shape.parts - l.i) l.to (nat_lt 0 l.i) l.out
+    Going (said_by l.names l.pen.called) l.pen.ink l.quoted l.words l.at l.fn.out l.used (l.fn.shape.parts - l.i) l.to (nat_lt 0 l.i) l.out
