@@ -1,10 +1,7 @@
-use Rattle.std.proofs.Common.{refl, sym, ◌∙◌, arith}
+use Rattle.std.proofs.Common.{sym, ◌∙◌, arith}
 use Rattle.arena.specs.ListLaws.{pair-falls}
 use Rattle.forms.specs.BinderLaws.{opened, names-none, distinct_none, distinct-not, distinct-later}
 use Rattle.forms.proofs.binders.are_distinct.Goals as goal
-
-pub loop-bound-init : goal.loop-bound-init
-loop-bound-init c = (c.requires, refl)
 
 pub is_among-requires : goal.is_among-requires
 is_among-requires c =

@@ -1,13 +1,8 @@
 use Rattle.std.proofs.Common.{sym, ◌∙◌, arith}
 use Rattle.arena.specs.ListLaws.{pair-falls}
 use Rattle.forms.specs.BinderLaws.{opened, names-none}
-use Rattle.forms.proofs.ScopeLaws.{own_below, room-one, number_small, scoping-begins, scoping-ends, scoping-more}
+use Rattle.forms.proofs.ScopeLaws.{own_below, room-one, number_small, scoping-ends, scoping-more}
 use Rattle.forms.proofs.binders.bind_names.Goals as goal
-
-pub loop-bound-init : goal.loop-bound-init
-loop-bound-init c =
-    let a = c.args in
-    scoping-begins a.work.now a.list a.wrap a.bound a.number a.parent a.top c.requires.0 c.requires.1
 
 pub key_of-key-requires : goal.key_of-key-requires
 key_of-key-requires c =
@@ -21,9 +16,6 @@ bind-scope-requires c =
     let s = c.loop-bound.invariant.space in
     let o = opened c.loop-bound.work c.loop-bound.at _ c.word.ensures a.wrap a.bound c.loop-bound-test.true c.loop-bound.invariant.ordinary _ _ _ c.reference-first.ensures c.own_name-own.ensures c.reference-at.ensures in
     (room-one c.loop-bound.work c.loop-bound.at a.wrap a.bound c.loop-bound.n c.loop-bound.scope c.loop-bound.end _ _ s o, own_below c.loop-bound.work c.loop-bound.at a.wrap a.bound c.loop-bound.n c.loop-bound.scope c.loop-bound.end _ _ s o, s.w-below, s.parent-below)
-
-pub overflow_add-n : goal.overflow_add-n
-overflow_add-n c = omega (arith, c.loop-bound.invariant.space.numbers)
 
 pub loop-bound-smaller : goal.loop-bound-smaller
 loop-bound-smaller c =

@@ -3,9 +3,6 @@ use Rattle.arena.specs.ListLaws.{pair-falls}
 use Rattle.forms.specs.BinderLaws.{opened, names-none, among_none, among_first, among_later}
 use Rattle.forms.proofs.binders.is_among.Goals as goal
 
-pub loop-bound-init : goal.loop-bound-init
-loop-bound-init c = (c.requires, refl)
-
 pub returns-then-same_names : goal.returns-then-same_names
 returns-then-same_names c =
     let a = c.args in

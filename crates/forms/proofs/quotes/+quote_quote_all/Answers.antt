@@ -1,5 +1,5 @@
 use Rattle.std.proofs.Common.{ap, length, arith}
-use Rattle.forms.specs.QuoteLaws.{written_as, quoted-empty, quoted-name, quoted-constant, constant-small, quoted-pair, quoted-list, walked_none, walked_end, after-falls, first-low, first-quotable, walked-room, walked_more}
+use Rattle.forms.specs.QuoteLaws.{written_as, quoted-empty, quoted-name, quoted-constant, constant-small, quoted-pair, quoted-list, walked_end, after-falls, first-low, first-quotable, walked-room, walked_more}
 use Rattle.forms.proofs.quotes.+quote_quote_all.Goals as goal
 
 pub quote-put-n-requires : goal.quote-put-n-requires
@@ -50,11 +50,6 @@ pub quote-returns : goal.quote-returns
 quote-returns t c =
     let a = c.args in
     written_as _ _ a.core.now _ a.at _ (quoted-constant a.work.now a.node _ c.word-kind.ensures c.if-kind-eq-EMPTY.false c.if-kind-eq-NAME.false c.if-kind-eq-PAIR.false _ _ c.word-first.ensures c.word-second.ensures) c.put_constant.ensures
-
-pub quote_all-loop-first-init : goal.quote_all-loop-first-init
-quote_all-loop-first-init t c =
-    let a = c.args in
-    walked_none a.work.now a.list a.at a.core.now c.requires.1
 
 pub quote_all-quote-n-requires : goal.quote_all-quote-n-requires
 quote_all-quote-n-requires t c =

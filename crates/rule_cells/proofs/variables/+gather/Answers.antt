@@ -1,13 +1,8 @@
 use Rattle.std.proofs.Common.{sym, ◌∙◌, arith, Some, None}
 use Rattle.arena.specs.ListLaws.{pair-falls}
-use Rattle.rule_cells.specs.GatherLaws.{deeper-most, gathered-stored, gathered-name, gathered-other, gathered-bad, gathering-begins, gathering-more}
+use Rattle.rule_cells.specs.GatherLaws.{deeper-most, gathered-stored, gathered-name, gathered-other, gathered-bad, gathering-more}
 use Rattle.rule_cells.specs.Scopes.{dots_of, literals_of}
 use Rattle.rule_cells.proofs.variables.+gather.Goals as goal
-
-pub loop-head-init : goal.loop-head-init
-loop-head-init t c =
-    let a = c.args in
-    gathering-begins a.work.now a.form.wrap a.node a.n a.vars.now (dots_of a.work.now a.form) (literals_of a.work.now a.form) a.d c.requires.1
 
 pub depth_before-inner-requires : goal.depth_before-inner-requires
 depth_before-inner-requires t c =
