@@ -7,7 +7,8 @@ ghost use Rattle.turns.specs.Memory.{tables, Placed, Ready};
 ghost use Rattle.turns.specs.Turns.{ExpandsBy, ExpandsAllBy};
 ghost use Rattle.expander.specs.Cycle.{Lending};
 
-use arena::cells;
+use arena::nodes::Node;
+use arena::{cells, nodes};
 use turns::answers::{Reached, Refused, Turn};
 use turns::{dispatch, leaf};
 use words::ground::Ground;
@@ -61,19 +62,12 @@ fn operand(
     requires { (Lending operations.now) × (Placed work.old from.top node wrap) × (Ready fuel (size (tree_at work.old node wrap)) from (tables work.old core.old known.old)) }
     ensures { ExpandsBy operations.now fuel (tree_at work.old node wrap) from (tables work.old core.old known.old) (tables work.new core.new known.new) result }
 {
-    let kind = cells::word(work, node, cells::KIND);
-    if kind == cells::NAME {
-        return leaf::bare_name(work, core, operations, node, wrap, from);
+    match nodes::opened(work, node) {
+        Node::Empty => Err(from.refused(Ground::BadForm)),
+        Node::Name(_, _) => leaf::bare_name(work, core, operations, node, wrap, from),
+        Node::Pair(_, _) => expression(work, core, known, operations, fuel, node, wrap, from),
+        Node::Constant(kind, first, second) => Ok(leaf::constant(core, kind, first, second, from)),
     }
-    if kind == cells::PAIR {
-        return expression(work, core, known, operations, fuel, node, wrap, from);
-    }
-    if kind == cells::EMPTY {
-        return Err(from.refused(Ground::BadForm));
-    }
-    let first = cells::word(work, node, cells::FIRST);
-    let second = cells::word(work, node, cells::SECOND);
-    Ok(leaf::constant(core, kind, first, second, from))
 }
 
 #[cycle(expression_operand_operands)]

@@ -8,6 +8,7 @@ use Rattle.turns.specs.Memory.{tables}
 use Rattle.turns.specs.Turns.{Lent}
 use Rattle.turns.specs.Leaves.{Leaf, name_end}
 use Rattle.turns.specs.LeafLaws.{found_in}
+use Rattle.turns.specs.DispatchLaws.{opened-as}
 use Rattle.expander.specs.CycleLaws.{going_start, walking_start}
 use Rattle.expander.specs.CycleCallLaws.{going-ready, again-falls, again-going, spread-asks, spread-over, over-right, stopped-right, operands_end, operand-asks, operand-refused, next-falls, operand-walking}
 use Rattle.expander.specs.OperandLaws.{operand-room, name-expands, empty-expands, constant-asks, constant-expands}
@@ -101,37 +102,25 @@ expression-returns-in-Over t c =
     λ o lent. over-right o c.args.fuel _ _ _ _ _ _ _ (c.loop-n.invariant o lent) after c.turn.result (c.turn.ensures o lent) _ (c.in_ok-n.was ∙ ap Ok c.in-Over.is)
 
 pub operand-bare_name-requires : goal.operand-bare_name-requires
-operand-bare_name-requires t c =
-    let a = c.args in
-    operand-room a.work.now a.core.now a.known.now a.fuel a.node a.wrap a.from c.requires.1 c.requires.2
-
-pub operand-returns-then-kind-eq-NAME : goal.operand-returns-then-kind-eq-NAME
-operand-returns-then-kind-eq-NAME t c =
-    let a = c.args in
-    λ o lent. name-expands a.work.now a.core.now a.known.now a.fuel a.node a.wrap a.from c.requires.1 c.requires.2 _ c.word-kind.ensures o c.if-kind-eq-NAME.true _ c.bare_name.result (found_in o a.operations.now (name_at a.work.now a.node a.wrap) lent (λ f. Leaf (name_end f) 2 a.from a.core.now c.bare_name.new.core c.bare_name.result) c.bare_name.ensures)
+operand-bare_name-requires t c = let a = c.args in operand-room a.work.now a.core.now a.known.now a.fuel a.node a.wrap a.from c.requires.1 c.requires.2
 
 pub operand-expression-requires : goal.operand-expression-requires
-operand-expression-requires t c =
-    (omega (arith, c.decreases), c.requires)
-
-pub operand-returns-then-kind-eq-PAIR : goal.operand-returns-then-kind-eq-PAIR
-operand-returns-then-kind-eq-PAIR t c =
-    c.expression.ensures
-
-pub operand-returns-then-kind-eq-EMPTY : goal.operand-returns-then-kind-eq-EMPTY
-operand-returns-then-kind-eq-EMPTY t c =
-    let a = c.args in
-    λ o lent. empty-expands a.work.now a.core.now a.known.now a.fuel a.node a.wrap a.from c.requires.1 c.requires.2 _ c.word-kind.ensures o c.if-kind-eq-EMPTY.true _ c.refused.ensures
+operand-expression-requires t c = (omega (arith, c.decreases), c.requires)
 
 pub operand-constant-requires : goal.operand-constant-requires
-operand-constant-requires t c =
-    let a = c.args in
-    constant-asks a.work.now a.core.now a.known.now a.fuel a.node a.wrap a.from c.requires.1 c.requires.2 _ c.word-kind.ensures c.if-kind-eq-EMPTY.false c.if-kind-eq-NAME.false c.if-kind-eq-PAIR.false _ _ c.word-first.ensures c.word-second.ensures
+operand-constant-requires t c = let a = c.args in constant-asks a.work.now a.core.now a.known.now a.fuel a.node a.wrap a.from c.requires.1 c.requires.2 _ _ _ (opened-as a.work.now a.node _ _ c.in-Constant.is c.opened.ensures)
 
-pub operand-returns : goal.operand-returns
-operand-returns t c =
+pub operand-returns-in-Empty : goal.operand-returns-in-Empty
+operand-returns-in-Empty t c = let a = c.args in λ o lent. empty-expands a.work.now a.core.now a.known.now a.fuel a.node a.wrap a.from c.requires.1 c.requires.2 (opened-as a.work.now a.node _ _ c.in-Empty.is c.opened.ensures) o _ c.refused.ensures
+
+pub operand-returns-in-Name : goal.operand-returns-in-Name
+operand-returns-in-Name t c =
     let a = c.args in
-    λ o lent. constant-expands a.work.now a.core.now a.known.now a.fuel a.node a.wrap a.from c.requires.1 c.requires.2 _ c.word-kind.ensures c.if-kind-eq-EMPTY.false c.if-kind-eq-NAME.false c.if-kind-eq-PAIR.false _ _ c.word-first.ensures c.word-second.ensures o _ (Ok c.constant.result) c.constant.ensures
+    λ o lent. name-expands a.work.now a.core.now a.known.now a.fuel a.node a.wrap a.from c.requires.1 c.requires.2 _ _ (opened-as a.work.now a.node _ _ c.in-Name.is c.opened.ensures) o _ c.bare_name.result
+    (found_in o a.operations.now (name_at a.work.now a.node a.wrap) lent (λ f. Leaf (name_end f) 2 a.from a.core.now c.bare_name.new.core c.bare_name.result) c.bare_name.ensures)
+
+pub operand-returns-in-Constant : goal.operand-returns-in-Constant
+operand-returns-in-Constant t c = let a = c.args in λ o lent. constant-expands a.work.now a.core.now a.known.now a.fuel a.node a.wrap a.from c.requires.1 c.requires.2 _ _ _ (opened-as a.work.now a.node _ _ c.in-Constant.is c.opened.ensures) o _ (Ok c.constant.result) c.constant.ensures
 
 pub operands-loop-work-init : goal.operands-loop-work-init
 operands-loop-work-init t c =

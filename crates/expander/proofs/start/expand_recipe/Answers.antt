@@ -7,8 +7,8 @@ use Rattle.expander.proofs.start.expand_recipe.Goals as goal
 
 pub run-requires : goal.run-requires
 unfolding item_count
-run-requires c =     (c.requires, omega (arith, c.if-items-fuel.true))
+run-requires c = (c.requires, omega (arith, c.if-items-fuel.true))
 
 pub run-requires-2 : goal.run-requires-2
-run-requires-2 c =    let a = c.args in
+run-requires-2 c = let a = c.args in
     (c.requires, omega (arith, start-most a.items.now a.work.now a.core.now a.operations.now a.fuel c.requires))

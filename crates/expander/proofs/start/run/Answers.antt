@@ -4,12 +4,12 @@ use Rattle.expander.specs.StartLaws.{start_fits, start-lending, start-placed, st
 use Rattle.expander.proofs.start.run.Goals as goal
 
 pub lay_out-top-requires : goal.lay_out-top-requires
-lay_out-top-requires c =    let a = c.args in
+lay_out-top-requires c = let a = c.args in
     let l = c.requires.0 in
     (l.begun.layout, start_fits a.items.now a.work.now a.core.now a.operations.now a.fuel l)
 
 pub expression-requires : goal.expression-requires
-expression-requires c =    let a = c.args in
+expression-requires c = let a = c.args in
     let l = c.requires.0 in
     let second = c.element-body.ensures in
     let from_is = c.start-from.ensures in (
@@ -19,7 +19,7 @@ expression-requires c =    let a = c.args in
     )
 
 pub returns : goal.returns
-returns c =    let a = c.args in
+returns c = let a = c.args in
     let laid = c.lay_out-top.ensures in
     let second = c.element-body.ensures in
     let from_is = c.start-from.ensures in
