@@ -84,7 +84,7 @@ fn template_name(
     if dots::is_ellipsis(work, scope.dots, node, scope.wrap) {
         return None;
     }
-    let Some((k, e)) = variables::find(work, vars, 0, scope.count, node, scope.wrap) else {
+    let Some((k, e)) = variables::find(work, vars, scope.count, node, scope.wrap) else {
         let r = constructors::put_insert(work, top, node, scope.wrap);
         return Some(Parsed { at: r, top: r });
     };

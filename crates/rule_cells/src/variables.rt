@@ -57,12 +57,12 @@ pub fn is_variable(work: &[u32], form: Form, node: u32) -> bool
     true
 }
 
-// Which of `left` variables from number i on a name is the same as: its number and its depth.
-pub fn find(work: &[u32], vars: &[u32], i: u32, left: u32, node: u32, w: u32) -> Option<(u32, u32)>
-    requires { (i + left ≤ 16) × (32 ≤ length vars.now) }
-    ensures { option_of result ≡ variable_from i (variables_from work.now w vars.now i left) (name_at work.now node w) }
+// Which of the table's variables a name is the same as: its number and its depth.
+pub fn find(work: &[u32], vars: &[u32], count: u32, node: u32, w: u32) -> Option<(u32, u32)>
+    requires { (count ≤ 16) × (32 ≤ length vars.now) }
+    ensures { option_of result ≡ variable_from 0 (variables_from work.now w vars.now 0 count) (name_at work.now node w) }
 {
-    for k in i..i + left {
+    for k in 0..count {
         let at = 2 * (k as usize);
         if names::same_names(work, vars[at], w, node, w) {
             return Some((k, vars[at + 1]));
@@ -102,7 +102,7 @@ fn add(work: &[u32], vars: &mut [u32], node: u32, w: u32, d: u32, n: u32) -> Opt
     if words::VARIABLES <= n {
         return None;
     }
-    if find(work, vars, 0, n, node, w).is_some() {
+    if find(work, vars, n, node, w).is_some() {
         return None;
     }
     let at = 2 * (n as usize);

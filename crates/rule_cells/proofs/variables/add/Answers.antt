@@ -13,7 +13,7 @@ returns-then-n-ge-VARIABLES c =
 
 pub find-requires : goal.find-requires
 find-requires c =
-    (omega arith, c.requires.0)
+    (c.requires.1.most, c.requires.0)
 
 pub returns-then-is_some : goal.returns-then-is_some
 returns-then-is_some c =

@@ -6,7 +6,7 @@ use Rattle.rule_cells.proofs.variables.find.Goals as goal
 pub loop-k-init : goal.loop-k-init
 loop-k-init c =
     let a = c.args in
-    known-all a.work.now a.w a.vars.now (name_at a.work.now a.node a.w) a.i a.left
+    known-all a.work.now a.w a.vars.now (name_at a.work.now a.node a.w) a.count
 
 pub returns-then-same_names : goal.returns-then-same_names
 returns-then-same_names c =

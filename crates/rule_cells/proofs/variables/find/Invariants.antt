@@ -1,5 +1,5 @@
 -- `variables::find`: what the variables that are left say of the name is what all of them say.
-use Rattle.std.proofs.Common.{◌≡◌, ◌+◌}
+use Rattle.std.proofs.Common.{◌≡◌}
 use Rattle.expansion.specs.Rules.{variable_from}
 use Rattle.arena.specs.Arena.{name_at}
 use Rattle.rule_cells.specs.Variables.{variables_from, known_from}
@@ -7,4 +7,4 @@ use Rattle.rule_cells.proofs.variables.find.Given as goal
 
 abbrev pub invariant-loop-k : goal.invariant-loop-k
 invariant-loop-k l =
-    known_from l.work l.w l.vars (name_at l.work l.node l.w) (l.i + l.left) l.k ≡ variable_from l.i (variables_from l.work l.w l.vars l.i l.left) (name_at l.work l.node l.w)
+    known_from l.work l.w l.vars (name_at l.work l.node l.w) l.count l.k ≡ variable_from 0 (variables_from l.work l.w l.vars 0 l.count) (name_at l.work l.node l.w)
