@@ -10,7 +10,7 @@ use Rattle.words.specs.Limits.{pattern_variables_most}
 use Rattle.recipe.specs.Tree.{element, tail}
 use Rattle.expansion.specs.Rules.{variable_p, pair_p, ellipsis_p}
 use Rattle.expansion.specs.Match.{holds, part}
-use Rattle.arena.specs.Arena.{word_at, reference_at, tree_at}
+use Rattle.arena.specs.Arena.{word_at, reference_at}
 use Rattle.arena.specs.ArenaLaws.{word_at-none, reference_at-most}
 use Rattle.arena.specs.Lists.{Means}
 use Rattle.rule_cells.specs.Cells.{pattern_at}

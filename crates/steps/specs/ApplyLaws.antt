@@ -1,10 +1,10 @@
 -- Laws of one macro step, one for each way through the code.
-use Rattle.std.specs.Prelude.{◌≡◌, Ok, Err, Bool, true, false, List, ℕ, zero, suc, ◌-◌, replicate}
+use Rattle.std.specs.Prelude.{◌≡◌, Some, None, Ok, Err, Bool, true, false, List, ℕ, zero, suc, ◌-◌, replicate}
 use Rattle.std.specs.declared.result.Result.{Result}
 use Rattle.std.proofs.Math.Path.{refl, sym, subst}
 use Rattle.std.proofs.Common.{ap, ◌∙◌, arith}
 use Rattle.std.proofs.Math.Option.{Option, some}
-use borrow.Author.Tests.{ne_eqb, le-leb, lt-leb}
+use borrow.Author.Tests.{le-leb, lt-leb}
 use Rattle.words.specs.Each.{Each, none_of, also, Given, missing, given, given-at}
 use Rattle.words.specs.declared.ground.Ground.{Ground}
 use Rattle.words.specs.declared.ground.Ground.TheVariants.{NoRule, UnequalLists, OutOfFuel}
@@ -84,18 +84,18 @@ zeros-under zero top i = omega arith
 zeros-under (suc n) top zero = omega arith
 zeros-under (suc n) top (suc i) = zeros-under n top i
 
-module _ (old : List ℕ) (top rules u w limit : ℕ) (ok : Stepping old top rules u w limit) (rule : ℕ) (found : FirstFit old rules u w rule) where
+module _ (old : List ℕ) (top rules u w limit : ℕ) (ok : Stepping old top rules u w limit) where
   abbrev Used : Tree
   Used = tree_at old u w
 
-  pub apply-none : rule ≡ 0 → Stepped old old top rules u w limit (Err NoRule)
+  pub apply-none : FirstFit old rules u w None → Stepped old old top rules u w limit (Err NoRule)
   unfolding rule_or step_of Answers
-  apply-none e = record { is = subst (λ o. Answers old top (step_of limit Used o) (Err NoRule)) found.is (rw e refl); kept = refl }
+  apply-none found = record { is = subst (λ o. Answers old top (step_of limit Used o) (Err NoRule)) found.is refl; kept = refl }
 
-  module _ (some-rule : rule ≡ 0 → ⊥) (p t : ℕ) (p-is : p ≡ reference_at old rule 3) (t-is : t ≡ reference_at old rule 2) (env : List ℕ) (binds : Binds old p u (replicate table_words 0) env) where
+  module _ (rule : ℕ) (found : FirstFit old rules u w (Some rule)) (p t : ℕ) (p-is : p ≡ reference_at old rule 3) (t-is : t ≡ reference_at old rule 2) (env : List ℕ) (binds : Binds old p u (replicate table_words 0) env) where
     rule-is : (first_fit (rules_at old rules) Used).1 ≡ some (rule_at old rule)
     unfolding rule_or
-    rule-is = sym found.is ∙ rw (ne_eqb rule 0 some-rule) refl
+    rule-is = sym found.is
 
     sound-here : Sound (pattern_at old p) 0 (template_at old t)
     unfolding rule_at

@@ -6,8 +6,6 @@ use crate::{build, fits};
 use arena::cells;
 use environments::{agree, bind, environment};
 use words::ground::Ground;
-use words::packed;
-use words::packed::Built;
 
 // A result: its root, and how many items it has.
 #[derive(Clone, Copy)]
@@ -29,15 +27,15 @@ fn transcribe(
     requires { Transcribing work.old top env.now w t limit }
     ensures { Transcribed work.old work.new top env.now w t limit result }
 {
-    let Built::At(root, left) = packed::parts(build::build(work, top, limit, env, w, t)) else {
+    let Some(built) = build::build(work, top, limit, env, w, t) else {
         if agree::lengths_agree(work, env, t) {
             return Err(Ground::OutOfFuel);
         }
         return Err(Ground::UnequalLists);
     };
     Ok(Applied {
-        root,
-        cost: limit - left,
+        root: built.at,
+        cost: limit - built.left,
     })
 }
 
@@ -53,10 +51,9 @@ pub fn apply(
     requires { Stepping work.old top rules u w limit }
     ensures { Stepped work.old work.new top rules u w limit result }
 {
-    let rule = fits::first_fit(work, rules, u, w);
-    if rule == 0 {
+    let Some(rule) = fits::first_fit(work, rules, u, w) else {
         return Err(Ground::NoRule);
-    }
+    };
     let p = cells::reference(work, rule, rule_cells::cells::PATTERN);
     let t = cells::reference(work, rule, rule_cells::cells::TEMPLATE);
     let mut env = [0u32; environment::WORDS];

@@ -1,5 +1,5 @@
 -- The proof of the cycle {bind}. The measure is the pattern's reference.
-use Rattle.std.proofs.Common.{ℕ, ◌<◌, sym, subst, inl, inr, arith, rules}
+use Rattle.std.proofs.Common.{ℕ, ◌<◌, sym, subst, arith, rules}
 use borrow.Fn.Kinds.{In}
 use borrow.Fn.PlainCycle.{Measures, is, falls, and}
 use Rattle.environments.proofs.bind.bind.Reads as bind

@@ -2,9 +2,6 @@
 use Rattle.std.proofs.Common.{refl, rules, ne_eqb}
 use Rattle.environments.proofs.entries.next.Statement.{statement}
 use Rattle.environments.proofs.entries.next.Tie as tie
-use Rattle.environments.proofs.entries.next.Reads as reads
-use Rattle.environments.proofs.entries.next.Lts as lts
-use Rattle.std.proofs.num.wrapping_add_u32.Reads as wrapping-add-u32-reads
 use Rattle.environments.specs.Columns.{advance}
 
 returns : tie.Need-returns-then-x-eq1

@@ -2,7 +2,7 @@
 use Rattle.environments.proofs.environment.begin.Statement.{statement}
 use Rattle.environments.proofs.environment.begin.Tie as tie
 use Rattle.environments.proofs.environment.begin.Lts as lts
-use Rattle.std.proofs.Common.{◌≡◌, ◌+◌, ◌-◌, ◌≤◌, length, ◌∙◌, ⊎_elim, arith, rules}
+use Rattle.std.proofs.Common.{◌≡◌, ◌+◌, ◌-◌, ◌≤◌, length, ◌∙◌, arith, rules}
 use Rattle.words.specs.Limits.{pattern_variables_most}
 use Rattle.environments.specs.Entries.{table_words}
 use Rattle.environments.specs.EntryLaws.{BegunBelow, begins, begins-more, begun_all, MovingBelow, moving-all, moving-less, moving-ends}

@@ -2,7 +2,7 @@
 use Rattle.environments.proofs.environment.enter.Statement.{statement}
 use Rattle.environments.proofs.environment.enter.Tie as tie
 use Rattle.environments.proofs.environment.enter.Lts as lts
-use Rattle.std.proofs.Common.{◌≡◌, ◌-◌, ◌≤◌, length, ◌∙◌, ⊎_elim, arith, rules}
+use Rattle.std.proofs.Common.{◌≡◌, ◌-◌, ◌≤◌, length, ◌∙◌, arith, rules}
 use Rattle.environments.specs.Entries.{table_words}
 use Rattle.environments.specs.EntryLaws.{Entering, enter-begins, enter-flat, enter-next, entered_all}
 

@@ -2,7 +2,7 @@
 use Rattle.environments.proofs.marks.keep.Statement.{statement}
 use Rattle.environments.proofs.marks.keep.Tie as tie
 use Rattle.environments.proofs.marks.keep.Lts as lts
-use Rattle.std.proofs.Common.{◌≡◌, ℕ, ◌-◌, ◌≤◌, length, ◌∙◌, subst, ⊎_elim, arith, rules}
+use Rattle.std.proofs.Common.{◌≡◌, ℕ, ◌-◌, ◌≤◌, length, ◌∙◌, subst, arith, rules}
 use Rattle.words.specs.Limits.{pattern_variables_most}
 use Rattle.environments.specs.Entries.{table_words}
 use Rattle.environments.specs.Marks.{Keeps}
