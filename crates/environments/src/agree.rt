@@ -60,28 +60,18 @@ fn agree(work: &[u32], env: &[u32; environment::WORDS], t: u32, round: Option<u3
     requires { Plain (template_at work.now t) }
     ensures { AgreesIn work.now env.now t round result }
 {
-    let tag = arena::cells::word(work, t, cells::TAG);
-    if tag < cells::PAIR {
-        return true;
-    }
-    if cells::ELLIPSIS < tag {
-        return true;
-    }
     let head = arena::cells::reference(work, t, cells::HEAD);
     let rest = arena::cells::reference(work, t, cells::REST);
-    if tag == cells::PAIR {
-        if !agree(work, env, head, round) {
-            return false;
+    match arena::cells::word(work, t, cells::TAG) {
+        cells::PAIR => agree(work, env, head, round) && agree(work, env, rest, round),
+        cells::ELLIPSIS => {
+            let Ok(c) = counted(work, env, head, round) else {
+                return false;
+            };
+            agree(work, env, head, Some(c)) && agree(work, env, rest, round)
         }
-        return agree(work, env, rest, round);
+        _ => true,
     }
-    let Ok(c) = counted(work, env, head, round) else {
-        return false;
-    };
-    if !agree(work, env, head, Some(c)) {
-        return false;
-    }
-    agree(work, env, rest, round)
 }
 
 // Whether driving lists are of one length in all of a template.

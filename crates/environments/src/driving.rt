@@ -21,25 +21,23 @@ fn drivers(
     ensures { DrivenBy work.now env.now j t inner (Ok before) result }
 {
     let tag = arena::cells::word(work, t, cells::TAG);
-    if tag == cells::VARIABLE {
-        let d = arena::cells::word(work, t, cells::DEPTH);
-        if d <= j {
-            return Ok(before);
+    match tag {
+        cells::VARIABLE => {
+            let d = arena::cells::word(work, t, cells::DEPTH);
+            if d <= j {
+                return Ok(before);
+            }
+            let k = arena::cells::word(work, t, cells::NUMBER);
+            lengths::also(before, taken::copies(work, env, k, d - j - 1, inner))
         }
-        let k = arena::cells::word(work, t, cells::NUMBER);
-        return lengths::also(before, taken::copies(work, env, k, d - j - 1, inner));
+        cells::PAIR | cells::ELLIPSIS => {
+            let head = arena::cells::reference(work, t, cells::HEAD);
+            let first = drivers(work, env, lengths::deeper(tag, j), head, inner, before)?;
+            let rest = arena::cells::reference(work, t, cells::REST);
+            drivers(work, env, j, rest, inner, first)
+        }
+        _ => Ok(before),
     }
-    if tag < cells::PAIR {
-        return Ok(before);
-    }
-    if cells::ELLIPSIS < tag {
-        return Ok(before);
-    }
-    let head = arena::cells::reference(work, t, cells::HEAD);
-    let i = lengths::deeper(tag, j);
-    let first = drivers(work, env, i, head, inner, before)?;
-    let rest = arena::cells::reference(work, t, cells::REST);
-    drivers(work, env, j, rest, inner, first)
 }
 
 // How many copies an element gets in copy `inner` of what is round it: as many as each list that drives it has elements, none where there

@@ -141,8 +141,8 @@ fn fill_rows(work: &mut [u32], p: u32, u: u32, c: u32, x: Free) -> Behind
             p,
             first,
             Free {
-                slot: slot,
-                top: top,
+                slot,
+                top,
             },
         );
         node = tail;
@@ -150,8 +150,5 @@ fn fill_rows(work: &mut [u32], p: u32, u: u32, c: u32, x: Free) -> Behind
         top = y.top;
         i += 1;
     }
-    Behind {
-        node: node,
-        top: top,
-    }
+    Behind { node, top }
 }

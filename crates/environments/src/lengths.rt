@@ -49,25 +49,23 @@ fn drivers(
     ensures { Drives work.now env.now j t (Ok before) result }
 {
     let tag = arena::cells::word(work, t, cells::TAG);
-    if tag == cells::VARIABLE {
-        let d = arena::cells::word(work, t, cells::DEPTH);
-        if d <= j {
-            return Ok(before);
+    match tag {
+        cells::VARIABLE => {
+            let d = arena::cells::word(work, t, cells::DEPTH);
+            if d <= j {
+                return Ok(before);
+            }
+            let k = arena::cells::word(work, t, cells::NUMBER);
+            also(before, environment::copies(work, env, k, d - j - 1))
         }
-        let k = arena::cells::word(work, t, cells::NUMBER);
-        return also(before, environment::copies(work, env, k, d - j - 1));
+        cells::PAIR | cells::ELLIPSIS => {
+            let head = arena::cells::reference(work, t, cells::HEAD);
+            let first = drivers(work, env, deeper(tag, j), head, before)?;
+            let rest = arena::cells::reference(work, t, cells::REST);
+            drivers(work, env, j, rest, first)
+        }
+        _ => Ok(before),
     }
-    if tag < cells::PAIR {
-        return Ok(before);
-    }
-    if cells::ELLIPSIS < tag {
-        return Ok(before);
-    }
-    let head = arena::cells::reference(work, t, cells::HEAD);
-    let i = deeper(tag, j);
-    let first = drivers(work, env, i, head, before)?;
-    let rest = arena::cells::reference(work, t, cells::REST);
-    drivers(work, env, j, rest, first)
 }
 
 // How many copies an element gets: as many as each list that drives it has elements, none where there is no such list.

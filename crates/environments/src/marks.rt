@@ -28,25 +28,22 @@ pub fn mark(work: &[u32], j: u32, t: u32, marks: &mut [u32])
     ensures { Marks work.now j t marks.old marks.new }
 {
     let tag = arena::cells::word(work, t, cells::TAG);
-    if tag == cells::VARIABLE {
-        let d = arena::cells::word(work, t, cells::DEPTH);
-        if j < d {
-            let k = arena::cells::word(work, t, cells::NUMBER);
-            marks[place(k, d - j - 1)] = 1;
+    match tag {
+        cells::VARIABLE => {
+            let d = arena::cells::word(work, t, cells::DEPTH);
+            if j < d {
+                let k = arena::cells::word(work, t, cells::NUMBER);
+                marks[place(k, d - j - 1)] = 1;
+            }
         }
-        return;
+        cells::PAIR | cells::ELLIPSIS => {
+            let head = arena::cells::reference(work, t, cells::HEAD);
+            let rest = arena::cells::reference(work, t, cells::REST);
+            mark(work, lengths::deeper(tag, j), head, marks);
+            mark(work, j, rest, marks);
+        }
+        _ => {}
     }
-    if tag < cells::PAIR {
-        return;
-    }
-    if cells::ELLIPSIS < tag {
-        return;
-    }
-    let head = arena::cells::reference(work, t, cells::HEAD);
-    let rest = arena::cells::reference(work, t, cells::REST);
-    let i = lengths::deeper(tag, j);
-    mark(work, i, head, marks);
-    mark(work, j, rest, marks);
 }
 
 // Whether one of the first n variables' lists, taken under this many indices, is marked.
@@ -71,13 +68,11 @@ pub fn keep(env: &[u32; environment::WORDS], marks: &[u32], kept: &mut [u32; env
 {
     let from: &[u32] = env;
     let to: &mut [u32] = kept;
-    let mut k: u32 = 0;
-    while k < words::VARIABLES {
+    for k in 0..words::VARIABLES {
         if marks[place(k, 1)] == 1 {
             let x = environment::get(from, k as usize);
             environment::put(to, k as usize, x);
         }
-        k += 1;
     }
 }
 

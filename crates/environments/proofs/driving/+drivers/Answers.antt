@@ -7,41 +7,41 @@ use Rattle.environments.proofs.driving.+drivers.Goals as goal
 pub returns-then-d-j : goal.returns-then-d-j
 returns-then-d-j t c =
     let args' = c.args in
-    driven-few args'.work.now args'.env.now args'.t _ c.word-tag.ensures args'.j args'.inner (Ok args'.before) _ c.if-tag-eq-VARIABLE.true c.word-d.ensures c.if-d-j.true
+    driven-few args'.work.now args'.env.now args'.t _ c.word-tag.ensures args'.j args'.inner (Ok args'.before) _ c.in-1.is c.word-d.ensures c.if-d-j.true
 
-pub returns-then-tag-eq-VARIABLE : goal.returns-then-tag-eq-VARIABLE
-returns-then-tag-eq-VARIABLE t c =
+pub returns-else-d-j : goal.returns-else-d-j
+returns-else-d-j t c =
     let args' = c.args in
-    driven-one args'.work.now args'.env.now args'.t _ c.word-tag.ensures args'.j args'.inner (Ok args'.before) _ _ _ _ c.if-tag-eq-VARIABLE.true c.word-d.ensures c.word-k.ensures (omega (arith, c.if-d-j.false)) c.copies.ensures c.also.ensures
+    driven-one args'.work.now args'.env.now args'.t _ c.word-tag.ensures args'.j args'.inner (Ok args'.before) _ _ _ _ c.in-1.is c.word-d.ensures c.word-k.ensures (omega (arith, c.if-d-j.false)) c.copies.ensures c.also.ensures
 
-pub returns-then-tag-lt-PAIR : goal.returns-then-tag-lt-PAIR
-returns-then-tag-lt-PAIR t c =
+pub returns-in_default : goal.returns-in_default
+returns-in_default t c =
     let args' = c.args in
-    driven-none args'.work.now args'.env.now args'.t _ c.word-tag.ensures args'.j args'.inner (Ok args'.before) c.if-tag-eq-VARIABLE.false (λ z. omega (arith, c.if-tag-lt-PAIR.true)) (λ z. omega (arith, c.if-tag-lt-PAIR.true))
+    driven-none args'.work.now args'.env.now args'.t _ c.word-tag.ensures args'.j args'.inner (Ok args'.before) (λ z. omega arith) (λ z. omega arith) (λ z. omega arith)
 
-pub returns-then-tag-gt-ELLIPSIS : goal.returns-then-tag-gt-ELLIPSIS
-returns-then-tag-gt-ELLIPSIS t c =
+pub returns-in_default-2 : goal.returns-in_default-2
+returns-in_default-2 t c =
     let args' = c.args in
-    driven-none args'.work.now args'.env.now args'.t _ c.word-tag.ensures args'.j args'.inner (Ok args'.before) c.if-tag-eq-VARIABLE.false (λ z. omega (arith, c.if-tag-gt-ELLIPSIS.true)) (λ z. omega (arith, c.if-tag-gt-ELLIPSIS.true))
+    driven-none args'.work.now args'.env.now args'.t _ c.word-tag.ensures args'.j args'.inner (Ok args'.before) (λ z. omega arith) (λ z. omega arith) (λ z. omega arith)
 
-pub deeper-i-requires : goal.deeper-i-requires
-deeper-i-requires t c =
+pub deeper-requires : goal.deeper-requires
+deeper-requires t c =
     let l = part_falls c.args.work.now c.args.t _ c.word-tag.ensures 3 _ (λ z. omega arith) c.reference-head.ensures in omega (arith, l, c.requires)
 
 pub drivers-requires : goal.drivers-requires
 drivers-requires t c =
-    let l = part_falls c.args.work.now c.args.t _ c.word-tag.ensures 3 _ (λ z. omega arith) c.reference-head.ensures in let m = deeper-below _ _ c.args.j c.deeper-i.ensures in (omega (arith, l, c.decreases), omega (arith, l, m, c.requires))
+    let l = part_falls c.args.work.now c.args.t _ c.word-tag.ensures 3 _ (λ z. omega arith) c.reference-head.ensures in let m = deeper-below _ _ c.args.j c.deeper.ensures in (omega (arith, l, c.decreases), omega (arith, l, m, c.requires))
 
-pub drivers-requires-2 : goal.drivers-requires-2
-drivers-requires-2 t c =
+pub drivers-requires-in-6 : goal.drivers-requires-in-6
+drivers-requires-in-6 t c =
     let l = part_falls c.args.work.now c.args.t _ c.word-tag.ensures 2 _ (λ z. omega arith) c.reference-rest.ensures in (omega (arith, l, c.decreases), omega (arith, l, c.requires))
 
-pub returns-in_err-first : goal.returns-in_err-first
-returns-in_err-first t c =
+pub returns-in_err-first-in-6 : goal.returns-in_err-first-in-6
+returns-in_err-first-in-6 t c =
     let args' = c.args in
-    rw (differ-passed c.from_residual.result c.from_residual.ensures.0) (driven-differ args'.work.now args'.env.now args'.t _ c.word-tag.ensures args'.j args'.inner (Ok args'.before) _ _ _ (omega (arith, c.if-tag-lt-PAIR.false)) (omega (arith, c.if-tag-gt-ELLIPSIS.false)) c.deeper-i.ensures c.reference-head.ensures refl _ c.in_err-first.ensures)
+    rw (differ-passed c.from_residual.result c.from_residual.ensures.0) (driven-differ args'.work.now args'.env.now args'.t _ c.word-tag.ensures args'.j args'.inner (Ok args'.before) _ _ _ (omega arith) (omega arith) c.deeper.ensures c.reference-head.ensures refl _ c.in_err-first-in-6.ensures)
 
-pub returns : goal.returns
-returns t c =
+pub returns-in_ok-first-in-6 : goal.returns-in_ok-first-in-6
+returns-in_ok-first-in-6 t c =
     let args' = c.args in
-    driven-both args'.work.now args'.env.now args'.t _ c.word-tag.ensures args'.j args'.inner (Ok args'.before) _ _ _ (omega (arith, c.if-tag-lt-PAIR.false)) (omega (arith, c.if-tag-gt-ELLIPSIS.false)) c.deeper-i.ensures c.reference-head.ensures c.reference-rest.ensures _ _ c.in_ok-first.ensures c.drivers-2.ensures
+    driven-both args'.work.now args'.env.now args'.t _ c.word-tag.ensures args'.j args'.inner (Ok args'.before) _ _ _ (omega arith) (omega arith) c.deeper.ensures c.reference-head.ensures c.reference-rest.ensures _ _ c.in_ok-first-in-6.ensures c.drivers-in-6.ensures
