@@ -54,8 +54,8 @@ module _ (work : List ℕ) (list w : ℕ) (f : Name → Bool) where
 -- ---- known variables
 
 module _ (work : List ℕ) (w : ℕ) (vars : List ℕ) (x : Name) where
-  pub known-all : (count : ℕ) → known_from work w vars x count 0 ≡ variable_from 0 (variables_from work w vars 0 count) x
-  known-all count = let e : count - 0 ≡ count = omega arith in rw e refl
+  pub known-all : (i left : ℕ) → known_from work w vars x (i + left) i ≡ variable_from i (variables_from work w vars i left) x
+  known-all i left = let e : i + left - i ≡ left = omega arith in rw e refl
 
   module _ (end i : ℕ) where
     pub known-none : end ≤ i → none ≡ known_from work w vars x end i

@@ -1,4 +1,4 @@
-use Rattle.std.proofs.Common.{sym, ◌∙◌, arith}
+use Rattle.std.proofs.Common.{◌≡◌, ◌+◌, sym, ◌∙◌, arith}
 use Rattle.arena.specs.Arena.{name_at}
 use Rattle.rule_cells.specs.VariableLaws.{known-all, known-none, known-here, known_more}
 use Rattle.rule_cells.proofs.variables.find.Goals as goal
@@ -6,7 +6,8 @@ use Rattle.rule_cells.proofs.variables.find.Goals as goal
 pub loop-k-init : goal.loop-k-init
 loop-k-init c =
     let a = c.args in
-    known-all a.work.now a.w a.vars.now (name_at a.work.now a.node a.w) a.count
+    let e : 0 + a.count ≡ a.count = omega arith in
+    rw e at (known-all a.work.now a.w a.vars.now (name_at a.work.now a.node a.w) 0 a.count)
 
 pub returns-then-same_names : goal.returns-then-same_names
 returns-then-same_names c =
