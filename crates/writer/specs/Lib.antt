@@ -2,6 +2,7 @@
 pub mod Laid
 pub mod LaidLaws
 pub mod Digits
+pub mod FormalsLaws
 pub mod DigitsLaws
 pub mod PointLaws
 pub mod Called

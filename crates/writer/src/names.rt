@@ -1,5 +1,5 @@
 // Names as text: those of the name table, and variables with the names they were given.
-ghost use Rattle.std.specs.Prelude.{◌≡◌, suc, ◌+◌, ◌<◌, ◌≤◌, true, length};
+ghost use Rattle.std.specs.Prelude.{◌≡◌, suc, ◌+◌, ◌<◌, ◌≤◌, true, false, length};
 ghost use Rattle.datum.specs.NameTable.{name_at, has_name};
 ghost use Rattle.core_term.specs.Text.{variable_text};
 ghost use Rattle.writer.specs.Laid.{Left};
@@ -47,26 +47,15 @@ pub fn variable(n: usize, names: &[u8], out: &mut [u8], at: usize, pen: Pen) -> 
     name(name_of(n, pen.called), names, out, b, pen.ink)
 }
 
-// v0.t v1.u: the variables of a lambda, with a space before the first where one is wanted.
-pub fn formals(
-    wanted: bool,
-    bound: Bound,
-    names: &[u8],
-    out: &mut [u8],
-    at: usize,
-    pen: Pen,
-) -> Option<usize>
+// v0.t v1.u: the variables of a lambda, with spaces between.
+pub fn formals(bound: Bound, names: &[u8], out: &mut [u8], at: usize, pen: Pen) -> Option<usize>
     requires { (at ≤ length out.old) × (bound.first + bound.count < 18446744073709551616) × (Naming (said_by names.now pen.called) (bound.first + bound.count)) × (Tells pen.called) }
-    ensures { Left pen.entry.ink (formals_text (said_by names.now pen.entry.called) wanted bound.first bound.count) at out.old out.new result }
+    ensures { Left pen.entry.ink (formals_text (said_by names.now pen.entry.called) false bound.first bound.count) at out.old out.new result }
 {
-    if bound.count == 0 {
-        return Some(at);
+    let mut to = at;
+    for i in 0..bound.count {
+        let start = gap(i > 0, out, to, pen.ink)?;
+        to = variable(bound.first + i, names, out, start, pen)?;
     }
-    let a = gap(wanted, out, at, pen.ink)?;
-    let b = variable(bound.first, names, out, a, pen)?;
-    let rest = Bound {
-        first: bound.first + 1,
-        count: bound.count - 1,
-    };
-    formals(true, rest, names, out, b, pen)
+    Some(to)
 }

@@ -42,7 +42,7 @@ fn lambda_opening(bound: Bound, names: &[u8], out: &mut [u8], at: usize, pen: Pe
     ensures { Left pen.entry.ink (bytes "(lambda (" ++ (formals_text (said_by names.now pen.entry.called) false bound.first bound.count ++ bytes ") ")) at out.old out.new result }
 {
     let a = copy(b"(lambda (", out, at, pen.ink)?;
-    let b = formals(false, bound, names, out, a, pen)?;
+    let b = formals(bound, names, out, a, pen)?;
     copy(b") ", out, b, pen.ink)
 }
 
