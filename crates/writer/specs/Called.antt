@@ -2,6 +2,7 @@
 use Rattle.std.specs.Prelude.{ℕ, List}
 use Rattle.datum.specs.NameTable.{name_at}
 use Rattle.core_term.specs.Code.Scan.{called_in, IsTerm}
+use Rattle.writer.specs.declared.names.Pen.{Pen}
 use Rattle.writer.specs.declared.called.Called.{Called}
 use Rattle.writer.specs.declared.called.Called.TheVariants.{Table, Words}
 
@@ -24,6 +25,9 @@ said table called = record { table = table; called = called }
 
 abbrev pub said_by : List ℕ → Called → Said
 said_by table called = said table (called_by called)
+
+abbrev pub said_of : Pen → Said
+said_of pen = said_by pen.names.now pen.called
 
 abbrev pub spell_of : Said → ℕ → List ℕ
 spell_of s = name_at s.table

@@ -50,8 +50,12 @@ fn text_fits(words: &[u32], names: &[u8], out: &mut [u8], called: Called) -> boo
     if has_room(words, out) {
         return true;
     }
-    let measuring = Pen { ink: false, called };
-    term(words, names, out, 0, false, measuring).is_some()
+    let measuring = Pen {
+        ink: false,
+        names,
+        called,
+    };
+    term(words, out, 0, false, measuring).is_some()
 }
 
 // The text of words' term into out, with the names of its variables. No byte is laid before it is known that the text fits.
@@ -68,8 +72,12 @@ fn write_called(
     if !text_fits(words, names, out, called) {
         return Err(Ground::NoRoom);
     }
-    let laying = Pen { ink: true, called };
-    let Some(step) = term(words, names, out, 0, false, laying) else {
+    let laying = Pen {
+        ink: true,
+        names,
+        called,
+    };
+    let Some(step) = term(words, out, 0, false, laying) else {
         return Err(Ground::NoRoom);
     };
     Ok(step.end)

@@ -6,7 +6,7 @@ ghost use Rattle.datum.specs.Constant.{boolean as constant};
 ghost use Rattle.core_term.specs.Node as N;
 ghost use Rattle.core_term.specs.Text.{constant_text};
 ghost use Rattle.writer.specs.Laid.{Left};
-ghost use Rattle.writer.specs.Called.{Said, Tells, said, said_by};
+ghost use Rattle.writer.specs.Called.{Said, Tells, said, said_of};
 ghost use Rattle.writer.specs.Pieces.{formals_text, opening, closing};
 ghost use Rattle.writer.specs.Opened.{Opened, Stands};
 ghost use Rattle.writer.specs.OpenedLaws.{Naming};
@@ -37,12 +37,12 @@ fn name_opening(
 }
 
 // (lambda (v0.t v1.u) and a space
-fn lambda_opening(bound: Bound, names: &[u8], out: &mut [u8], at: usize, pen: Pen) -> Option<usize>
-    requires { (at ≤ length out.old) × (bound.first + bound.count < 18446744073709551616) × (Naming (said_by names.now pen.called) (bound.first + bound.count)) × (Tells pen.called) }
-    ensures { Left pen.entry.ink (bytes "(lambda (" ++ (formals_text (said_by names.now pen.entry.called) false bound.first bound.count ++ bytes ") ")) at out.old out.new result }
+fn lambda_opening(bound: Bound, out: &mut [u8], at: usize, pen: Pen) -> Option<usize>
+    requires { (at ≤ length out.old) × (bound.first + bound.count < 18446744073709551616) × (Naming (said_of pen) (bound.first + bound.count)) × (Tells pen.called) }
+    ensures { Left pen.entry.ink (bytes "(lambda (" ++ (formals_text (said_of pen.entry) false bound.first bound.count ++ bytes ") ")) at out.old out.new result }
 {
     let a = copy(b"(lambda (", out, at, pen.ink)?;
-    let b = formals(bound, names, out, a, pen)?;
+    let b = formals(bound, out, a, pen)?;
     copy(b") ", out, b, pen.ink)
 }
 
@@ -78,24 +78,17 @@ fn list_closing(out: &mut [u8], at: usize, inner: bool, ink: bool) -> Option<usi
 }
 
 // What opens the node that was opened.
-pub fn begin(
-    node: Node,
-    names: &[u8],
-    out: &mut [u8],
-    at: usize,
-    inner: bool,
-    pen: Pen,
-) -> Option<usize>
-    requires { (at ≤ length out.old) × Opened (said_by names.now pen.called) node × (Tells pen.called) }
-    ensures { (x : N.Node) → Stands node x → Left pen.entry.ink (opening (said_by names.now pen.entry.called) inner x) at out.old out.new result }
+pub fn begin(node: Node, out: &mut [u8], at: usize, inner: bool, pen: Pen) -> Option<usize>
+    requires { (at ≤ length out.old) × Opened (said_of pen) node × (Tells pen.called) }
+    ensures { (x : N.Node) → Stands node x → Left pen.entry.ink (opening (said_of pen.entry) inner x) at out.old out.new result }
 {
     match node {
-        Node::Variable(n) => variable(n as usize, names, out, at, pen),
+        Node::Variable(n) => variable(n as usize, out, at, pen),
         Node::Operation(n) => numbered(b'o', n as usize, out, at, pen.ink),
         Node::Integer(w) => integer(w, out, at, pen.ink),
         Node::Boolean(w) => boolean(w, out, at, pen.ink),
         Node::Decimal(w, places) => decimal(w, places, out, at, pen.ink),
-        Node::Name(n) => name_opening(n as usize, names, out, at, inner, pen.ink),
+        Node::Name(n) => name_opening(n as usize, pen.names, out, at, inner, pen.ink),
         Node::List(_) => list_opening(out, at, inner, pen.ink),
         Node::If => copy(b"(if ", out, at, pen.ink),
         Node::Lambda(first, count) => {
@@ -103,7 +96,7 @@ pub fn begin(
                 first: first as usize,
                 count: count as usize,
             };
-            lambda_opening(bound, names, out, at, pen)
+            lambda_opening(bound, out, at, pen)
         }
         Node::Application(_) => byte(b'(', out, at, pen.ink),
     }

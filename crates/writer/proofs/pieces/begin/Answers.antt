@@ -1,5 +1,5 @@
 use Rattle.std.proofs.Common.{arith}
-use Rattle.writer.specs.Called.{called_by, said_by}
+use Rattle.writer.specs.Called.{called_by, said_of}
 use Rattle.writer.specs.LaidLaws.{left_is}
 use Rattle.writer.specs.OpenedLaws.{decimal-places, name-spelled, variable-named, lambda-named, opens-variable, opens-operation, opens-integer, opens-boolean, opens-decimal, opens-name, opens-list, opens-if, opens-lambda, opens-application}
 use Rattle.writer.proofs.pieces.begin.Goals as goal
@@ -15,18 +15,18 @@ decimal-requires c =
 pub name_opening-requires : goal.name_opening-requires
 name_opening-requires c =
     let a = c.args in
-    (c.requires.0, name-spelled _ _ c.requires.1.stands (said_by a.names.now a.pen.called) c.requires.1.fits _ c.in-Name.is)
+    (c.requires.0, name-spelled _ _ c.requires.1.stands (said_of a.pen) c.requires.1.fits _ c.in-Name.is)
 
 pub lambda_opening-requires : goal.lambda_opening-requires
 lambda_opening-requires c =
     let a = c.args in
-    let k = lambda-named _ _ c.requires.1.stands (said_by a.names.now a.pen.called) c.requires.1.fits _ _ c.in-Lambda.is in
+    let k = lambda-named _ _ c.requires.1.stands (said_of a.pen) c.requires.1.fits _ _ c.in-Lambda.is in
     (c.requires.0, omega arith, k, c.requires.2)
 
 pub returns-in-Variable : goal.returns-in-Variable
 returns-in-Variable c =
     let a = c.args in
-    λ x s. left_is (opens-variable _ x s (said_by a.names.now a.pen.called) _ _ c.in-Variable.is) c.variable.ensures
+    λ x s. left_is (opens-variable _ x s (said_of a.pen) _ _ c.in-Variable.is) c.variable.ensures
 
 pub returns-in-Operation : goal.returns-in-Operation
 returns-in-Operation c = λ x s. left_is (opens-operation _ x s _ _ _ c.in-Operation.is) c.numbered.ensures
@@ -43,7 +43,7 @@ returns-in-Decimal c = λ x s. left_is (opens-decimal _ x s _ _ _ _ c.in-Decimal
 pub returns-in-Name : goal.returns-in-Name
 returns-in-Name c =
     let a = c.args in
-    λ x s. left_is (opens-name _ x s (said_by a.names.now a.pen.called) _ _ c.in-Name.is) (c.name_opening.ensures (called_by a.pen.called))
+    λ x s. left_is (opens-name _ x s (said_of a.pen) _ _ c.in-Name.is) (c.name_opening.ensures (called_by a.pen.called))
 
 pub returns-in-List : goal.returns-in-List
 returns-in-List c = λ x s. left_is (opens-list _ x s _ _ _ c.in-List.is) (c.list_opening.ensures _ _)

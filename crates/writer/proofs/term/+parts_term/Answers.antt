@@ -1,7 +1,7 @@
 use Rattle.std.proofs.Common.{◌≡◌, ◌+◌, ◌-◌, nat_lt, true, refl, arith}
 use borrow.Author.Tests.{lt-ltb}
 use Rattle.core_term.specs.Code.OpenedLaws.{opened-some, opened-here}
-use Rattle.writer.specs.Called.{said_by}
+use Rattle.writer.specs.Called.{said_of}
 use Rattle.writer.specs.Pieces.{text_in, row_text}
 use Rattle.writer.specs.LaidLaws.{left-room}
 use Rattle.writer.specs.WalkLaws.{for-any, begins-node, begins-stands, begins-opened, begins-shaped, begins-loose, going_start, going-inside, going-shorter, going_next, going_on, gap-full, part-full, part-inside, row-stops, row_walked, open-stops, alone-walked, parts-stop, parts-room, all-walked}
@@ -18,7 +18,7 @@ parts-gap-requires t c = left-room c.loop-i.invariant.laid _ refl
 pub parts-returns-in_err-start : goal.parts-returns-in_err-start
 parts-returns-in_err-start t c =
     let a = c.args in
-    for-any _ (row_text (said_by a.names.now a.pen.called)) _ _ a.words.now c.loop-i.invariant.whole _ _ _ _
+    for-any _ (row_text (said_of a.pen)) _ _ a.words.now c.loop-i.invariant.whole _ _ _ _
     (row-stops _ _ _ c.args.words.now _ _ _ _ _ _ _ c.loop-i.invariant _ (gap-full _ _ _ c.args.words.now _ _ _ _ _ _ _ c.loop-i.invariant (omega arith) _ _ c.gap.ensures c.in_err-start.was) c.from_residual.ensures)
 
 pub parts-slice_bounds-term-start : goal.parts-slice_bounds-term-start
@@ -31,7 +31,7 @@ parts-term-requires t c =
 pub parts-returns-in_err-part : goal.parts-returns-in_err-part
 parts-returns-in_err-part t c =
     let a = c.args in
-    for-any _ (row_text (said_by a.names.now a.pen.called)) _ _ a.words.now c.loop-i.invariant.whole _ _ _ _
+    for-any _ (row_text (said_of a.pen)) _ _ a.words.now c.loop-i.invariant.whole _ _ _ _
     (row-stops _ _ _ c.args.words.now _ _ _ _ _ _ _ c.loop-i.invariant _
     (part-full _ _ _ c.args.words.now _ _ _ _ _ _ _ c.loop-i.invariant (omega arith) _ _ c.gap.ensures _ c.in_ok-start.was _ _ c.term.ensures c.in_err-part.was) c.from_residual-in_err-part.ensures)
 
@@ -48,7 +48,7 @@ parts-loop-i-preserved t c =
 pub parts-returns : goal.parts-returns
 parts-returns t c =
     let a = c.args in
-    for-any _ (row_text (said_by a.names.now a.pen.called)) _ _ a.words.now c.loop-i.invariant.whole _ _ _ _
+    for-any _ (row_text (said_of a.pen)) _ _ a.words.now c.loop-i.invariant.whole _ _ _ _
     (row_walked _ _ _ c.args.words.now _ _ _ _ _ _ _ c.loop-i.invariant (omega arith))
 
 pub term-returns-in_err-node : goal.term-returns-in_err-node
@@ -65,7 +65,7 @@ term-returns-in_err-begun t c =
     let o = opened-some _ _ c.opened.ensures _ c.in_ok-node.was in
     let x = begins-stands _ _ c.args.words.now b _ o in
     let l = c.begin.ensures _ x in
-    for-any _ (text_in (said_by c.args.names.now c.args.pen.called) c.args.inner) _ _ c.args.words.now b _ _ _ _
+    for-any _ (text_in (said_of c.args.pen) c.args.inner) _ _ c.args.words.now b _ _ _ _
     (open-stops _ _ _ c.args.words.now b _ _ _ _ l c.in_err-begun.was c.from_residual-in_err-begun.ensures)
 
 pub term-close-requires : goal.term-close-requires
@@ -83,7 +83,7 @@ term-returns-then-shape-eq0 t c =
     let x = begins-stands _ _ c.args.words.now b _ o in
     let l = c.begin.ensures _ x in
     let k = left-room l _ c.in_ok-begun.was in
-    for-any _ (text_in (said_by c.args.names.now c.args.pen.called) c.args.inner) _ _ c.args.words.now b _ _ _ _
+    for-any _ (text_in (said_of c.args.pen) c.args.inner) _ _ c.args.words.now b _ _ _ _
     (alone-walked _ _ _ c.args.words.now b _ _ _ _ l _ c.in_ok-begun.was c.shape_of-shape.result (begins-shaped _ _ c.args.words.now b _ o _ c.shape_of-shape.ensures) c.if-shape-eq0.true k _ _ (c.close.ensures _ x))
 
 pub term-parts-requires : goal.term-parts-requires
@@ -100,7 +100,7 @@ term-returns-in_err-row t c =
     let o = opened-some _ _ c.opened.ensures _ c.in_ok-node.was in
     let x = begins-stands _ _ c.args.words.now b _ o in
     let l = c.begin.ensures _ x in
-    for-any _ (text_in (said_by c.args.names.now c.args.pen.called) c.args.inner) _ _ c.args.words.now b _ _ _ _
+    for-any _ (text_in (said_of c.args.pen) c.args.inner) _ _ c.args.words.now b _ _ _ _
     (parts-stop _ _ _ c.args.words.now b _ _ _ _ l _ c.in_ok-begun.was _ _ c.parts.ensures c.in_err-row.was c.from_residual-in_err-row.ensures)
 
 pub term-close-requires-2 : goal.term-close-requires-2
@@ -117,5 +117,5 @@ term-returns t c =
     let o = opened-some _ _ c.opened.ensures _ c.in_ok-node.was in
     let x = begins-stands _ _ c.args.words.now b _ o in
     let l = c.begin.ensures _ x in
-    for-any _ (text_in (said_by c.args.names.now c.args.pen.called) c.args.inner) _ _ c.args.words.now b _ _ _ _
+    for-any _ (text_in (said_of c.args.pen) c.args.inner) _ _ c.args.words.now b _ _ _ _
     (all-walked _ _ _ c.args.words.now b _ _ _ _ l _ c.in_ok-begun.was _ _ c.parts.ensures _ c.in_ok-row.was _ _ (c.close-2.ensures _ x))
