@@ -13,7 +13,7 @@ use Rattle.words.specs.TestLaws.{and_left, and_right, within-most}
 use Rattle.words.specs.ListLaws.{all_append, part-more, part-split, length_part}
 use Rattle.words.specs.Text.{bytes}
 use Rattle.reading.specs.Token.{foreign, run, nothing, hash, is_digit, is_running, is_separating, class_of, flag_of, alone, completed, begun, next, ended, tokens_after}
-use Rattle.reading.specs.Meaning.{Meaning, begins, ends, constant, refused, meaning_of, is_name}
+use Rattle.reading.specs.Meaning.{Meaning, begins, ends, refused, meaning_of, is_name}
 use Rattle.reading.specs.RecipeText.{EndsRun, at_end, before}
 use Rattle.reading.specs.Offset.{leading, width_of, first_width, start_at, next_at}
 use Rattle.reading.proofs.Laws.Offsets.{leading-append, leading-more, leading-stops, leading-ends}

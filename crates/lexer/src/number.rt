@@ -43,15 +43,16 @@ fn digits_after(before: u64, run: &[u8]) -> Digits
     ensures { DigitsAfter before run.now result }
 {
     let mut value = before;
-    let mut i = 0;
-    while i < run.len() {
+    for i in 0..run.len() {
         if !is_digit(run[i]) {
             return Digits { count: i, value };
         }
         value = appended(value, run[i]);
-        i += 1;
     }
-    Digits { count: i, value }
+    Digits {
+        count: run.len(),
+        value,
+    }
 }
 
 // A number with its sign; no sum passes the range.

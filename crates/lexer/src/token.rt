@@ -31,14 +31,12 @@ pub fn skip(text: &[u8], from: usize) -> usize
     requires { from ≤ length text.now }
     ensures { Skipped text.now from result }
 {
-    let mut at = from;
-    while at < text.len() {
+    for at in from..text.len() {
         if !is_separating(text[at]) {
             return at;
         }
-        at += 1;
     }
-    at
+    text.len()
 }
 
 // The end of the longest run.
@@ -46,14 +44,12 @@ fn run_end(text: &[u8], from: usize) -> usize
     requires { from ≤ length text.now }
     ensures { RunTo text.now from result }
 {
-    let mut at = from;
-    while at < text.len() {
+    for at in from..text.len() {
         if !is_running(text[at]) {
             return at;
         }
-        at += 1;
     }
-    at
+    text.len()
 }
 
 // A run that does not start as a number is a name: 1 to 63 bytes, no single dot.

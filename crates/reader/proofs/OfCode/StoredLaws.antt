@@ -4,18 +4,17 @@ use Rattle.std.proofs.Common.{sym, ap₂, subst, ◌∙◌, append_assoc, append
 use Rattle.std.proofs.Math.Path.{ap}
 use Prim.Native.Nat.{ℕ, zero, suc, ◌+◌, ◌*◌, ◌-◌, ◌≤◌, ◌<◌}
 use native.Mathlib.Omega.{arith}
-use Rattle.std.proofs.Math.Numerals.{add-one}
-use Rattle.std.proofs.Math.ListN.{length, get_or, length-drop, replicate-append-replicate}
-use Rattle.std.proofs.Math.Seq.{drop-cons, drop-length, length-take-le, get_or-take, get_or-drop, append_snoc, get_or-append_seam, take-length, drop-append-add}
+use Rattle.std.proofs.Math.ListN.{length, get_or, replicate-append-replicate}
+use Rattle.std.proofs.Math.Seq.{length-take-le, append_snoc, get_or-append_seam, take-length, drop-append-add}
 use Rattle.std.proofs.lemmas.List.Edits.{length-paste}
 use Rattle.std.proofs.lemmas.List.{set_at}
 use Rattle.std.proofs.lemmas.Bool.Decides.{Decides-eqb}
 use Rattle.std.proofs.lemmas.Slice.Eq.{slice_eq-Decides}
 use Rattle.std.specs.List.{between}
 use Rattle.std.specs.Str.{bytes_eq}
-use borrow.Author.Tests.{eq-eqb, ne_eqb, le-leb, leb-true}
+use borrow.Author.Tests.{le-leb, leb-true}
 use Rattle.words.specs.Lists.{equal, all_of, any_of}
-use Rattle.words.specs.ListLaws.{either, equal-refl, equal-true, all_append, valued, valued-at}
+use Rattle.words.specs.ListLaws.{equal-refl, equal-true, all_append, valued, valued-at}
 use Rattle.words.specs.TestLaws.{and_left, and_right, iff-eq}
 use Rattle.words.specs.Text.{bytes}
 use Rattle.datum.specs.NameTable.{slot, slots, length_at, name_at}

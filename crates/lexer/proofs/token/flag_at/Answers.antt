@@ -1,5 +1,4 @@
-use Rattle.std.proofs.Common.{arith, refl, subst, sym}
-use Rattle.lexer.specs.Told.{Stands}
+use Rattle.std.proofs.Common.{arith, refl}
 use Rattle.lexer.specs.ToldLaws.{flag-stands, flag-alone}
 use Rattle.lexer.proofs.token.flag_at.Goals as goal
 

@@ -1,4 +1,4 @@
-use Rattle.std.proofs.Common.{arith, refl}
+use Rattle.std.proofs.Common.{refl}
 use Rattle.reading.specs.Meaning.{begins, ends}
 use Rattle.lexer.specs.ToldLaws.{byte-stands, opening-taken, closing-taken}
 use Rattle.lexer.proofs.token.lexeme_at.Goals as goal

@@ -1,4 +1,4 @@
-use Rattle.std.proofs.Common.{arith, refl, ◌<◌}
+use Rattle.std.proofs.Common.{arith, refl}
 use Rattle.reading.specs.Meaning.{refused}
 use Rattle.words.specs.ListLaws.{length_part}
 use Rattle.lexer.specs.ToldLaws.{byte-stands, foreign-taken, run_none, run-stands}

@@ -1,4 +1,4 @@
-use Rattle.std.proofs.Common.{◌≡◌, Bool, true, sym, ap, ◌∙◌}
+use Rattle.std.proofs.Common.{sym, ap, ◌∙◌}
 use Rattle.std.proofs.lemmas.Result.{err_from_is_err_and}
 use Rattle.reading.proofs.Laws.MeaningsLaws.{numeral-means, other-means, name-is, name-malformed}
 use Rattle.lexer.specs.Answers.{numeral_meaning}

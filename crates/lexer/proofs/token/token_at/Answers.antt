@@ -1,4 +1,4 @@
-use Rattle.std.proofs.Common.{arith, ◌∙◌}
+use Rattle.std.proofs.Common.{◌∙◌}
 use Rattle.lexer.specs.ToldLaws.{end-taken, skipped-told}
 use Rattle.lexer.proofs.token.token_at.Goals as goal
 
