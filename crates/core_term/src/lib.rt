@@ -26,7 +26,8 @@ const WINDOW: usize = 4096;
 // The same where there are no more words than this.
 const SMALL_WINDOW: usize = 512;
 
-// How many variables the words' term binds, if they are one. The first walk finds the term; later ones test the scope of its further variables, as many at a time as there are flags.
+// How many variables the words' term binds, if they are one. The first walk finds the term; later ones test the scope of its further
+// variables, as many at a time as there are flags.
 fn every_window(
     words: &[u32],
     operations: u32,
