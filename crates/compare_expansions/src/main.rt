@@ -34,33 +34,17 @@ const CORE: usize = CORE_RATE * (MOST_ITEMS + FUEL as usize);
 // Bytes of the longest output. specs/Line.antt has the same number.
 const LINE: usize = 26;
 
-fn item_table() -> [u32; ITEM_WORDS] {
-    [0; ITEM_WORDS]
-}
-
-fn name_table() -> [u8; NAME_BYTES] {
-    [0; NAME_BYTES]
-}
-
-fn work_table() -> [u32; WORK] {
-    [0; WORK]
-}
-
-fn core_table() -> [u32; CORE] {
-    [0; CORE]
-}
-
 // The output of a recipe's text and a supplier's, at the beginning of out; its length. Any output fits.
 fn output(recipe: &[u8], text: &[u8], out: &mut [u8]) -> usize
     requires { line_most ≤ length out.old }
     ensures { Printed (output recipe.now text.now) out.old out.new result }
 {
-    let mut items = item_table();
-    let mut names = name_table();
-    let mut work = work_table();
-    let mut core = core_table();
-    let mut text_items = item_table();
-    let mut text_names = name_table();
+    let mut items = [0; ITEM_WORDS];
+    let mut names = [0; NAME_BYTES];
+    let mut work = [0; WORK];
+    let mut core = [0; CORE];
+    let mut text_items = [0; ITEM_WORDS];
+    let mut text_names = [0; NAME_BYTES];
     let answer = compared(
         recipe,
         text,

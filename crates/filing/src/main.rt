@@ -14,7 +14,6 @@ use file::file;
 use std::io;
 use std::io::Read;
 use words::{FILING_CORE, FILING_FUEL, FILING_WORK, ITEM_WORDS, NAME_BYTES, TEXT_BYTES};
-use writer::Writing;
 
 // Bytes of a buffer that any text fits, and that a text which is too long fills.
 const BUFFER: usize = TEXT_BYTES + 1;
@@ -22,36 +21,16 @@ const BUFFER: usize = TEXT_BYTES + 1;
 // Bytes of the longest output, and some to spare. specs/File.antt has the same number.
 const OUTPUT: usize = 116736;
 
-fn item_table() -> [u32; ITEM_WORDS] {
-    [0; ITEM_WORDS]
-}
-
-fn name_table() -> [u8; NAME_BYTES] {
-    [0; NAME_BYTES]
-}
-
-fn work_table() -> [u32; FILING_WORK] {
-    [0; FILING_WORK]
-}
-
-fn core_table() -> [u32; FILING_CORE] {
-    [0; FILING_CORE]
-}
-
-fn room() -> [u8; OUTPUT] {
-    [0; OUTPUT]
-}
-
 // The output of a text, at the beginning of out; its length. Any output fits.
 fn output(text: &[u8], out: &mut [u8]) -> usize
     requires { output_most ≤ length out.old }
     ensures { Printed (output text.now filing_fuel) out.old out.new result }
 {
-    let mut items = item_table();
-    let mut names = name_table();
-    let mut work = work_table();
-    let mut core = core_table();
-    match file(
+    let mut items = [0; ITEM_WORDS];
+    let mut names = [0; NAME_BYTES];
+    let mut work = [0; FILING_WORK];
+    let mut core = [0; FILING_CORE];
+    let written = file(
         text,
         FILING_FUEL,
         &mut items,
@@ -59,11 +38,8 @@ fn output(text: &[u8], out: &mut [u8]) -> usize
         &mut work,
         &mut core,
         out,
-    ) {
-        Writing::Written(length) => length,
-        Writing::NoTerm => 0,
-        Writing::NoRoom => 0,
-    }
+    );
+    written.unwrap_or(0)
 }
 
 // Reads until the buffer is full or the input ends; how many bytes stand at its beginning.
@@ -99,7 +75,7 @@ fn load(input: &mut impl Read, bytes: &mut [u8]) -> io::Result<usize>
 
 // Prints the output of a text.
 fn print(rt: &(impl Print + Eprint), text: &[u8]) -> io::Result<()> {
-    let mut out = room();
+    let mut out = [0; OUTPUT];
     let end = output(text, &mut out);
     match rt.write_all(&out[..end]) {
         Ok(()) => Ok(()),
