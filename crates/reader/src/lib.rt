@@ -101,6 +101,7 @@ pub fn read_elements(
 }
 
 // Reads a recipe text.
+#[tactic(auto, unfolding(reading::specs::Read::read))]
 pub fn read(text: &[u8], items: &mut [u32], names: &mut [u8]) -> Result<Counts, Ground>
     ensures { Served text.now items.old items.new names.old names.new result }
 {
