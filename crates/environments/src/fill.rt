@@ -136,15 +136,7 @@ fn fill_rows(work: &mut [u32], p: u32, u: u32, c: u32, x: Free) -> Behind
     while i < c {
         let first = lists::first(work, node);
         let tail = lists::rest(work, node);
-        let y = fill(
-            work,
-            p,
-            first,
-            Free {
-                slot,
-                top,
-            },
-        );
+        let y = fill(work, p, first, Free { slot, top });
         node = tail;
         slot = y.slot;
         top = y.top;
