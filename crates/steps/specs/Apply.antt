@@ -35,9 +35,9 @@ step_of limit used (some r) = applied limit used r
 
 -- what the code's answer stands for: the ground, or the cost and the root of the result
 unfoldable pub Answers : List ℕ → ℕ → Outcome → Result Applied Ground → Type 0
-Answers new top (refused g) (Err ground) = g ≡ number_of ground
+Answers new top (refused g) (Err why) = g ≡ number_of why
 Answers new top (refused g) (Ok a) = ⊥
-Answers new top (result t) (Err ground) = ⊥
+Answers new top (result t) (Err why) = ⊥
 Answers new top (result t) (Ok a) = (a.cost ≡ size t) × (tree_at new a.root 0 ≡ produce t) × (top ≤ a.root) × (a.root ≤ top + node_words * a.cost)
 
 -- a template in an environment, with so much fuel left

@@ -1,7 +1,5 @@
-use Rattle.std.proofs.Common.{◌≡◌, ◌+◌, ◌-◌, ◌≤◌, length, ◌∙◌, arith, rules}
-use Rattle.words.specs.Limits.{pattern_variables_most}
-use Rattle.environments.specs.Entries.{table_words}
-use Rattle.environments.specs.EntryLaws.{BegunBelow, begins, begins-more, begun_all, MovingBelow, moving-all, moving-less, moving-ends}
+use Rattle.std.proofs.Common.{◌+◌, ◌∙◌, arith}
+use Rattle.environments.specs.EntryLaws.{begins, begins-more, begun_all, MovingBelow, moving-all, moving-less, moving-ends}
 use Rattle.environments.proofs.environment.begin.Goals as goal
 
 pub loop-k-init : goal.loop-k-init

@@ -1,6 +1,5 @@
-use Rattle.std.proofs.Common.{◌≡◌, ◌-◌, ◌≤◌, length, ◌∙◌, arith, rules}
-use Rattle.environments.specs.Entries.{table_words}
-use Rattle.environments.specs.EntryLaws.{Entering, enter-begins, enter-flat, enter-next, entered_all}
+use Rattle.std.proofs.Common.{◌∙◌, arith}
+use Rattle.environments.specs.EntryLaws.{enter-begins, enter-flat, enter-next, entered_all}
 use Rattle.environments.proofs.environment.enter.Goals as goal
 
 pub loop-k-init : goal.loop-k-init

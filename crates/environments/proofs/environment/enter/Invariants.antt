@@ -1,7 +1,7 @@
 -- `environment::enter`. The loop's invariant: the entries below k are those of the next copy, and the others as they were.
-use Rattle.std.proofs.Common.{◌≡◌, ◌-◌, ◌≤◌, length, ◌∙◌, arith, rules}
+use Rattle.std.proofs.Common.{◌≡◌, ◌≤◌, length}
 use Rattle.environments.specs.Entries.{table_words}
-use Rattle.environments.specs.EntryLaws.{Entering, enter-begins, enter-flat, enter-next, entered_all}
+use Rattle.environments.specs.EntryLaws.{Entering}
 use Rattle.environments.proofs.environment.enter.Given as goal
 
 abbrev pub invariant-loop-k : goal.invariant-loop-k

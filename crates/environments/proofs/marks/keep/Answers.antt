@@ -1,6 +1,5 @@
-use Rattle.std.proofs.Common.{◌≡◌, ℕ, ◌-◌, ◌≤◌, length, ◌∙◌, subst, arith, rules}
+use Rattle.std.proofs.Common.{◌≡◌, ℕ, ◌∙◌, subst, arith}
 use Rattle.words.specs.Limits.{pattern_variables_most}
-use Rattle.environments.specs.Entries.{table_words}
 use Rattle.environments.specs.Marks.{Keeps}
 use Rattle.environments.specs.MarkLaws.{keeps-more, keeps-skip}
 use Rattle.environments.proofs.marks.keep.Goals as goal
