@@ -28,7 +28,7 @@ fn drivers(
                 return Ok(before);
             }
             let k = arena::cells::word(work, t, cells::NUMBER);
-            lengths::also(before, taken::copies(work, env, k, d - j - 1, inner))
+            lengths::also(Ok(before), taken::copies(work, env, k, d - j - 1, inner))
         }
         cells::PAIR | cells::ELLIPSIS => {
             let head = arena::cells::reference(work, t, cells::HEAD);

@@ -23,17 +23,18 @@ pub fn deeper(tag: u32, j: u32) -> u32
 
 // The length of the lists, where there are any, with one list more, of this length.
 #[tactic(auto, unfolding(crate::specs::Lengths::also))]
-pub fn also(before: Option<u32>, length: u32) -> Result<Option<u32>, Differ>
-    ensures { result ≡ also (Ok before) length }
+pub fn also(before: Result<Option<u32>, Differ>, length: u32) -> Result<Option<u32>, Differ>
+    ensures { result ≡ also before length }
 {
     match before {
-        None => Ok(Some(length)),
-        Some(c) => {
+        Ok(None) => Ok(Some(length)),
+        Ok(Some(c)) => {
             if c == length {
-                return Ok(before);
+                return before;
             }
             Err(Differ)
         }
+        Err(_) => before,
     }
 }
 
@@ -56,7 +57,7 @@ fn drivers(
                 return Ok(before);
             }
             let k = arena::cells::word(work, t, cells::NUMBER);
-            also(before, environment::copies(work, env, k, d - j - 1))
+            also(Ok(before), environment::copies(work, env, k, d - j - 1))
         }
         cells::PAIR | cells::ELLIPSIS => {
             let head = arena::cells::reference(work, t, cells::HEAD);

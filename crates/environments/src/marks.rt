@@ -93,7 +93,7 @@ pub fn gather(
     }
     let k = n - 1;
     if marks[place(k, level)] == 1 {
-        let more = lengths::also(before, environment::copies(work, env, k, level))?;
+        let more = lengths::also(Ok(before), environment::copies(work, env, k, level))?;
         return gather(work, env, marks, level, k, more);
     }
     gather(work, env, marks, level, k, before)
