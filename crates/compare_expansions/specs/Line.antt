@@ -33,19 +33,19 @@ line_of (Ok false) = verdict_line no
 line_of (Err (Recipe g)) = recipe_refused (number_of g)
 line_of (Err (Text g)) = verdict_line (refused_on (number_of g))
 
-yes-laid : 121 ∷ 101 ∷ 115 ∷ 10 ∷ [] ≡ verdict_line yes
+pub yes-laid : 121 ∷ 101 ∷ 115 ∷ 10 ∷ [] ≡ verdict_line yes
 unfolding verdict_line line spaced spaced_after bytes
 yes-laid = refl
 
-no-laid : 110 ∷ 111 ∷ 10 ∷ [] ≡ verdict_line no
+pub no-laid : 110 ∷ 111 ∷ 10 ∷ [] ≡ verdict_line no
 unfolding verdict_line line spaced spaced_after bytes
 no-laid = refl
 
-text-laid : (ground_number : ℕ) → refusal ground_number (32 ∷ 116 ∷ 101 ∷ 120 ∷ 116 ∷ 10 ∷ []) ≡ verdict_line (refused_on ground_number)
+pub text-laid : (ground_number : ℕ) → refusal ground_number (32 ∷ 116 ∷ 101 ∷ 120 ∷ 116 ∷ 10 ∷ []) ≡ verdict_line (refused_on ground_number)
 unfolding verdict_line refused_line line spaced spaced_after bytes
 text-laid ground_number = simp append_assoc
 
-recipe-laid : (ground_number : ℕ) → refusal ground_number (32 ∷ 114 ∷ 101 ∷ 99 ∷ 105 ∷ 112 ∷ 101 ∷ 10 ∷ []) ≡ recipe_refused ground_number
+pub recipe-laid : (ground_number : ℕ) → refusal ground_number (32 ∷ 114 ∷ 101 ∷ 99 ∷ 105 ∷ 112 ∷ 101 ∷ 10 ∷ []) ≡ recipe_refused ground_number
 unfolding recipe_refused refused_line line spaced spaced_after bytes
 recipe-laid ground_number = simp append_assoc
 
@@ -68,7 +68,7 @@ unfolding line_of
 text-line a x g e f = rw (e, f) (text-laid (number_of g))
 
 -- the room of a refusal
-refusal-room : (ground_number : ℕ) (behind : List ℕ) → ground_number < limit → length behind ≤ 8 → length (refusal ground_number behind) ≤ line_most
+pub refusal-room : (ground_number : ℕ) (behind : List ℕ) → ground_number < limit → length behind ≤ 8 → length (refusal ground_number behind) ≤ line_most
 refusal-room ground_number behind h k = omega (arith, length-append (32 ∷ decimal ground_number) behind, number-room ground_number h)
 
 number-few : (g : Ground) → number_of g ≤ 27
