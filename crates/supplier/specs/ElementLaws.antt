@@ -3,7 +3,7 @@ use Rattle.std.specs.Prelude.{◌≡◌, List, [], Bool, true, Result, Ok, Err}
 use Rattle.words.specs.declared.ground.Ground.{Ground}
 use Rattle.words.specs.declared.ground.Ground.TheVariants.{OpenName, OutsideGrammar}
 use Rattle.std.proofs.Math.Path.{ap}
-use Rattle.std.proofs.Common.{sym, ◌∙◌}
+use Rattle.std.proofs.Common.{◌∙◌}
 use Rattle.std.proofs.Math.Bool.{false}
 use Prim.Native.Nat.{ℕ}
 use Rattle.datum.specs.Datum.{Datum}

@@ -1,12 +1,11 @@
 -- Laws of how the walk through a list begins, one for each way through the code.
-use Rattle.std.specs.Prelude.{◌≡◌, refl, Bool, cond, List, [], ◌∷◌, ℕ, suc, ◌+◌, ◌-◌, ◌*◌, ◌≤◌, ◌<◌, eqb, ltb, length, Option, Some, None, Ok, Err}
+use Rattle.std.specs.Prelude.{◌≡◌, refl, Bool, cond, List, [], ◌∷◌, ℕ, ◌+◌, ◌*◌, ◌≤◌, ◌<◌, eqb, ltb, length, Option, Some, None, Err}
 use Rattle.std.proofs.Math.Path.{sym, ap, ap₂, subst}
 use Rattle.std.proofs.Common.{◌∙◌}
 use Rattle.std.proofs.Math.Bool.{true, false}
 use Rattle.std.proofs.Math.Option.{none, some}
-use Rattle.std.proofs.Math.Option as M
 use native.Mathlib.Omega.{arith}
-use borrow.Author.Tests.{eq-eqb, ne_eqb, eqb-true, ltb-true}
+use borrow.Author.Tests.{eq-eqb, ne_eqb, eqb-true}
 use Rattle.words.specs.ListLaws.{either, never}
 use Rattle.words.specs.Options.{only_if}
 use Rattle.words.specs.TestLaws.{or_left, or_right}
@@ -29,10 +28,10 @@ use Rattle.supplier.specs.ItemsLaws.{pair-kind, none-kind, as-list, name-datum, 
 use Rattle.supplier.specs.ListLaws.{count-pair}
 use Rattle.supplier.specs.Scope.{scope_of, Kept}
 use Rattle.supplier.specs.ScopeLaws.{kept-scope}
-use Rattle.supplier.specs.Walk.{Found, outside, same, left_of, joined, constant_here, quoted_name, name_here, takes, if_sort, list_sort, lambda_sort, application_sort, ours_of, form_of, quotes, plan, quote_plan, if_plan, lambda_plan, formals_of, headed_plan, plan_of, walk, walk_from}
+use Rattle.supplier.specs.Walk.{Found, outside, same, left_of, joined, constant_here, quoted_name, name_here, takes, if_sort, list_sort, lambda_sort, application_sort, ours_of, form_of, quotes, quote_plan, if_plan, lambda_plan, formals_of, headed_plan, plan_of, walk, walk_from}
 use Rattle.supplier.specs.Told.{Walked, found_of, Within, Told, ours_in, Fronted}
 use Rattle.supplier.specs.ToldLaws.{told-as}
-use Rattle.supplier.specs.Forms.{FormalsAre, Begun, Goes, Started, LambdaStarted, planned}
+use Rattle.supplier.specs.Forms.{FormalsAre, Goes, Started, LambdaStarted, planned}
 
 -- ---- the form at the head
 

@@ -8,8 +8,7 @@ ghost use Rattle.supplier.specs.Walk.{outside, same, quotes, form_of, takes, if_
 ghost use Rattle.supplier.specs.Told.{Told};
 ghost use Rattle.supplier.specs.Forms.{form_number, FormalsAre, Room, Started, LambdaStarted};
 
-use crate::front;
-use crate::front::{Difference, Walked, own, takes};
+use crate::front::{Difference, Sort, Walked, own, takes};
 use crate::scope::is_bound;
 use layout::item::{EMPTY, NAME, PAIR, head, kind, tail};
 use words::NAMES;
@@ -149,7 +148,7 @@ fn conditional(items: &[u32], i: usize, words: &[u32]) -> Walked
     if count(items, i) != 3 {
         return Err(Difference::Outside);
     }
-    takes(words, front::IF, 0)
+    takes(words, Sort::If, 0)
 }
 
 // What stands behind lambda: its formals and its body. Our name words are not heeded.
@@ -179,7 +178,7 @@ fn lambda(items: &[u32], words: &[u32], scope: &mut [usize], at: Place) -> Start
     };
     Start {
         place,
-        found: takes(words, front::LAMBDA, n),
+        found: takes(words, Sort::Lambda, n),
     }
 }
 
@@ -191,7 +190,7 @@ pub fn list(items: &[u32], words: &[u32], scope: &mut [usize], at: Place) -> Sta
     if at.quoted {
         return Start {
             place: at,
-            found: takes(words, front::LIST, count(items, at.i)),
+            found: takes(words, Sort::List, count(items, at.i)),
         };
     }
     if kind(items, at.i) != PAIR {
@@ -219,7 +218,7 @@ pub fn list(items: &[u32], words: &[u32], scope: &mut [usize], at: Place) -> Sta
         Some(Form::Lambda) => lambda(items, words, scope, next),
         None => Start {
             place: at,
-            found: takes(words, front::APPLICATION, count(items, next.i)),
+            found: takes(words, Sort::Application, count(items, next.i)),
         },
     }
 }

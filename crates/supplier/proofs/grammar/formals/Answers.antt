@@ -1,9 +1,7 @@
-use Rattle.std.proofs.Common.{refl, sym, ap, ◌∙◌}
+use Rattle.std.proofs.Common.{refl, sym, ◌∙◌}
 use native.Mathlib.Omega.{arith}
-use Prim.Native.Nat.{◌-◌}
-use lib.ListN.{length}
 use borrow.Author.Tests.{ltb-true, ltb-false}
-use Rattle.supplier.specs.FormalsLaws.{Taking, taking-start, taking-in, taking-pair, taking-head-in, taking-small, taking-none, taking-twice, taking-next, taking-many, taking-end, formals-low, passing-other, passing-not}
+use Rattle.supplier.specs.FormalsLaws.{taking-start, taking-in, taking-pair, taking-head-in, taking-small, taking-none, taking-twice, taking-next, taking-many, taking-end, formals-low, passing-other, passing-not}
 use Rattle.supplier.proofs.grammar.formals.Goals as goal
 
 pub loop-i-init : goal.loop-i-init

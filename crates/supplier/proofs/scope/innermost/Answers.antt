@@ -1,4 +1,4 @@
-use Rattle.std.proofs.Common.{◌≡◌, ◌≤◌, refl, sym, ap, ◌∙◌, arith}
+use Rattle.std.proofs.Common.{◌≡◌, refl, sym, ap, ◌∙◌, arith}
 use Rattle.supplier.specs.Scope.{place_after, innermost}
 use Rattle.supplier.specs.ScopeLaws.{innermost-found, innermost-next}
 use Rattle.supplier.proofs.scope.innermost.Goals as goal
