@@ -28,6 +28,7 @@ use Rattle.supplier.specs.declared.front.Sort.{Sort}
 use Rattle.supplier.specs.declared.front.Sort.TheVariants as S
 use Rattle.comparison.specs.Grammar.{is_free}
 use Rattle.supplier.specs.Walk.{Found, outside, other, same, left_of, joined, met, Ours, our, ours_of, variable_sort, takes, constant_here, quoted_name, is_place, is_operation, free, reference, name_here}
+use Rattle.supplier.specs.declared.scope.Formal.{Formal}
 use Rattle.supplier.specs.Scope.{variable_in, scope_of, place_after, innermost}
 use Rattle.supplier.specs.ScopeLaws.{innermost-most, meant-none, meant-some}
 use Rattle.supplier.specs.Told.{Walked, found_of, Told, sort_number, ours_in, Fronted}
@@ -326,7 +327,7 @@ module _ (theirs ours operations ws : List ℕ) (r : Front) (f : Fronted ws r) (
     free_open k = rw (sym e ∙ h, sym i ∙ k) (record { is = refl; within = tt })
 
 -- a name as an expression
-module _ (theirs ours operations ws scope : List ℕ) (top n : ℕ) where
+module _ (theirs ours operations ws : List ℕ) (scope : List Formal) (top n : ℕ) where
   abbrev Refers : Walked → Type 0
   Refers w = Told ws (name_here theirs ours operations false (scope_of scope top) n (ours_of (node_at ws))) w
 
@@ -346,6 +347,6 @@ module _ (theirs ours operations ws scope : List ℕ) (top n : ℕ) where
         let m = meant-some n scope top (suc k) (sym e) (λ z. omega (arith, z)) in
         rw (lt-ltb 2 n (omega arith), m, s, sym i) t
 
-pub found-below : (scope : List ℕ) (top n k : ℕ) → place_after (Some k) ≡ innermost n scope top → k < top
+pub found-below : (scope : List Formal) (top n k : ℕ) → place_after (Some k) ≡ innermost n scope top → k < top
 unfolding place_after
 found-below scope top n k e = omega (arith, e, innermost-most n scope top)

@@ -35,7 +35,8 @@ pub enum Sort {
     None,
 }
 
-// Of a constant its kind and two words, of a lambda how many variables and the first, of others their number; its own words.
+// Of a constant its kind and two words, of a lambda how many variables and the first, of others their number; its own words. No enum with
+// fields, since `takes` compares sort and number alike for each sort.
 #[derive(Clone, Copy)]
 pub struct Front {
     pub sort: Sort,

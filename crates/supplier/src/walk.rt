@@ -13,7 +13,7 @@ ghost use Rattle.supplier.specs.Forms.{Room, Spelling};
 use crate::front::{Difference, Front, Sort, Walked, constant, own, takes};
 use crate::grammar::{Place, Start, list};
 use crate::names::{any_name, same_name};
-use crate::scope::{innermost, variable};
+use crate::scope::{Formal, innermost, variable};
 use core_term::has_name;
 use layout::item::{NAME, PAIR, head, is_list_kind, kind, tail};
 
@@ -72,7 +72,7 @@ fn reference(
     theirs: &[u8],
     ours: &[u8],
     operations: &[u16],
-    scope: &[usize],
+    scope: &[Formal],
     top: usize,
     n: usize,
 ) -> Walked
@@ -124,7 +124,7 @@ pub fn expression(
     theirs: &[u8],
     ours: &[u8],
     operations: &[u16],
-    scope: &mut [usize],
+    scope: &mut [Formal],
     at: Place,
 ) -> Walked
     requires { Held items.now at.i × Room items.now scope.old at.top at.i × Spelling theirs.now ours.now operations.now }
@@ -154,7 +154,7 @@ fn all(
     theirs: &[u8],
     ours: &[u8],
     operations: &[u16],
-    scope: &mut [usize],
+    scope: &mut [Formal],
     from: Start,
 ) -> Walked
     requires { HeldAll items.now from.place.i × Room items.now scope.old from.place.top from.place.i × Spelling theirs.now ours.now operations.now × Within words.now from.found }
