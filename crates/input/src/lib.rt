@@ -6,7 +6,8 @@ ghost use Rattle.std.specs.Prelude.{◌≤◌, length, IfOk};
 use std::io;
 use std::io::Read;
 
-// Reads until the buffer is full or the input ends; how many bytes stand at its beginning.
+// Reads until the buffer is full or the input ends; how many bytes stand at its beginning. It is a loop of its own, as `read_exact` refuses
+// an input that ends before the buffer is full.
 pub fn read_full(input: &mut impl Read, bytes: &mut [u8]) -> io::Result<usize>
     ensures { IfOk result (λ n. n ≤ length bytes.new) }
 {

@@ -27,7 +27,8 @@ fn number(n: Option<i32>) -> Result<Value, Ground>
     Ok(Value::Number(n.cast_unsigned()))
 }
 
-// The operation at a place below OPERATIONS, of two numbers.
+// The operation at a place below OPERATIONS, of two numbers. The place stays a number: it is a word of the term, and `operate` of the
+// definition counts by it.
 pub fn operate(place: u32, x: u32, y: u32) -> Result<Value, Ground>
     requires { place < 4 }
     ensures { MadeIs (S.operate numbers place (number_in x 0) (number_in y 0)) result }
