@@ -1,34 +1,60 @@
 -- Laws of the code's scope.
-use Rattle.std.specs.Prelude.{◌≡◌, List, [], ◌∷◌, ◌++◌, eqb, length, get_or, set}
+use Rattle.std.specs.Prelude.{◌≡◌, List, [], ◌∷◌, ◌++◌, eqb, length, take, get_or, set, Option, None, Some}
 use Rattle.std.proofs.Math.Path.{refl, sym}
 use Rattle.std.proofs.Common.{ap, ap₂, ◌∙◌, length-append, get_or-set_same, get_or-set_other}
 use Rattle.std.proofs.Math.Option.{none, some}
 use Prim.Native.Nat.{ℕ, zero, suc, ◌+◌, ◌-◌, ◌≤◌, ◌<◌}
 use native.Mathlib.Omega.{arith}
 use Rattle.std.proofs.Math.ListN.{get_or-append}
-use Rattle.std.proofs.lemmas.List.{get_or_at}
+use Rattle.std.proofs.lemmas.List.{get_or_at, get_or-take, length-take-le}
 use borrow.Author.Tests.{eq-eqb, ne_eqb, eqb-true, eqb-false}
 use Rattle.words.specs.ListLaws.{either}
 use Rattle.comparison.specs.Agrees.{meant, bind}
 use Rattle.supplier.specs.declared.scope.Formal.{Formal}
-use Rattle.supplier.specs.Scope.{nobody, name_in, variable_in, scope_of, innermost, Kept}
+use Rattle.supplier.specs.Scope.{nobody, name_in, variable_in, scope_of, place_after, innermost, Kept}
 
 module _ (n : ℕ) (scope : List Formal) where
   -- ---- the search from the innermost
 
-  pub innermost-found : (k : ℕ) → 0 < k → name_in scope (k - 1) ≡ n → innermost n scope k ≡ k
+  innermost-last : (top k : ℕ) → k < top → name_in scope k ≡ n → ((j : ℕ) → k < j → j < top → name_in scope j ≡ n → ⊥) → innermost n scope top ≡ suc k
   unfolding innermost
-  innermost-found zero h e = absurd (omega arith)
-  innermost-found (suc k) h e =
-      let s : suc k - 1 ≡ k = omega arith in
-      rw (eq-eqb n (name_in scope k) (sym (ap (λ j. name_in scope j) (sym s) ∙ e)))
+  innermost-last zero k l e f = absurd (omega arith)
+  innermost-last (suc m) k l e f =
+      either (eqb m k)
+      (λ q. let i : m ≡ k = eqb-true m k q in rw (eq-eqb n (name_in scope m) (sym (ap (name_in scope) i ∙ e)), i) refl)
+      (λ q. let i : m ≡ k → ⊥ = eqb-false m k q in
+      let a : name_in scope m ≡ n → ⊥ = f m (omega (arith, i)) (omega arith) in
+      rw (ne_eqb n (name_in scope m) (λ z. a (sym z))) (innermost-last m k (omega (arith, i)) e (λ j x y. f j x (omega arith))))
 
-  pub innermost-next : (k : ℕ) → 0 < k → (name_in scope (k - 1) ≡ n → ⊥) → innermost n scope k ≡ innermost n scope (k - 1)
+  innermost-nowhere : (top : ℕ) → ((j : ℕ) → j < top → name_in scope j ≡ n → ⊥) → innermost n scope top ≡ 0
   unfolding innermost
-  innermost-next zero h e = absurd (omega arith)
-  innermost-next (suc k) h e =
-      let s : suc k - 1 ≡ k = omega arith in
-      rw (s, ne_eqb n (name_in scope k) (λ q. e (ap (λ j. name_in scope j) s ∙ sym q)))
+  innermost-nowhere zero f = refl
+  innermost-nowhere (suc m) f = rw (ne_eqb n (name_in scope m) (λ z. f m (omega arith) (sym z))) (innermost-nowhere m (λ j l. f j (omega arith)))
+
+  -- that of a search backwards through the first `top`
+  module _ (top : ℕ) (h : top ≤ length scope) where
+    abbrev within : List Formal
+    within = take top scope
+
+    abbrev Named : ℕ → Type 0
+    Named k = (get_or within k nobody).name ≡ n
+
+    same-name : (k : ℕ) → k < top → name_in scope k ≡ n → Named k
+    same-name k l e = ap (λ f. f.name) (get_or-take top scope k nobody l) ∙ e
+
+    pub place-found : (r : Option ℕ) (k : ℕ) → r ≡ Some k → k < length within → Named k → ((j : ℕ) → k + 1 ≤ j → j < length within → Named j → ⊥) → place_after r ≡ innermost n scope top
+    unfolding place_after
+    place-found r k e l named after =
+        let s : length within ≡ top = length-take-le top scope h in
+        let m : k < top = omega (arith, l, s) in
+        ap place_after e
+        ∙ sym (innermost-last top k m (sym (ap (λ f. f.name) (get_or-take top scope k nobody m)) ∙ named) (λ j x y z. after j (omega (arith, x)) (omega (arith, y, s)) (same-name j y z)))
+
+    pub place-nowhere : (r : Option ℕ) → r ≡ None → ((j : ℕ) → j < length within → Named j → ⊥) → place_after r ≡ innermost n scope top
+    unfolding place_after
+    place-nowhere r e none' =
+        let s : length within ≡ top = length-take-le top scope h in
+        ap place_after e ∙ sym (innermost-nowhere top (λ j y z. none' j (omega (arith, y, s)) (same-name j y z)))
 
   -- ---- what it finds
 

@@ -9,19 +9,12 @@ pub struct Formal {
     pub variable: usize,
 }
 
-// The innermost formal of this name among the first `top`: counted down, as the definition goes.
+// The innermost formal of this name among the first `top`.
 pub fn innermost(scope: &[Formal], top: usize, name: usize) -> Option<usize>
     requires { top ≤ length scope.now }
     ensures { place_after result ≡ innermost name scope.now top }
 {
-    let mut k = top;
-    while k > 0 {
-        if scope[k - 1].name == name {
-            return Some(k - 1);
-        }
-        k = k - 1;
-    }
-    None
+    scope[..top].iter().rposition(|f| f.name == name)
 }
 
 // One of the formals from place `from` on has this name, among the first `top`.
