@@ -93,7 +93,8 @@ fn expanded(
     }
 }
 
-// The output of a text with fuel, by way of four lent tables; nothing is laid where it does not fit.
+// The output of a text with fuel, by way of four lent tables; nothing is laid where it does not fit. The tables stay apart, as `Filed` says
+// of each what is left in it.
 pub fn file(
     text: &[u8],
     fuel: u32,

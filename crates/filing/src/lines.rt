@@ -1,4 +1,5 @@
-// The lines that open an output, laid from a place on. Without ink nothing is laid: the same call then tells the length.
+// The lines that open an output, laid from a place on. Without ink nothing is laid: the same call then tells the length. Ink stays a
+// flag, as the writer's is (`Left`), so that what is measured and what is laid are one function.
 ghost use Rattle.std.specs.Prelude.{◌∷◌, ◌≤◌, length};
 ghost use Rattle.words.specs.Code.Ground.{number_of};
 ghost use Rattle.core_term.specs.Decimal.{decimal};

@@ -1,7 +1,7 @@
 // The filing program: the recipe on standard input is read, expanded and written, with document 01's fuel and tables.
 #![tactic(auto)]
 
-ghost use Rattle.std.specs.Prelude.{◌≤◌, length, IfOk};
+ghost use Rattle.std.specs.Prelude.{◌≤◌, length};
 ghost use Rattle.words.specs.Limits.{filing_fuel};
 ghost use Rattle.output.specs.Output.{output};
 ghost use Rattle.program_laws.specs.Printed.{Printed};
@@ -11,8 +11,8 @@ mod file; // the whole output of a text, in lent tables
 mod lines; // the line that opens it
 
 use file::file;
+use input::load;
 use std::io;
-use std::io::Read;
 use words::{FILING_CORE, FILING_FUEL, FILING_WORK, ITEM_WORDS, NAME_BYTES, TEXT_BYTES};
 
 // Bytes of a buffer that any text fits, and that a text which is too long fills.
@@ -40,37 +40,6 @@ fn output(text: &[u8], out: &mut [u8]) -> usize
         out,
     );
     written.unwrap_or(0)
-}
-
-// Reads until the buffer is full or the input ends; how many bytes stand at its beginning.
-fn read_full(input: &mut impl Read, bytes: &mut [u8]) -> io::Result<usize>
-    ensures { IfOk result (λ n. n ≤ length bytes.new) }
-{
-    let mut done = 0;
-    while done < bytes.len() {
-        let n = input.read(&mut bytes[done..])?;
-        if n == 0 {
-            break;
-        }
-        done += n;
-    }
-    Ok(done)
-}
-
-// Whether the input can be read on from where it stands, or why not; at its end it can.
-fn can_read(input: &mut impl Read) -> io::Result<()> {
-    let mut more = [0u8; 1];
-    input.read(&mut more)?;
-    Ok(())
-}
-
-// The bytes of an input that can be read on behind them, as many as the buffer holds, at its beginning; how many.
-fn load(input: &mut impl Read, bytes: &mut [u8]) -> io::Result<usize>
-    ensures { IfOk result (λ n. n ≤ length bytes.new) }
-{
-    let length = read_full(input, bytes)?;
-    can_read(input)?;
-    Ok(length)
 }
 
 // Prints the output of a text.

@@ -16,7 +16,8 @@ pub struct End {
     pub units: usize,
 }
 
-// From the node at a place on, until one value is left.
+// From the node at a place on, until one value is left. Words, ends and table stay parameters of each turn: what turns promise
+// (`Everywhere`) is said of the table alone, the others are only read.
 pub fn go(
     words: &[u32],
     ends: &[u32],

@@ -1,5 +1,5 @@
 // Where parts end. A table keeps for each place of a term's words, as far as it reaches, where the term or datum that begins there
-// ends (0: not known); it is filled in one pass, so that no visit of a node looks for the end of a part again.
+// ends (0: not known, as one word has to do for it); it is filled in one pass, so that no visit of a node looks for the end of a part again.
 ghost use Rattle.runner.specs.Memo.{Placed, EndsAt, Memo};
 
 use core_term::nodes::shape_at;

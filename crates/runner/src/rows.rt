@@ -1,5 +1,6 @@
 // The lent table as rows of 16 words. Row i has the i-th value of the value stack, the i-th frame of the frame stack, and the i-th
-// cell of the environments, which is never taken back. An environment is 0, or 1 and the row of its innermost cell.
+// cell of the environments, which is never taken back. An environment is 0, or 1 and the row of its innermost cell: one word of the lent
+// table, as `EnvironmentIs` reads it.
 ghost use Rattle.std.specs.Prelude.{◌≡◌, List, ℕ, ◌+◌, ◌*◌, ◌/◌, ◌%◌, ◌≤◌, length};
 ghost use Rattle.evaluation.specs.Evaluate.{Environment};
 ghost use Rattle.evaluation.specs.Evaluate as S;

@@ -3,13 +3,14 @@ use Rattle.std.specs.Prelude.{◌≡◌, List, [], Bool, true, Result, Ok, Err}
 use Rattle.words.specs.declared.ground.Ground.{Ground}
 use Rattle.words.specs.declared.ground.Ground.TheVariants.{OpenName, OutsideGrammar}
 use Rattle.std.proofs.Math.Path.{ap}
-use Rattle.std.proofs.Common.{sym, ◌∙◌}
+use Rattle.std.proofs.Common.{◌∙◌}
 use Rattle.std.proofs.Math.Bool.{false}
 use Prim.Native.Nat.{ℕ}
 use Rattle.datum.specs.Datum.{Datum}
 use Rattle.supplier.specs.declared.front.Difference.{Difference}
 use Rattle.supplier.specs.declared.front.Difference.TheVariants.{Other, Open, Outside}
 use Rattle.supplier.specs.Items.{DatumAt}
+use Rattle.supplier.specs.declared.scope.Formal.{Formal}
 use Rattle.supplier.specs.Scope.{scope_of}
 use Rattle.supplier.specs.Walk.{walk}
 use Rattle.supplier.specs.WalkSays.{answered, walk-decides}
@@ -17,7 +18,7 @@ use Rattle.supplier.specs.Told.{Walked, found_of, Told}
 use Rattle.supplier.specs.Service.{verdict_of}
 use Rattle.supplier.specs.Text.{ElementRight}
 
-module _ (items theirs words ours operations scope : List ℕ) (w : Walked)
+module _ (items theirs words ours operations : List ℕ) (scope : List Formal) (w : Walked)
     (told : (d : Datum) → DatumAt items 1 d → Told words (walk theirs ours operations d false (scope_of scope 0) words) w) where
   by_finding : (r : Result Bool Ground) → verdict_of r ≡ answered theirs ours operations (found_of words w) → ElementRight items theirs words ours operations r
   unfolding scope_of

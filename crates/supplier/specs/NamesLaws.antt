@@ -1,6 +1,6 @@
 -- Laws of names by spelling.
 use Rattle.std.specs.List.{list_any}
-use Rattle.std.specs.Prelude.{◌≡◌, Bool, true, false, ◌||◌, ltb, leb, replicate}
+use Rattle.std.specs.Prelude.{◌≡◌, Bool, true, ◌||◌, ltb, leb, replicate}
 use Rattle.std.proofs.Math.Path.{refl, sym, ap}
 use Rattle.std.proofs.Common.{◌∙◌, arith}
 use mathlib.Core.List.{List, [], ◌∷◌, ◌++◌, map}

@@ -5,20 +5,18 @@ use Rattle.words.specs.declared.ground.Ground.TheVariants.{BadLayout, BadOperati
 use Rattle.words.specs.Code.Ground.{number_of}
 use Rattle.std.specs.Result.{is_err}
 use Rattle.std.proofs.Math.Path.{refl, sym, ap, subst}
-use Rattle.std.proofs.Common.{◌∙◌, arith, length-take-le, le-leb, leb-true, leb-false}
+use Rattle.std.proofs.Common.{◌∙◌, arith, length-take-le}
 use Rattle.std.proofs.Math.Bool.{false}
 use mathlib.Core.List.{List, [], map}
 use Rattle.std.proofs.Math.Option.{Option, none, some}
 use Prim.Native.Nat.{ℕ, ◌*◌, ◌-◌, ◌≤◌, ◌<◌}
 use Rattle.std.proofs.Math.ListN.{length, length-append}
 use Rattle.std.proofs.Math.Seq.{take_at}
-use Rattle.std.proofs.lemmas.Bool.{lt-leb}
 use Rattle.words.specs.Limits.{names_most, item_words_least}
-use Rattle.words.specs.Lists.{within, all_of, any_of, equal}
-use Rattle.words.specs.ListLaws.{either, never}
+use Rattle.words.specs.Lists.{all_of}
+use Rattle.words.specs.ListLaws.{never}
 use Rattle.words.specs.Tables.{Stage, filled, left_at}
 use Rattle.words.specs.TableLaws.{zeros-left}
-use Rattle.words.specs.TestLaws.{or_left, or_right, or-none, within-is, outside_below}
 use Rattle.datum.specs.Datum.{data_items}
 use Rattle.datum.specs.NameTable.{name_at, has_name}
 use Rattle.reading.specs.Elements.{Answer, got, refused_for}
@@ -35,7 +33,7 @@ use Rattle.core_term.specs.Check.{term_of, is_some, is_term}
 use Rattle.core_term.proofs.OfCode.CheckLaws.{is_term-some}
 use Rattle.expansion.specs.Run.{operation_numbers, are_operations}
 use Rattle.comparison.specs.Grammar.{after, expression_of}
-use Rattle.comparison.specs.Compare.{Verdict, yes, no, refused_on, decided, held, Reply, unread, replied, require, spelled_operations, our_term, with_term, comparison, compare, kept, left_by, read_words, items_left, names_left}
+use Rattle.comparison.specs.Compare.{Verdict, decided, held, Reply, unread, replied, require, spelled_operations, our_term, with_term, comparison, compare, kept, left_by, read_words, items_left, names_left}
 use Rattle.supplier.specs.Names.{Slot}
 use Rattle.supplier.specs.Items.{DatumAt, Held}
 use Rattle.supplier.specs.WalkSays.{good_in}

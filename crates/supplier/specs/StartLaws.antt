@@ -1,12 +1,11 @@
 -- Laws of how the walk through a list begins, one for each way through the code.
-use Rattle.std.specs.Prelude.{◌≡◌, refl, Bool, cond, List, [], ◌∷◌, ℕ, suc, ◌+◌, ◌-◌, ◌*◌, ◌≤◌, ◌<◌, eqb, ltb, length, Option, Some, None, Ok, Err}
+use Rattle.std.specs.Prelude.{◌≡◌, refl, Bool, cond, List, [], ◌∷◌, ℕ, ◌+◌, ◌*◌, ◌≤◌, ◌<◌, eqb, ltb, length, Option, Some, None, Err}
 use Rattle.std.proofs.Math.Path.{sym, ap, ap₂, subst}
 use Rattle.std.proofs.Common.{◌∙◌}
 use Rattle.std.proofs.Math.Bool.{true, false}
 use Rattle.std.proofs.Math.Option.{none, some}
-use Rattle.std.proofs.Math.Option as M
 use native.Mathlib.Omega.{arith}
-use borrow.Author.Tests.{eq-eqb, ne_eqb, eqb-true, ltb-true}
+use borrow.Author.Tests.{eq-eqb, ne_eqb, eqb-true}
 use Rattle.words.specs.ListLaws.{either, never}
 use Rattle.words.specs.Options.{only_if}
 use Rattle.words.specs.TestLaws.{or_left, or_right}
@@ -28,11 +27,12 @@ use Rattle.supplier.specs.Items.{DatumAt, DataAt, Held, HeldAll, PairAt}
 use Rattle.supplier.specs.ItemsLaws.{pair-kind, none-kind, as-list, name-datum, constant-datum, empty-datum, pair-datum}
 use Rattle.supplier.specs.ListLaws.{count-pair}
 use Rattle.supplier.specs.Scope.{scope_of, Kept}
+use Rattle.supplier.specs.declared.scope.Formal.{Formal}
 use Rattle.supplier.specs.ScopeLaws.{kept-scope}
-use Rattle.supplier.specs.Walk.{Found, outside, same, left_of, joined, constant_here, quoted_name, name_here, takes, if_sort, list_sort, lambda_sort, application_sort, ours_of, form_of, quotes, plan, quote_plan, if_plan, lambda_plan, formals_of, headed_plan, plan_of, walk, walk_from}
+use Rattle.supplier.specs.Walk.{Found, outside, same, left_of, joined, constant_here, quoted_name, name_here, takes, if_sort, list_sort, lambda_sort, application_sort, ours_of, form_of, quotes, quote_plan, if_plan, lambda_plan, formals_of, headed_plan, plan_of, walk, walk_from}
 use Rattle.supplier.specs.Told.{Walked, found_of, Within, Told, ours_in, Fronted}
 use Rattle.supplier.specs.ToldLaws.{told-as}
-use Rattle.supplier.specs.Forms.{FormalsAre, Begun, Goes, Started, LambdaStarted, planned}
+use Rattle.supplier.specs.Forms.{FormalsAre, Goes, Started, LambdaStarted, planned}
 
 -- ---- the form at the head
 
@@ -61,11 +61,11 @@ formals-items f ns e = ap datum_items (sym (formals-back f ns e).0) ∙ names-it
 abbrev pub begun_at : ℕ → ℕ → Bool → Walked → Start
 begun_at i top q w = record { place = record { i = i; top = top; quoted = q }; found = w }
 
-goes_on : (words scope : List ℕ) (at : Place) (i : ℕ) (q : Bool) (w : Walked) → 2 * at.top ≤ at.i → at.i ≤ i → Within words w
+goes_on : (words : List ℕ) (scope : List Formal) (at : Place) (i : ℕ) (q : Bool) (w : Walked) → 2 * at.top ≤ at.i → at.i ≤ i → Within words w
     → Goes words scope scope at (begun_at i at.top q w)
 goes_on words scope at i q w room later st = record { kept = λ k l. refl; within = st; room = omega arith; later = later; more = omega arith }
 
-module _ (items words scope : List ℕ) (at : Place) (room : 2 * at.top ≤ at.i) (w : Walked) where
+module _ (items words : List ℕ) (scope : List Formal) (at : Place) (room : 2 * at.top ≤ at.i) (w : Walked) where
   abbrev Starts : Start → Type 0
   Starts = Started items words scope scope at
 
@@ -167,7 +167,7 @@ module _ (items words scope : List ℕ) (at : Place) (room : 2 * at.top ≤ at.i
             goes_on words scope at at.i false w room (omega arith) t.within,
           )
 
-      pub start-lambda : form ≡ 2 → HeldAll items at.i → (scope' : List ℕ) (there : Place) → there.i ≡ next → there.top ≡ at.top → (r : Start)
+      pub start-lambda : form ≡ 2 → HeldAll items at.i → (scope' : List Formal) (there : Place) → there.i ≡ next → there.top ≡ at.top → (r : Start)
           → LambdaStarted items words scope scope' there r → Started items words scope scope' at r
       unfolding headed_plan
       start-lambda z h scope' there x y r l = (
@@ -193,7 +193,7 @@ module _ (items words scope : List ℕ) (at : Place) (room : 2 * at.top ≤ at.i
 
 -- ---- what stands behind lambda
 
-module _ (items words scope : List ℕ) (at : Place) (room : 2 * at.top ≤ at.i) (held : HeldAll items at.i) (n : ℕ) (counts : (ds : Data) → DataAt items at.i ds → n ≡ D.count ds) (w : Walked) where
+module _ (items words : List ℕ) (scope : List Formal) (at : Place) (room : 2 * at.top ≤ at.i) (held : HeldAll items at.i) (n : ℕ) (counts : (ds : Data) → DataAt items at.i ds → n ≡ D.count ds) (w : Walked) where
   pub lambda-not-two : (n ≡ 2 → ⊥) → (r : Start) → r ≡ begun_at at.i at.top false (Err Outside) → LambdaStarted items words scope scope at r
   unfolding walk lambda_plan formals_of only_if found_of
   lambda-not-two f r e =
@@ -220,7 +220,7 @@ module _ (items words scope : List ℕ) (at : Place) (room : 2 * at.top ≤ at.i
     unfolding formals_of only_if after first
     formals-are ds o = rw (eq-eqb (D.count ds) 2 (sym (counts ds o) ∙ two)) (ap (λ x. after (first x) formals) (pair_of ds o).is)
 
-    module _ (v : ℕ) (scope' : List ℕ) (b : Option ℕ) (are : (d : Datum) → DatumAt items head d → FormalsAre d at.top v scope scope' b) (kept : Kept at.top scope scope') where
+    module _ (v : ℕ) (scope' : List Formal) (b : Option ℕ) (are : (d : Datum) → DatumAt items head d → FormalsAre d at.top v scope scope' b) (kept : Kept at.top scope scope') where
       pub lambda-no-formals : b ≡ None → (r : Start) → r ≡ begun_at at.i at.top false (Err Outside) → LambdaStarted items words scope scope' at r
       unfolding walk lambda_plan found_of
       lambda-no-formals e r g =
@@ -275,12 +275,12 @@ module _ (items words scope : List ℕ) (at : Place) (room : 2 * at.top ≤ at.i
 -- ---- element by element
 
 -- the list from place j on, and what was found before it
-abbrev pub Walking : (theirs ours operations items : List ℕ) (q : Bool) (scope : List ℕ) (top i j : ℕ) (before now : Found) → Type 0
+abbrev pub Walking : (theirs ours operations items : List ℕ) (q : Bool) (scope : List Formal) (top i j : ℕ) (before now : Found) → Type 0
 Walking theirs ours operations items q scope top i j before now =
     (ds : Data) → DataAt items i ds
     → (es : Data) × (DataAt items j es × (walk_from theirs ours operations ds 0 q (scope_of scope top) before ≡ walk_from theirs ours operations es 0 q (scope_of scope top) now))
 
-module _ (theirs ours operations items words : List ℕ) (q : Bool) (scope : List ℕ) (top i : ℕ) (before : Found) where
+module _ (theirs ours operations items words : List ℕ) (q : Bool) (scope : List Formal) (top i : ℕ) (before : Found) where
   abbrev Walks : ℕ → Found → Type 0
   Walks j now = Walking theirs ours operations items q scope top i j before now
 
@@ -298,7 +298,7 @@ module _ (theirs ours operations items words : List ℕ) (q : Bool) (scope : Lis
           within = st;
         }
 
-    module _ (pair : k ≡ 4) (at : ℕ) (a : at ≡ head_at items j) (scope₁ : List ℕ) (kept : Kept top scope scope₁) (l : List ℕ) (e : l ≡ left_of (found_of words found))
+    module _ (pair : k ≡ 4) (at : ℕ) (a : at ≡ head_at items j) (scope₁ : List Formal) (kept : Kept top scope scope₁) (l : List ℕ) (e : l ≡ left_of (found_of words found))
         (next : Walked) (told : (d : Datum) → DatumAt items at d → Told l (walk theirs ours operations d q (scope_of scope₁ top) l) next) where
       pub next-within : Held items at → Within (left_of (found_of words found)) next
       next-within h = subst (λ x. Within x next) e (told h.0 h.1).within
@@ -323,7 +323,7 @@ module _ (theirs ours operations items words : List ℕ) (q : Bool) (scope : Lis
 
 -- ---- an element, by the kind of its item
 
-module _ (theirs ours operations items words : List ℕ) (q : Bool) (scope : List ℕ) (top i k : ℕ) (kind : k ≡ kind_at items i) (w : Walked) where
+module _ (theirs ours operations items words : List ℕ) (q : Bool) (scope : List Formal) (top i k : ℕ) (kind : k ≡ kind_at items i) (w : Walked) where
   abbrev Element : Type 0
   Element = (d : Datum) → DatumAt items i d → Told words (walk theirs ours operations d q (scope_of scope top) words) w
 
@@ -361,7 +361,7 @@ module _ (theirs ours operations items words : List ℕ) (q : Bool) (scope : Lis
   pub list_held : is_list_kind k ≡ true → Held items i → HeldAll items i
   list_held h o = let l = list-is h o.0 o.1 in (l.0, l.2)
 
-  module _ (list : is_list_kind k ≡ true) (at : Place) (x : at.i ≡ i) (y : at.top ≡ top) (z : at.quoted ≡ q) (scope' : List ℕ) (r : Start) (s : Started items words scope scope' at r) where
+  module _ (list : is_list_kind k ≡ true) (at : Place) (x : at.i ≡ i) (y : at.top ≡ top) (z : at.quoted ≡ q) (scope' : List Formal) (r : Start) (s : Started items words scope scope' at r) where
     pub start-held : Held items i → HeldAll items r.place.i
     start-held h = let l = list-is list h.0 h.1 in let g = s.0 l.0 (subst (λ j. DataAt items j l.0) (sym x) l.2) in (g.elements, g.list)
 

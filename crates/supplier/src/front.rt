@@ -5,7 +5,7 @@ ghost use Rattle.core_term.specs.Node.{node_at};
 ghost use Rattle.core_term.specs.Code.Opened.{node_in};
 ghost use Rattle.core_term.specs.declared.nodes.Node.TheVariants.{Lambda};
 ghost use Rattle.supplier.specs.Walk.{ours_of, takes, constant_here};
-ghost use Rattle.supplier.specs.Told.{Fronted, Told};
+ghost use Rattle.supplier.specs.Told.{sort_number, Fronted, Told};
 
 use core_term::nodes::{Node, opened};
 
@@ -21,36 +21,32 @@ pub enum Difference {
 // How many words of ours are taken, where the text is the same so far.
 pub type Walked = Result<usize, Difference>;
 
-// Sorts of nodes.
-const CONSTANT: u32 = 0;
+// Sorts of nodes, and none.
+#[derive(Clone, Copy, PartialEq, Eq)]
+pub enum Sort {
+    Constant,
+    Variable,
+    Operation,
+    Name,
+    List,
+    If,
+    Lambda,
+    Application,
+    None,
+}
 
-pub const VARIABLE: u32 = 1;
-
-pub const OPERATION: u32 = 2;
-
-pub const NAME: u32 = 3;
-
-pub const LIST: u32 = 4;
-
-pub const IF: u32 = 5;
-
-pub const LAMBDA: u32 = 6;
-
-pub const APPLICATION: u32 = 7;
-
-const NONE: u32 = 8;
-
-// Of a constant its kind and two words, of a lambda how many variables and the first, of others their number; its own words.
+// Of a constant its kind and two words, of a lambda how many variables and the first, of others their number; its own words. No enum with
+// fields, since `takes` compares sort and number alike for each sort.
 #[derive(Clone, Copy)]
 pub struct Front {
-    pub sort: u32,
+    pub sort: Sort,
     pub first: u32,
     pub second: u32,
     pub third: u32,
     pub size: usize,
 }
 
-fn of(sort: u32, first: u32, second: u32, third: u32, size: usize) -> Front
+fn of(sort: Sort, first: u32, second: u32, third: u32, size: usize) -> Front
     ensures { result ≡ record { sort = sort; first = first; second = second; third = third; size = size } }
 {
     Front {
@@ -69,34 +65,34 @@ fn lambda(words: &[u32], first: u32, count: u32) -> Front
 {
     let names = words.len() - 3;
     if (count as usize) < names {
-        return of(LAMBDA, count, first, 0, count as usize + 3);
+        return of(Sort::Lambda, count, first, 0, count as usize + 3);
     }
-    of(LAMBDA, names as u32, first, 0, words.len())
+    of(Sort::Lambda, names as u32, first, 0, words.len())
 }
 
 pub fn own(words: &[u32]) -> Front
     ensures { Fronted words.now result }
 {
     let Some(node) = opened(words) else {
-        return of(NONE, 0, 0, 0, words.len());
+        return of(Sort::None, 0, 0, 0, words.len());
     };
     match node {
-        Node::Variable(n) => of(VARIABLE, n, 0, 0, 2),
-        Node::Operation(n) => of(OPERATION, n, 0, 0, 2),
-        Node::Integer(w) => of(CONSTANT, 1, w, 0, 2),
-        Node::Boolean(w) => of(CONSTANT, 2, w, 0, 2),
-        Node::Decimal(w, places) => of(CONSTANT, 5, w, places, 3),
-        Node::Name(n) => of(NAME, n, 0, 0, 2),
-        Node::List(n) => of(LIST, n, 0, 0, 2),
-        Node::If => of(IF, 0, 0, 0, 1),
+        Node::Variable(n) => of(Sort::Variable, n, 0, 0, 2),
+        Node::Operation(n) => of(Sort::Operation, n, 0, 0, 2),
+        Node::Integer(w) => of(Sort::Constant, 1, w, 0, 2),
+        Node::Boolean(w) => of(Sort::Constant, 2, w, 0, 2),
+        Node::Decimal(w, places) => of(Sort::Constant, 5, w, places, 3),
+        Node::Name(n) => of(Sort::Name, n, 0, 0, 2),
+        Node::List(n) => of(Sort::List, n, 0, 0, 2),
+        Node::If => of(Sort::If, 0, 0, 0, 1),
         Node::Lambda(first, count) => lambda(words, first, count),
-        Node::Application(n) => of(APPLICATION, n, 0, 0, 2),
+        Node::Application(n) => of(Sort::Application, n, 0, 0, 2),
     }
 }
 
 // A node of this sort and number.
-pub fn takes(words: &[u32], sort: u32, number: usize) -> Walked
-    ensures { Told words.now (takes sort number (ours_of (node_at words.now))) result }
+pub fn takes(words: &[u32], sort: Sort, number: usize) -> Walked
+    ensures { Told words.now (takes (sort_number sort) number (ours_of (node_at words.now))) result }
 {
     let node = own(words);
     if node.sort != sort {
@@ -113,7 +109,7 @@ pub fn constant(words: &[u32], kind: u32, first: usize, second: usize) -> Walked
     ensures { Told words.now (constant_here (record { kind = kind; first = first; second = second }) (ours_of (node_at words.now))) result }
 {
     let node = own(words);
-    if node.sort != CONSTANT {
+    if node.sort != Sort::Constant {
         return Err(Difference::Other);
     }
     if node.first != kind {

@@ -8,11 +8,9 @@ ghost use Rattle.supplier.specs.Walk.{outside, same, quotes, form_of, takes, if_
 ghost use Rattle.supplier.specs.Told.{Told};
 ghost use Rattle.supplier.specs.Forms.{form_number, FormalsAre, Room, Started, LambdaStarted};
 
-use crate::front;
-use crate::front::{Difference, Walked, own, takes};
-use crate::scope::is_bound;
+use crate::front::{Difference, Sort, Walked, own, takes};
+use crate::scope::{Formal, is_bound};
 use layout::item::{EMPTY, NAME, PAIR, head, kind, tail};
-use words::NAMES;
 
 // Formals of one lambda.
 pub const FORMALS: usize = words::FORMALS as usize;
@@ -40,7 +38,7 @@ pub struct Start {
     pub found: Walked,
 }
 
-// How many elements a list has.
+// How many elements a list has: a loop along its cells, which no iterator yields.
 pub fn count(items: &[u32], i: usize) -> usize
     requires { HeldAll items.now i }
     ensures { (ds : Data) → DataAt items.now i ds → result ≡ count ds }
@@ -80,7 +78,7 @@ fn is_quotation(items: &[u32], i: usize) -> bool
 pub fn formals(
     items: &[u32],
     i: usize,
-    scope: &mut [usize],
+    scope: &mut [Formal],
     top: usize,
     first: u32,
 ) -> Option<usize>
@@ -105,7 +103,10 @@ pub fn formals(
         if is_bound(scope, top, top + n, name) {
             return None;
         }
-        scope[top + n] = NAMES * (first as usize + n) + name;
+        scope[top + n] = Formal {
+            name,
+            variable: first as usize + n,
+        };
         n = n + 1;
         j = tail(items, j);
     }
@@ -149,11 +150,11 @@ fn conditional(items: &[u32], i: usize, words: &[u32]) -> Walked
     if count(items, i) != 3 {
         return Err(Difference::Outside);
     }
-    takes(words, front::IF, 0)
+    takes(words, Sort::If, 0)
 }
 
 // What stands behind lambda: its formals and its body. Our name words are not heeded.
-fn lambda(items: &[u32], words: &[u32], scope: &mut [usize], at: Place) -> Start
+fn lambda(items: &[u32], words: &[u32], scope: &mut [Formal], at: Place) -> Start
     requires { HeldAll items.now at.i × Room items.now scope.old at.top at.i }
     ensures { LambdaStarted items.now words.now scope.old scope.new at result }
 {
@@ -179,19 +180,19 @@ fn lambda(items: &[u32], words: &[u32], scope: &mut [usize], at: Place) -> Start
     };
     Start {
         place,
-        found: takes(words, front::LAMBDA, n),
+        found: takes(words, Sort::Lambda, n),
     }
 }
 
 // How the walk through a list begins: behind the own words of our node, where there is one for it.
-pub fn list(items: &[u32], words: &[u32], scope: &mut [usize], at: Place) -> Start
+pub fn list(items: &[u32], words: &[u32], scope: &mut [Formal], at: Place) -> Start
     requires { HeldAll items.now at.i × Room items.now scope.old at.top at.i }
     ensures { Started items.now words.now scope.old scope.new at result }
 {
     if at.quoted {
         return Start {
             place: at,
-            found: takes(words, front::LIST, count(items, at.i)),
+            found: takes(words, Sort::List, count(items, at.i)),
         };
     }
     if kind(items, at.i) != PAIR {
@@ -219,7 +220,7 @@ pub fn list(items: &[u32], words: &[u32], scope: &mut [usize], at: Place) -> Sta
         Some(Form::Lambda) => lambda(items, words, scope, next),
         None => Start {
             place: at,
-            found: takes(words, front::APPLICATION, count(items, next.i)),
+            found: takes(words, Sort::Application, count(items, next.i)),
         },
     }
 }

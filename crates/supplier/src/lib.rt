@@ -21,10 +21,12 @@ use grammar::{FORMALS, Place};
 use layout::{is_layout, operation};
 use names::all_named;
 use reader::read_elements;
+use scope::Formal;
 use words::ground::Ground;
 use words::{ITEM, MOST_ITEMS, NAMES, OPERATIONS};
 
-// Formals round an expression: a lambda's eight behind those of the lambdas round it, two items of the text for each.
+// Formals round an expression: a lambda's eight behind those of the lambdas round it, two items of the text for each; there
+// is no heap for a scope that grows.
 const SCOPE: usize = MOST_ITEMS / 2 + FORMALS;
 
 // The element of a text that was read, which item 1 begins: grounds 21 and 22, then yes or no.
@@ -38,7 +40,11 @@ fn decided(
     requires { Held items.now 1 × (length items.now ≤ item_words_least) × Spelling theirs.now ours.now operations.now }
     ensures { ElementRight items.now theirs.now words.now ours.now operations.now result }
 {
-    let mut scope = [0usize; SCOPE];
+    let nobody = Formal {
+        name: 0,
+        variable: 0,
+    };
+    let mut scope = [nobody; SCOPE];
     let at = Place {
         i: 1,
         top: 0,

@@ -10,11 +10,10 @@ ghost use Rattle.supplier.specs.Walk.{left_of, joined, ours_of, is_place, quoted
 ghost use Rattle.supplier.specs.Told.{found_of, Fronted, Within, Told};
 ghost use Rattle.supplier.specs.Forms.{Room, Spelling};
 
-use crate::front;
-use crate::front::{Difference, Front, Walked, constant, own, takes};
+use crate::front::{Difference, Front, Sort, Walked, constant, own, takes};
 use crate::grammar::{Place, Start, list};
 use crate::names::{any_name, same_name};
-use crate::scope::{innermost, variable};
+use crate::scope::{Formal, innermost, variable};
 use core_term::has_name;
 use layout::item::{NAME, PAIR, head, is_list_kind, kind, tail};
 
@@ -24,7 +23,7 @@ fn quoted_name(words: &[u32], theirs: &[u8], ours: &[u8], n: usize) -> Walked
     ensures { (operations : List ℕ) → Told words.now (quoted_name theirs.now ours.now operations n (ours_of (node_at words.now))) result }
 {
     let node = own(words);
-    if node.sort != front::NAME {
+    if node.sort != Sort::Name {
         return Err(Difference::Other);
     }
     let m = node.first as usize;
@@ -42,7 +41,7 @@ fn is_place(node: Front, theirs: &[u8], ours: &[u8], operations: &[u16], n: usiz
     requires { Spelling theirs.now ours.now operations.now × (n < names_most) }
     ensures { (ws : List ℕ) → Fronted ws node → result ≡ is_place theirs.now ours.now operations.now n (ours_of (node_at ws)) }
 {
-    if node.sort != front::OPERATION {
+    if node.sort != Sort::Operation {
         return false;
     }
     let p = node.first as usize;
@@ -73,7 +72,7 @@ fn reference(
     theirs: &[u8],
     ours: &[u8],
     operations: &[u16],
-    scope: &[usize],
+    scope: &[Formal],
     top: usize,
     n: usize,
 ) -> Walked
@@ -84,7 +83,7 @@ fn reference(
         return Err(Difference::Outside);
     }
     match innermost(scope, top, n) {
-        Some(k) => takes(words, front::VARIABLE, variable(scope, k)),
+        Some(k) => takes(words, Sort::Variable, variable(scope, k)),
         None => free(words, theirs, ours, operations, n),
     }
 }
@@ -125,7 +124,7 @@ pub fn expression(
     theirs: &[u8],
     ours: &[u8],
     operations: &[u16],
-    scope: &mut [usize],
+    scope: &mut [Formal],
     at: Place,
 ) -> Walked
     requires { Held items.now at.i × Room items.now scope.old at.top at.i × Spelling theirs.now ours.now operations.now }
@@ -155,7 +154,7 @@ fn all(
     theirs: &[u8],
     ours: &[u8],
     operations: &[u16],
-    scope: &mut [usize],
+    scope: &mut [Formal],
     from: Start,
 ) -> Walked
     requires { HeldAll items.now from.place.i × Room items.now scope.old from.place.top from.place.i × Spelling theirs.now ours.now operations.now × Within words.now from.found }

@@ -3,31 +3,16 @@
 // input cannot be read, standard error says why, and nothing is printed.
 #![tactic(auto)]
 
-ghost use Rattle.std.specs.Prelude.{◌≤◌, length, IfOk};
+ghost use Rattle.std.specs.Prelude.{◌≤◌, length};
 
+use input::read_full;
 use lexer::token::Lexeme;
 use lexer::token_reader::token_from;
 use std::io;
-use std::io::Read;
 use words::ground::Ground;
 
 // Bytes of a buffer that any text fits, and that a text which is too long fills.
 const BUFFER: usize = words::TEXT_BYTES + 1;
-
-// Reads until the buffer is full or the input ends; how many bytes stand at its beginning.
-fn read_full(input: &mut impl Read, bytes: &mut [u8]) -> io::Result<usize>
-    ensures { IfOk result (λ n. n ≤ length bytes.new) }
-{
-    let mut done = 0;
-    while done < bytes.len() {
-        let n = input.read(&mut bytes[done..])?;
-        if n == 0 {
-            break;
-        }
-        done += n;
-    }
-    Ok(done)
-}
 
 // An offset, then the ground on which reading turns the text back there.
 fn print_ground(rt: &impl Print, from: usize, ground: Ground) -> io::Result<()> {

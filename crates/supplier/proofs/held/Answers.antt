@@ -1,4 +1,4 @@
-use Rattle.std.proofs.Common.{sym, arith, ℕ, ◌*◌, ◌≤◌, length, rules}
+use Rattle.std.proofs.Common.{sym, arith, rules}
 use Rattle.std.proofs.lemmas.Result.{err_from_is_err_and}
 use lib.Seq.{length-take-le}
 use Rattle.supplier.specs.ServiceLaws.{items-within, text-held, text-few, names-slots, text-kept, text-zeroed, text-unread}

@@ -1,21 +1,11 @@
--- Below and above 32 bits it is 25.
-use mathlib.Core.Path.{refl, sym, ap}
-use native.Mathlib.Omega.{arith}
-use Rattle.evaluation.specs.Evaluate.{number_v}
-use Rattle.runner.specs.Rows.{number_i}
-use Rattle.runner.specs.Made.{made_by}
-use Rattle.runner.specs.NumberLaws.{number-below, number-above, number-within}
+-- The word of what fits, or 25.
+use Rattle.std.proofs.lemmas.Result.{err_from_is_err_and}
+use Rattle.runner.specs.NumberLaws.{number-some, number-none}
 use Rattle.runner.proofs.numbers.number.Goals as goal
 
-pub returns-then-n-lt-HALF : goal.returns-then-n-lt-HALF
-returns-then-n-lt-HALF c = made_by _ (sym (number-below c.args.n c.if-n-lt-HALF.true)) refl
-
-pub returns-then-n : goal.returns-then-n
-returns-then-n c = made_by _ (sym (number-above c.args.n c.if-n.true)) refl
-
-pub lowered-requires : goal.lowered-requires
-lowered-requires c = omega (arith, c.if-n-lt-HALF.false, c.if-n.false)
+pub returns-in_err-n : goal.returns-in_err-n
+returns-in_err-n c = λ z h. let r = err_from_is_err_and c.from_residual.result c.from_residual.ensures.1 in
+    rw (r.1, r.2) (number-none z c.args.n h _ c.ok_or.ensures.value _ c.in_err-n.was)
 
 pub returns : goal.returns
-returns c = made_by _ (sym (number-within _ c.if-n-lt-HALF.false c.if-n.false))
-    (λ ws t top. number_i _ refl (ap number_v (sym c.lowered.ensures)))
+returns c = λ z h. rw c.cast_unsigned.ensures (number-some z c.args.n h _ c.ok_or.ensures.value _ c.in_ok-n.was)

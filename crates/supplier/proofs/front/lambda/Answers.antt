@@ -1,5 +1,5 @@
 use native.Mathlib.Omega.{arith}
-use mathlib.Core.Path.{sym, subst, ◌∙◌}
+use mathlib.Core.Path.{sym, subst}
 use Rattle.supplier.specs.Told.{Fronted}
 use Rattle.supplier.specs.ToldLaws.{lambda-three, front-lambda, front-names}
 use Rattle.supplier.proofs.front.lambda.Goals as goal

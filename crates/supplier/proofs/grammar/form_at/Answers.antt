@@ -1,6 +1,6 @@
 use Rattle.supplier.specs.ItemsLaws.{held_in}
 use Rattle.supplier.specs.ListLaws.{form-other, form-low, form-high}
-use Rattle.std.proofs.Common.{sym, ap, ◌∙◌, arith}
+use Rattle.std.proofs.Common.{sym, ◌∙◌, arith}
 use Rattle.supplier.specs.Forms.{form_number}
 use Rattle.supplier.proofs.grammar.form_at.Goals as goal
 

@@ -1,9 +1,7 @@
-use Rattle.std.proofs.Common.{refl, sym, ap, ◌∙◌}
+use Rattle.std.proofs.Common.{refl, sym, ◌∙◌}
 use native.Mathlib.Omega.{arith}
-use Prim.Native.Nat.{◌-◌}
-use lib.ListN.{length}
 use borrow.Author.Tests.{ltb-true, ltb-false}
-use Rattle.supplier.specs.FormalsLaws.{Taking, taking-start, taking-in, taking-pair, taking-head-in, taking-small, taking-none, taking-twice, taking-next, taking-many, taking-end, formals-low, passing-other, passing-not}
+use Rattle.supplier.specs.FormalsLaws.{taking-start, taking-in, taking-pair, taking-head-in, taking-none, taking-twice, taking-next, taking-many, taking-end, formals-low, passing-other, passing-not}
 use Rattle.supplier.proofs.grammar.formals.Goals as goal
 
 pub loop-i-init : goal.loop-i-init
@@ -54,14 +52,8 @@ returns-then-is_bound c = record { formals = taking-twice _ _ _ _ _ _ _ _ c.loop
 pub overflow_add-scope : goal.overflow_add-scope
 overflow_add-scope c = omega (arith, c.loop-i.invariant.few, c.ranges)
 
-pub overflow_mul-scope : goal.overflow_mul-scope
-overflow_mul-scope c = omega (arith, c.loop-i.invariant.few, c.ranges)
-
-pub overflow_add-scope-in-loop-i : goal.overflow_add-scope-in-loop-i
-overflow_add-scope-in-loop-i c = omega (arith, c.loop-i.invariant.few, c.ranges, taking-small _ _ _ _ _ _ _ _ c.loop-i.invariant (sym c.kind.ensures ∙ c.loop-i-test.true) _ c.head-at.ensures (sym c.kind-in-loop-i.ensures ∙ c.if-kind-ne-NAME.false) _ c.head-name.ensures)
-
-pub overflow_add-scope-in-loop-i-2 : goal.overflow_add-scope-in-loop-i-2
-overflow_add-scope-in-loop-i-2 c = omega (arith, c.loop-i.invariant.few, c.requires.1, c.well_formed.1)
+pub overflow_add-top-in-loop-i : goal.overflow_add-top-in-loop-i
+overflow_add-top-in-loop-i c = omega (arith, c.loop-i.invariant.few, c.requires.1, c.well_formed.1)
 
 pub bounds-scope-top : goal.bounds-scope-top
 bounds-scope-top c = omega (arith, c.loop-i.invariant.few, c.if-n-eq-FORMALS.false, c.loop-i.invariant.sized, c.requires.1)

@@ -1,4 +1,4 @@
-use Rattle.std.proofs.Common.{refl, sym, ap, ◌∙◌, arith, Ok, Err, Some}
+use Rattle.std.proofs.Common.{refl, ap, ◌∙◌, arith, Ok, Err, Some}
 use Rattle.supplier.specs.declared.front.Difference.TheVariants.{Outside}
 use Rattle.supplier.specs.Forms.{form_number}
 use Rattle.supplier.specs.ItemsLaws.{all_in, head-held, tail-held}

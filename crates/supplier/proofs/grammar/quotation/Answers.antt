@@ -1,4 +1,4 @@
-use Rattle.std.proofs.Common.{sym, refl, ap, ◌∙◌, arith, cond}
+use Rattle.std.proofs.Common.{sym, ap, ◌∙◌, arith, cond}
 use Rattle.supplier.specs.Walk.{same, outside}
 use Rattle.supplier.specs.ToldLaws.{told-as, told_same, told-outside}
 use Rattle.supplier.proofs.grammar.quotation.Goals as goal

@@ -1,7 +1,7 @@
 use Rattle.std.proofs.Common.{◌≡◌, ℕ, suc, sym, ap, ◌∙◌, leb, ltb, leb-true, leb-false, arith}
 use borrow.Author.Tests.{lt-ltb, le-ltb}
 use Rattle.words.specs.ListLaws.{either}
-use Rattle.supplier.specs.Scope.{place_after, innermost}
+use Rattle.supplier.specs.Scope.{place_after}
 use Rattle.supplier.proofs.scope.is_bound.Goals as goal
 
 at-most : (a k : ℕ) → leb a k ≡ ltb a (suc k)

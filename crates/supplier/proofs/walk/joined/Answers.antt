@@ -1,4 +1,4 @@
-use Rattle.std.proofs.Common.{rules, ◌≡◌, length, ℕ, ◌+◌, ◌≤◌, List, Bool, true, false, refl, sym, ap, ap₂, ◌∙◌, subst, arith, drop, length-drop, Ok, Err}
+use Rattle.std.proofs.Common.{◌≡◌, length, ℕ, ◌≤◌, List, true, false, refl, arith, drop, length-drop, Ok, Err}
 use Rattle.std.specs.Ordering.{partial_lt}
 use Rattle.std.proofs.lemmas.Result.{err_from_is_err_and}
 use Rattle.supplier.specs.contracts.front.DifferencePartialOrd.TheImpl.{partial_cmp-value}

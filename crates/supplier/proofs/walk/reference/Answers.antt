@@ -1,5 +1,5 @@
 use Rattle.supplier.specs.ToldLaws.{reference-outside, reference-free, reference-variable, found-below}
-use Rattle.std.proofs.Common.{arith, ap, subst, sym, ◌∙◌}
+use Rattle.std.proofs.Common.{arith, ap, sym, ◌∙◌}
 use Rattle.supplier.specs.Scope.{place_after}
 use Rattle.supplier.proofs.walk.reference.Goals as goal
 

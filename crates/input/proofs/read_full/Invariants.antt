@@ -1,6 +1,6 @@
 -- What was read fits the buffer.
 use Rattle.std.proofs.Common.{◌≤◌, ◌-◌, length}
-use Rattle.run_recipe.proofs.read_full.Given as goal
+use Rattle.input.proofs.read_full.Given as goal
 
 abbrev pub invariant-loop-done : goal.invariant-loop-done
 invariant-loop-done g l = l.done ≤ length l.bytes
