@@ -1,6 +1,6 @@
 -- Laws of origins: what one word tells of a name.
-use Rattle.std.specs.Prelude.{◌≡◌, ℕ, ◌+◌, ◌*◌, ◌/◌, ◌%◌, ◌<◌, true, eqb, refl}
-use Rattle.std.proofs.Common.{arith, eq-eqb, ne_eqb}
+use Rattle.std.specs.Prelude.{◌≡◌, ℕ, ◌+◌, ◌*◌, ◌/◌, ◌%◌, ◌<◌}
+use Rattle.std.proofs.Common.{arith}
 use Rattle.words.specs.Limits.{names_most}
 use Rattle.recipe.specs.Name.{plain_name, produce_name}
 use Rattle.arena.specs.Arena.{origin_name}

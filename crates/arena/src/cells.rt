@@ -8,15 +8,12 @@ ghost use Rattle.recipe.specs.Tree.{empty, constant, name, pair};
 ghost use Rattle.arena.specs.Arena.{word_at, reference_at, step_limit, wrap_at, origin_name, tree_at};
 ghost use Rattle.arena.specs.Cells.{Room, Cell, Wrapped, Bound, Grown};
 
-use datum::kinds;
 use std::num;
 
+// The words of the lent table: kinds, tags and places are numbers, since the table that C lends holds words.
+
 // Kinds of nodes, as of items; every other is a constant's.
-pub const EMPTY: u32 = kinds::EMPTY;
-
-pub const NAME: u32 = kinds::NAME;
-
-pub const PAIR: u32 = kinds::PAIR;
+pub use datum::kinds::{EMPTY, NAME, PAIR};
 
 // Tags of wraps.
 pub const MARK: u32 = 1;
@@ -66,6 +63,7 @@ pub const BOUND_PENDING: u32 = 8;
 pub const BOUND_OWN: u32 = 9;
 
 // Whether word k is one of the last three.
+#[tactic(auto, unfolding(words::specs::Lists::within))]
 fn is_last(k: u32) -> bool
     ensures { result ≡ within 1 3 k }
 {
@@ -89,11 +87,7 @@ fn further_word(work: &[u32], at: u32, k: u32) -> u32
 fn places(work: &[u32]) -> usize
     ensures { result ≡ length work.now - 2 }
 {
-    let end = work.len();
-    if end < 2 {
-        return 0;
-    }
-    end - 2
+    work.len().saturating_sub(2)
 }
 
 // One of the last three words. The test is the same for each of them, so that who has found one gets the others without a test.
@@ -123,10 +117,7 @@ pub fn reference(work: &[u32], at: u32, k: u32) -> u32
     ensures { result ≡ reference_at work.now at k }
 {
     let r = word(work, at, k);
-    if r < at {
-        return r;
-    }
-    0
+    if r < at { r } else { 0 }
 }
 
 // Three words at the top; answers the new top, which is the cell's reference.

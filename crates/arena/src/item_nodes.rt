@@ -9,14 +9,12 @@ ghost use Rattle.arena.specs.LayOut.{node_of, Laid, Laying, LaidOut};
 use crate::{cells, origins};
 
 // The reference of an item's node.
+#[tactic(auto, unfolding(crate::specs::LayOut::node_of))]
 fn node_of(count: u32, item: u32) -> u32
     requires { count ≤ items_most }
     ensures { result ≡ node_of count item }
 {
-    if count < item {
-        return 0;
-    }
-    3 * (count - item)
+    3 * count.saturating_sub(item)
 }
 
 // The node of the item before those that are laid out; answers the new top.
@@ -52,10 +50,8 @@ pub fn lay_out(items: &[u32], work: &mut [u32]) -> u32
     ensures { LaidOut items.now work.new result }
 {
     let count = (items.len() / 3) as u32;
-    let mut laid: u32 = 0;
-    while laid < count {
+    for laid in 0..count {
         lay_item(items, work, count, laid);
-        laid += 1;
     }
     3 * count
 }

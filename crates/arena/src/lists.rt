@@ -31,10 +31,8 @@ pub fn skip(work: &[u32], list: u32, n: u32) -> u32
     ensures { Means work.now list result (past n) }
 {
     let mut node = list;
-    let mut k = n;
-    while k != 0 {
+    for _ in 0..n {
         node = rest(work, node);
-        k -= 1;
     }
     node
 }
@@ -65,18 +63,12 @@ pub fn is_list(work: &[u32], node: u32) -> bool
     ensures { Tests is_list work.now node result }
 {
     let kind = cells::word(work, node, cells::KIND);
-    if kind == cells::EMPTY {
-        return true;
-    }
-    kind == cells::PAIR
+    kind == cells::EMPTY || kind == cells::PAIR
 }
 
 // Whether a node is a list of exactly n elements.
 pub fn is_list_of(work: &[u32], node: u32, n: u32) -> bool
     ensures { Tests (is_list_of n) work.now node result }
 {
-    if is_list(work, node) {
-        return count(work, node) == n;
-    }
-    false
+    is_list(work, node) && count(work, node) == n
 }

@@ -16,41 +16,55 @@ ghost use Rattle.runner.specs.Service.{Ran};
 ghost use Rattle.recipe_runner.specs.Service.{RecipeRan};
 ghost use Rattle.grebetallboy.specs.Calls.{told, tells_read, tells_run, tells_verdict, verdict_ground, RunCalled, RecipeRunCalled};
 
-use expander::Expansion;
-use lexer::token::Token;
-use reader::Reading;
-use recipe_runner::RecipeRunning;
-use runner::Running;
-use supplier::Comparison;
-use writer::Writing;
+use expander::{Expanded, Refused};
+use lexer::token::Lexeme;
+use reader::Counts;
+use recipe_runner::RecipeError;
+use runner::Outcome;
+use words::ground::Ground;
 
 // ---- the services
 
-pub fn next_token(text: &[u8], at: usize) -> Token
+pub fn next_token(text: &[u8], at: usize) -> Option<Lexeme>
     ensures { Answered text.now at result }
 {
     lexer::token_reader::token_from(text, at)
 }
 
-pub fn read_recipe(text: &[u8], items: &mut [u32], names: &mut [u8]) -> Reading
+pub fn read_recipe(text: &[u8], items: &mut [u32], names: &mut [u8]) -> Result<Counts, Ground>
     ensures { R.Served text.now items.old items.new names.old names.new result }
 {
     reader::read(text, items, names)
 }
 
-pub fn read_elements(text: &[u8], items: &mut [u32], names: &mut [u8], wanted: usize) -> Reading
+pub fn read_elements(
+    text: &[u8],
+    items: &mut [u32],
+    names: &mut [u8],
+    wanted: usize,
+) -> Result<Counts, Ground>
     ensures { R.ServedElements wanted text.now items.old items.new names.old names.new result }
 {
     reader::read_elements(text, items, names, wanted)
 }
 
-pub fn expand_recipe(items: &[u32], fuel: u32, work: &mut [u32], core: &mut [u32]) -> Expansion
+pub fn expand_recipe(
+    items: &[u32],
+    fuel: u32,
+    work: &mut [u32],
+    core: &mut [u32],
+) -> Result<Expanded, Refused>
     ensures { E.Served items.now fuel work.old work.new core.old core.new result }
 {
     expander::expand(items, fuel, work, core)
 }
 
-pub fn write_term(words: &[u32], operations: u32, names: &[u8], out: &mut [u8]) -> Writing
+pub fn write_term(
+    words: &[u32],
+    operations: u32,
+    names: &[u8],
+    out: &mut [u8],
+) -> Result<usize, Ground>
     ensures { Wrote (text_of words.now operations names.now) out.old out.new result }
 {
     writer::write(words, operations, names, out)
@@ -63,13 +77,13 @@ pub fn compare_text(
     text: &[u8],
     items: &mut [u32],
     names: &mut [u8],
-) -> Comparison
+) -> Result<bool, Ground>
     ensures { C.Compared recipe.now ours.now words.now text.now items.old items.new names.old names.new result }
 {
     supplier::compare(recipe, ours, words, text, items, names)
 }
 
-pub fn run_term(words: &[u32], budget: u32, table: &mut [u32]) -> Running
+pub fn run_term(words: &[u32], budget: u32, table: &mut [u32]) -> Result<Outcome, Ground>
     ensures { Ran words.now budget table.old table.new result }
 {
     runner::run(words, budget, table)
@@ -82,7 +96,7 @@ pub fn run_recipe(
     core: &mut [u32],
     budget: u32,
     table: &mut [u32],
-) -> RecipeRunning
+) -> Result<Outcome, RecipeError>
     ensures { RecipeRan items.now fuel work.old work.new core.old core.new budget table.old table.new result }
 {
     recipe_runner::run_recipe(items, fuel, work, core, budget, table)

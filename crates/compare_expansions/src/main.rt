@@ -10,10 +10,10 @@ ghost use Rattle.compare_expansions.specs.Line.{line_most};
 mod line; // what is printed
 mod pair; // a recipe and a supplier's text, in lent tables
 
+use input::load;
 use line::line;
 use pair::compared;
 use std::env::{Env, FillError};
-use std::io::Read;
 use std::rt::Files;
 use std::{fs, io, str};
 use words::{CORE_RATE, FUEL, ITEM_WORDS, MOST_ITEMS, NAME_BYTES, TEXT_BYTES, WORK_RATE};
@@ -34,33 +34,17 @@ const CORE: usize = CORE_RATE * (MOST_ITEMS + FUEL as usize);
 // Bytes of the longest output. specs/Line.antt has the same number.
 const LINE: usize = 26;
 
-fn item_table() -> [u32; ITEM_WORDS] {
-    [0; ITEM_WORDS]
-}
-
-fn name_table() -> [u8; NAME_BYTES] {
-    [0; NAME_BYTES]
-}
-
-fn work_table() -> [u32; WORK] {
-    [0; WORK]
-}
-
-fn core_table() -> [u32; CORE] {
-    [0; CORE]
-}
-
 // The output of a recipe's text and a supplier's, at the beginning of out; its length. Any output fits.
 fn output(recipe: &[u8], text: &[u8], out: &mut [u8]) -> usize
     requires { line_most ≤ length out.old }
     ensures { Printed (output recipe.now text.now) out.old out.new result }
 {
-    let mut items = item_table();
-    let mut names = name_table();
-    let mut work = work_table();
-    let mut core = core_table();
-    let mut text_items = item_table();
-    let mut text_names = name_table();
+    let mut items = [0; ITEM_WORDS];
+    let mut names = [0; NAME_BYTES];
+    let mut work = [0; WORK];
+    let mut core = [0; CORE];
+    let mut text_items = [0; ITEM_WORDS];
+    let mut text_names = [0; NAME_BYTES];
     let answer = compared(
         recipe,
         text,
@@ -74,41 +58,21 @@ fn output(recipe: &[u8], text: &[u8], out: &mut [u8]) -> usize
     line(answer, out)
 }
 
-// Reads until the buffer is full or the input ends; how many bytes stand at its beginning.
-fn read_full(input: &mut impl Read, bytes: &mut [u8]) -> io::Result<usize>
-    ensures { IfOk result (λ n. n ≤ length bytes.new) }
-{
-    let mut done = 0;
-    while done < bytes.len() {
-        let n = input.read(&mut bytes[done..])?;
-        if n == 0 {
-            break;
-        }
-        done += n;
-    }
-    Ok(done)
-}
-
-// Whether a file can be read on from where it stands, or why not; at its end it can.
-fn can_read(file: &mut impl Read) -> io::Result<()> {
-    let mut more = [0u8; 1];
-    file.read(&mut more)?;
-    Ok(())
-}
-
 // The bytes of a file, as many as the buffer holds, at its beginning; how many.
 fn read_file(rt: &impl Files, path: &str, bytes: &mut [u8]) -> io::Result<usize>
     ensures { IfOk result (λ n. n ≤ length bytes.new) }
 {
     let mut file = fs::open(rt, path)?;
-    let count = read_full(&mut file, bytes)?;
-    can_read(&mut file)?;
-    Ok(count)
+    load(&mut file, bytes)
 }
 
 // The bytes of the file that argument i names, as many as a buffer holds, at its beginning; how many. Where it cannot be read, standard
 // error says why.
-fn load(rt: &(impl Env + Files + Eprint), i: usize, bytes: &mut [u8]) -> io::Result<Option<usize>>
+fn load_argument(
+    rt: &(impl Env + Files + Eprint),
+    i: usize,
+    bytes: &mut [u8],
+) -> io::Result<Option<usize>>
     ensures { IfOk result (λ o. IfSome o (λ n. n ≤ length bytes.new)) }
 {
     let mut path = [0u8; PATH];
@@ -151,11 +115,11 @@ fn main(rt: HostRuntime) -> io::Result<()> {
         return eprintln!(rt; "usage: compare_expansions RECIPE TEXT");
     }
     let mut recipe = [0u8; BUFFER];
-    let Some(recipe_length) = load(&rt, 1, &mut recipe)? else {
+    let Some(recipe_length) = load_argument(&rt, 1, &mut recipe)? else {
         return Ok(());
     };
     let mut text = [0u8; BUFFER];
-    let Some(text_length) = load(&rt, 2, &mut text)? else {
+    let Some(text_length) = load_argument(&rt, 2, &mut text)? else {
         return Ok(());
     };
     print(&rt, &recipe[..recipe_length], &text[..text_length])

@@ -5,12 +5,11 @@ ghost use Rattle.reading.specs.Read.{read, read_elements};
 ghost use Rattle.comparison_output.specs.Output.{printed_for, output_of};
 ghost use Rattle.compare_expansions.specs.Line.{line_of};
 
-use crate::line::Answer;
-use expander::{Expansion, expand};
-use reader::{Reading, read};
+use crate::line::Fault;
+use expander::expand;
+use reader::read;
 use supplier::compare;
 use words::{FUEL, ITEM, SLOT};
-use writer::numbers::wide;
 
 // A recipe's items are expanded, with the name table of the same reading, and the text is held against the term.
 fn held(
@@ -21,24 +20,18 @@ fn held(
     core: &mut [u32],
     text_items: &mut [u32],
     text_names: &mut [u8],
-) -> Answer
+) -> Result<bool, Fault>
     ensures { line_of result ≡ printed_for items.now names.now fuel_most (length work.old) (length core.old) (read_elements 1 text.now (length text_items.old) (length text_names.old)) }
 {
     match expand(items, FUEL, work, core) {
-        Expansion::Accepted {
-            steps: _,
-            sum: _,
-            length: l,
-        } => {
-            let end = wide(l);
-            let about = compare(items, names, &core[..end], text, text_items, text_names);
-            Answer::Text(about)
+        Ok(expanded) => {
+            let end = expanded.length as usize;
+            match compare(items, names, &core[..end], text, text_items, text_names) {
+                Ok(same) => Ok(same),
+                Err(ground) => Err(Fault::Text(ground)),
+            }
         }
-        Expansion::Refused {
-            ground: g,
-            steps: _,
-            sum: _,
-        } => Answer::Recipe(g),
+        Err(refused) => Err(Fault::Recipe(refused.ground)),
     }
 }
 
@@ -52,13 +45,13 @@ pub fn compared(
     core: &mut [u32],
     text_items: &mut [u32],
     text_names: &mut [u8],
-) -> Answer
+) -> Result<bool, Fault>
     ensures { line_of result ≡ output_of fuel_most (length work.old) (length core.old) (read recipe.now (length items.old) (length names.old)) (read_elements 1 text.now (length text_items.old) (length text_names.old)) }
 {
     match read(recipe, items, names) {
-        Reading::Read { items: i, names: n } => {
-            let words = ITEM * i;
-            let bytes = SLOT * n;
+        Ok(counts) => {
+            let words = ITEM * counts.items;
+            let bytes = SLOT * counts.names;
             held(
                 &items[..words],
                 &names[..bytes],
@@ -69,6 +62,6 @@ pub fn compared(
                 text_names,
             )
         }
-        Reading::Refused(ground) => Answer::Recipe(ground),
+        Err(ground) => Err(Fault::Recipe(ground)),
     }
 }

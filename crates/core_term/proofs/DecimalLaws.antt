@@ -1,7 +1,7 @@
 -- Laws of numbers' text: the digits' value is the number, how many there are, and the sign.
 use Rattle.std.specs.Prelude.{◌≡◌, Bool, true, false, List, [], ◌∷◌, ◌++◌, ltb, ℤ, pos, negsuc, nat_abs, length}
 use Rattle.std.proofs.Math.Path.{refl}
-use Rattle.std.proofs.Common.{sym, ap, ◌∙◌, true≢false, arith, div-le_self, length-append, Fits, to_z, of_z, to_z-of_z}
+use Rattle.std.proofs.Common.{ap, ◌∙◌, true≢false, arith, div-le_self, length-append, Fits, to_z, of_z, to_z-of_z}
 use Prim.Native.Nat.{ℕ, zero, suc, ◌+◌, ◌-◌, ◌*◌, ◌/◌, ◌%◌, ◌^◌, ◌≤◌, ◌<◌}
 use Rattle.std.proofs.Math.Nat.{pow-succ'}
 use Rattle.std.specs.Int.Signed.{lt_z}

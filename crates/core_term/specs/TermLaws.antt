@@ -1,8 +1,8 @@
 -- Laws of terms: what is said of variables changes neither counts nor the number of words.
-use Rattle.std.specs.Prelude.{◌≡◌, List, [], ◌∷◌, ◌++◌, map, length}
+use Rattle.std.specs.Prelude.{◌≡◌, ◌++◌, length}
 use Rattle.std.proofs.Math.Path.{refl, ap}
-use Rattle.std.proofs.Common.{◌∙◌, arith, length-append}
-use Prim.Native.Nat.{ℕ, suc, ◌+◌}
+use Rattle.std.proofs.Common.{arith, length-append}
+use Prim.Native.Nat.{ℕ, suc}
 use Rattle.std.proofs.lemmas.List.{length-map}
 use Rattle.core_term.specs.Term.{Term, variable_c, operation_c, datum_c, if_c, lambda_c, application_c, Terms, none_c, more_c, count, variables, variables_all, formals_of, formals_all, on_formals, on_formals_all}
 use Rattle.core_term.specs.Node.{node_words}

@@ -20,10 +20,8 @@ fn set(flags: &mut [u8], base: usize, k: usize, value: u8)
 pub fn mark(flags: &mut [u8], base: usize, from: usize, to: usize, value: u8)
     ensures { flags.new ≡ marked base from (to - from) value flags.old }
 {
-    let mut k = from;
-    while k < to {
+    for k in from..to {
         set(flags, base, k, value);
-        k = k + 1;
     }
 }
 
@@ -38,8 +36,5 @@ pub fn in_scope(k: usize, bound: usize, base: usize, flags: &[u8]) -> bool
         return true;
     }
     let i = k - base;
-    if i >= flags.len() {
-        return true;
-    }
-    flags[i] == 1
+    i >= flags.len() || flags[i] == 1
 }

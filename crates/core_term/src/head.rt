@@ -2,18 +2,11 @@
 ghost use Rattle.std.specs.Prelude.{◌≡◌};
 ghost use Rattle.words.specs.Lists.{all_of};
 ghost use Rattle.core_term.specs.Code.Opened.{node_in, OpenedAs};
-ghost use Rattle.core_term.specs.Code.Window.{good_name, window, head_of, stands};
+ghost use Rattle.core_term.specs.Code.Window.{good_name, window, head_of};
 
 use crate::flags::in_scope;
 use crate::nodes::Node;
 use words::{NAME_LENGTH, NAMES, SLOT};
-
-// The count of variables bound behind a node that may stand.
-#[derive(Clone, Copy)]
-pub enum Head {
-    Node(usize),
-    No,
-}
 
 // What stays the same on a walk: the count of operations, whether names are in a table, and the window's first variable.
 #[derive(Clone, Copy)]
@@ -21,18 +14,6 @@ pub struct Walk {
     pub operations: u32,
     pub tabled: bool,
     pub base: usize,
-}
-
-pub fn wide(n: u32) -> usize
-    ensures { result ≡ n }
-{
-    n as usize
-}
-
-fn size(n: u8) -> usize
-    ensures { result ≡ n }
-{
-    n as usize
 }
 
 // A name below 1,024, whose slot exists with length 1 to 63 where a table is lent.
@@ -49,7 +30,7 @@ pub fn name_good(n: usize, names: &[u8], tabled: bool) -> bool
     if names.len() < start + SLOT {
         return false;
     }
-    let length = size(names[start]);
+    let length = usize::from(names[start]);
     length >= 1 && length <= NAME_LENGTH
 }
 
@@ -57,27 +38,13 @@ pub fn name_good(n: usize, names: &[u8], tabled: bool) -> bool
 fn names_good(formals: &[u32], names: &[u8], tabled: bool) -> bool
     ensures { result ≡ all_of (good_name tabled names.now) formals.now }
 {
-    let mut i = 0;
-    while i < formals.len() {
-        if !name_good(wide(formals[i]), names, tabled) {
-            return false;
-        }
-        i = i + 1;
-    }
-    true
+    formals
+        .iter()
+        .all(|n| name_good(*n as usize, names, tabled))
 }
 
-fn stand(may: bool, within: usize) -> Head
-    ensures { result ≡ stands may within }
-{
-    if may {
-        return Head::Node(within);
-    }
-    Head::No
-}
-
-// The node at the beginning of words: inside quote a datum, a variable in scope, an operation below the count, good names, and a
-// lambda whose first number is the count of variables before it.
+// How many variables are bound behind the node at the beginning of words, if it may stand: inside quote a datum, a variable in scope,
+// an operation below the count, good names, and a lambda whose first number is the count of variables before it.
 pub fn standing(
     node: Node,
     words: &[u32],
@@ -86,43 +53,35 @@ pub fn standing(
     walk: Walk,
     bound: usize,
     quoted: bool,
-) -> Head
+) -> Option<usize>
     requires { OpenedAs words.now node }
     ensures { result ≡ head_of (window walk.operations (good_name walk.tabled names.now) walk.base) quoted flags.now bound (node_in words.now node) }
 {
     match node {
         Node::Variable(n) => {
             if quoted {
-                return Head::No;
+                return None;
             }
-            stand(in_scope(wide(n), bound, walk.base, flags), bound)
+            in_scope(n as usize, bound, walk.base, flags).then_some(bound)
         }
         Node::Operation(n) => {
             if quoted {
-                return Head::No;
+                return None;
             }
-            stand(n < walk.operations, bound)
+            (n < walk.operations).then_some(bound)
         }
-        Node::Integer(_) => Head::Node(bound),
-        Node::Boolean(_) => Head::Node(bound),
-        Node::Decimal(_, _) => Head::Node(bound),
-        Node::Name(n) => stand(name_good(wide(n), names, walk.tabled), bound),
-        Node::List(_) => Head::Node(bound),
-        Node::If => stand(!quoted, bound),
+        Node::Integer(_) | Node::Boolean(_) | Node::Decimal(_, _) | Node::List(_) => Some(bound),
+        Node::Name(n) => name_good(n as usize, names, walk.tabled).then_some(bound),
+        Node::If | Node::Application(_) => (!quoted).then_some(bound),
         Node::Lambda(first, count) => {
             if quoted {
-                return Head::No;
+                return None;
             }
-            if wide(first) != bound {
-                return Head::No;
+            if first as usize != bound {
+                return None;
             }
-            let end = 3 + wide(count);
-            stand(
-                names_good(&words[3..end], names, walk.tabled),
-                bound + wide(count),
-            )
+            let formals = &words[3..3 + count as usize];
+            names_good(formals, names, walk.tabled).then_some(bound + count as usize)
         }
-        Node::Application(_) => stand(!quoted, bound),
-        Node::None => Head::No,
     }
 }

@@ -20,62 +20,50 @@ use head::{Walk, name_good};
 use term::{Checked, term};
 use words::OPERATIONS;
 
-// How many variables the words' term binds; or the words are no term (ground 19).
-#[derive(Clone, Copy)]
-pub enum Counted {
-    Variables(usize),
-    NoTerm,
-}
-
 // Scope is tested for so many variables at a time.
 const WINDOW: usize = 4096;
 
 // The same where there are no more words than this.
 const SMALL_WINDOW: usize = 512;
 
-// The first walk finds the term; later ones test the scope of its further variables, as many at a time as there are flags.
+// How many variables the words' term binds, if they are one. The first walk finds the term; later ones test the scope of its further
+// variables, as many at a time as there are flags.
 fn every_window(
     words: &[u32],
     operations: u32,
     names: &[u8],
     tabled: bool,
     flags: &mut [u8],
-) -> Counted
+) -> Option<usize>
     requires { (1 ≤ length flags.old) × (flags.old ≡ no_flags (length flags.old)) }
     ensures { result ≡ counted_of (term_of operations (good_name tabled names.now) words.now) }
 {
     if operations > OPERATIONS {
-        return Counted::NoTerm;
+        return None;
     }
     let first = Walk {
-        operations: operations,
-        tabled: tabled,
+        operations,
+        tabled,
         base: 0,
     };
-    let Checked::Term(used, variables) = term(words, names, flags, first, 0, false) else {
-        return Counted::NoTerm;
-    };
+    let Checked {
+        used,
+        bound: variables,
+    } = term(words, names, flags, first, 0, false)?;
     if used != words.len() {
-        return Counted::NoTerm;
+        return None;
     }
     let window = flags.len();
     let mut base = 0;
     while variables - base > window {
-        base = base + window;
-        let next = Walk {
-            operations: operations,
-            tabled: tabled,
-            base: base,
-        };
-        let Checked::Term(again, bound) = term(words, names, flags, next, 0, false) else {
-            return Counted::NoTerm;
-        };
+        base += window;
+        term(words, names, flags, Walk { base, ..first }, 0, false)?;
     }
-    Counted::Variables(variables)
+    Some(variables)
 }
 
 // The window is small where the words are few.
-fn count(words: &[u32], operations: u32, names: &[u8], tabled: bool) -> Counted
+fn count(words: &[u32], operations: u32, names: &[u8], tabled: bool) -> Option<usize>
     ensures { result ≡ counted_of (term_of operations (good_name tabled names.now) words.now) }
 {
     if words.len() <= SMALL_WINDOW {
@@ -93,8 +81,8 @@ pub fn has_name(names: &[u8], n: usize) -> bool
     name_good(n, names, true)
 }
 
-// The variables of the words' term, with names as in the lent table.
-pub fn count_variables(words: &[u32], operations: u32, names: &[u8]) -> Counted
+// How many variables the words' term binds, with names as in the lent table; none where they are no term (ground 19).
+pub fn count_variables(words: &[u32], operations: u32, names: &[u8]) -> Option<usize>
     ensures { result ≡ counted_of (term_of operations (has_name names.now) words.now) }
 {
     count(words, operations, names, true)
@@ -104,19 +92,12 @@ pub fn count_variables(words: &[u32], operations: u32, names: &[u8]) -> Counted
 pub fn is_term(words: &[u32], operations: u32, names: &[u8]) -> bool
     ensures { result ≡ is_term operations (has_name names.now) words.now }
 {
-    let Counted::Variables(count) = count_variables(words, operations, names) else {
-        return false;
-    };
-    true
+    count_variables(words, operations, names).is_some()
 }
 
 // The same of a service lent no name table: names are below 1,024.
 pub fn is_term_unnamed(words: &[u32], operations: u32) -> bool
     ensures { result ≡ is_term operations small words.now }
 {
-    let none = [0u8; 1];
-    let Counted::Variables(count) = count(words, operations, &none, false) else {
-        return false;
-    };
-    true
+    count(words, operations, &[], false).is_some()
 }

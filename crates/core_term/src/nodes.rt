@@ -1,9 +1,8 @@
 // The nodes of a core term, opened, and their shapes.
 ghost use Rattle.std.specs.Prelude.{◌≡◌};
 ghost use Rattle.core_term.specs.Node.{node_at};
-ghost use Rattle.core_term.specs.Code.Opened.{node_in, shape_by, shape_in, ShapedAt};
+ghost use Rattle.core_term.specs.Code.Opened.{opened_in, shape_in, ShapeAt};
 
-use crate::head::wide;
 use crate::read::read;
 
 // A lambda's first variable and their count, its names behind them; a decimal's value and places.
@@ -19,12 +18,11 @@ pub enum Node {
     If,
     Lambda(u32, u32),
     Application(u32),
-    None,
 }
 
-// The node at the beginning of words.
-pub fn opened(words: &[u32]) -> Node
-    ensures { node_in words.now result ≡ node_at words.now }
+// The node at the beginning of words, or that they begin with none.
+pub fn opened(words: &[u32]) -> Option<Node>
+    ensures { opened_in words.now result ≡ node_at words.now }
 {
     read(words)
 }
@@ -39,38 +37,54 @@ pub struct Shape {
     pub quoted: bool,
 }
 
-fn shaped(own: usize, names: usize, parts: usize, quoted: bool) -> Shape
-    ensures { result ≡ shape_by own names parts quoted }
-{
-    Shape {
-        own: own,
-        names: names,
-        parts: parts,
-        quoted: quoted,
-    }
-}
+// A leaf of two words.
+const LEAF: Shape = Shape {
+    own: 2,
+    names: 0,
+    parts: 0,
+    quoted: false,
+};
 
 pub fn shape_of(node: Node) -> Shape
     ensures { result ≡ shape_in node }
 {
     match node {
-        Node::Variable(_) => shaped(2, 0, 0, false),
-        Node::Operation(_) => shaped(2, 0, 0, false),
-        Node::Integer(_) => shaped(2, 0, 0, false),
-        Node::Boolean(_) => shaped(2, 0, 0, false),
-        Node::Decimal(_, _) => shaped(3, 0, 0, false),
-        Node::Name(_) => shaped(2, 0, 0, false),
-        Node::List(count) => shaped(2, 0, wide(count), true),
-        Node::If => shaped(1, 0, 3, false),
-        Node::Lambda(_, count) => shaped(3 + wide(count), wide(count), 1, false),
-        Node::Application(count) => shaped(2, 0, wide(count) + 1, false),
-        Node::None => shaped(0, 0, 0, false),
+        Node::Variable(_)
+        | Node::Operation(_)
+        | Node::Integer(_)
+        | Node::Boolean(_)
+        | Node::Name(_) => LEAF,
+        Node::Decimal(_, _) => Shape { own: 3, ..LEAF },
+        Node::List(count) => Shape {
+            parts: count as usize,
+            quoted: true,
+            ..LEAF
+        },
+        Node::If => Shape {
+            own: 1,
+            parts: 3,
+            ..LEAF
+        },
+        Node::Lambda(_, count) => {
+            let names = count as usize;
+            Shape {
+                own: 3 + names,
+                names,
+                parts: 1,
+                ..LEAF
+            }
+        }
+        Node::Application(count) => Shape {
+            parts: count as usize + 1,
+            ..LEAF
+        },
     }
 }
 
-// The shape of the node at the beginning of words.
-pub fn shape_at(words: &[u32]) -> Shape
-    ensures { ShapedAt words.now result }
+// The shape of the node at the beginning of words, if they begin with one.
+pub fn shape_at(words: &[u32]) -> Option<Shape>
+    ensures { ShapeAt words.now result }
 {
-    shape_of(read(words))
+    let node = read(words)?;
+    Some(shape_of(node))
 }

@@ -1,98 +1,75 @@
-// The node at the beginning of words, by its code. Nothing else reads codes.
-ghost use Rattle.std.specs.Prelude.{◌≡◌, ◌≤◌, length, get_or};
-ghost use Rattle.core_term.specs.Node.{boolean_code, lambda_code, decimal_code};
-ghost use Rattle.core_term.specs.Code.Opened.{OpenedAs};
+// The node at the beginning of words, by its code, or none. Nothing else reads codes.
+ghost use Rattle.std.specs.Prelude.{◌≡◌, ◌≢◌, ◌≤◌, length, get_or};
+ghost use Rattle.core_term.specs.Node.{if_code, lambda_code, decimal_code};
+ghost use Rattle.core_term.specs.Code.Opened.{ReadAs};
 
 use crate::codes;
-use crate::head::wide;
 use crate::nodes::Node;
 use words::{FORMALS, PLACES};
 
-fn boolean(words: &[u32]) -> Node
-    requires { (2 ≤ length words.now) × (get_or words.now 0 0 ≡ boolean_code) }
-    ensures { OpenedAs words.now result }
+// A node of two words: its code and a number.
+fn numbered(words: &[u32]) -> Option<Node>
+    requires some { 1 ≤ length words.now }
+    requires other { (get_or words.now 0 0 ≢ if_code) × (get_or words.now 0 0 ≢ lambda_code) × (get_or words.now 0 0 ≢ decimal_code) }
+    ensures { ReadAs words.now result }
 {
-    let a = words[1];
-    if a > 1 {
-        return Node::None;
+    if words.len() < 2 {
+        return None;
     }
-    Node::Boolean(a)
+    let n = words[1];
+    match words[0] {
+        codes::VARIABLE => Some(Node::Variable(n)),
+        codes::OPERATION => Some(Node::Operation(n)),
+        codes::INTEGER => Some(Node::Integer(n)),
+        codes::BOOLEAN if n <= 1 => Some(Node::Boolean(n)),
+        codes::NAME => Some(Node::Name(n)),
+        codes::LIST => Some(Node::List(n)),
+        codes::APPLICATION => Some(Node::Application(n)),
+        _ => None,
+    }
 }
 
-fn decimal(words: &[u32]) -> Node
+fn decimal(words: &[u32]) -> Option<Node>
     requires { get_or words.now 0 0 ≡ decimal_code }
-    ensures { OpenedAs words.now result }
+    ensures { ReadAs words.now result }
 {
     if words.len() < 3 {
-        return Node::None;
+        return None;
     }
     let places = words[2];
-    if places < 1 {
-        return Node::None;
+    if places < 1 || places > PLACES {
+        return None;
     }
-    if places > PLACES {
-        return Node::None;
-    }
-    Node::Decimal(words[1], places)
+    Some(Node::Decimal(words[1], places))
 }
 
-fn lambda(words: &[u32]) -> Node
+fn lambda(words: &[u32]) -> Option<Node>
     requires { get_or words.now 0 0 ≡ lambda_code }
-    ensures { OpenedAs words.now result }
+    ensures { ReadAs words.now result }
 {
     if words.len() < 3 {
-        return Node::None;
+        return None;
     }
     let count = words[2];
-    if words.len() - 3 < wide(count) {
-        return Node::None;
+    if words.len() - 3 < count as usize {
+        return None;
     }
     if count > FORMALS {
-        return Node::None;
+        return None;
     }
-    Node::Lambda(words[1], count)
+    Some(Node::Lambda(words[1], count))
 }
 
-pub fn read(words: &[u32]) -> Node
-    ensures { OpenedAs words.now result }
+pub fn read(words: &[u32]) -> Option<Node>
+    ensures { ReadAs words.now result }
 {
     if words.len() == 0 {
-        return Node::None;
+        return None;
     }
-    let code = words[0];
-    if code == codes::IF {
-        return Node::If;
+    match words[0] {
+        codes::IF => Some(Node::If),
+        codes::LAMBDA => lambda(words),
+        codes::DECIMAL => decimal(words),
+        _ => numbered(words),
     }
-    if code == codes::LAMBDA {
-        return lambda(words);
-    }
-    if code == codes::DECIMAL {
-        return decimal(words);
-    }
-    if words.len() < 2 {
-        return Node::None;
-    }
-    if code == codes::BOOLEAN {
-        return boolean(words);
-    }
-    let a = words[1];
-    if code == codes::VARIABLE {
-        return Node::Variable(a);
-    }
-    if code == codes::OPERATION {
-        return Node::Operation(a);
-    }
-    if code == codes::INTEGER {
-        return Node::Integer(a);
-    }
-    if code == codes::NAME {
-        return Node::Name(a);
-    }
-    if code == codes::LIST {
-        return Node::List(a);
-    }
-    if code == codes::APPLICATION {
-        return Node::Application(a);
-    }
-    Node::None
 }

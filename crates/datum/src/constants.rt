@@ -4,16 +4,11 @@ ghost use Rattle.datum.specs.Constant as C;
 ghost use Rattle.datum.specs.ConstantLaws.{made};
 
 // The kind of decimals.
-pub const DECIMAL: u32 = crate::kinds::DECIMAL;
+pub use crate::kinds::DECIMAL;
 
+#[tactic(auto, unfolding(crate::specs::Constant::matches))]
 pub fn matches(kind: u32, first: u32, second: u32, kind2: u32, first2: u32, second2: u32) -> bool
     ensures { result ≡ C.matches (made kind first second) (made kind2 first2 second2) }
 {
-    if kind != kind2 {
-        return false;
-    }
-    if first != first2 {
-        return false;
-    }
-    second == second2
+    kind == kind2 && first == first2 && second == second2
 }

@@ -4,13 +4,12 @@ use Rattle.std.proofs.Math.Path.{refl, sym, ap}
 use Rattle.std.proofs.Common.{subst, ◌∙◌, true≢false, arith}
 use Rattle.std.proofs.lemmas.Bool.{false≢true}
 use borrow.Author.Tests.{eqb-true, eqb-false, ne_eqb}
-use Rattle.words.specs.ListLaws.{whole, either}
-use Rattle.words.specs.Parts.{rest}
+use Rattle.words.specs.ListLaws.{either}
 use Rattle.words.specs.Limits.{pattern_variables_most}
 use Rattle.recipe.specs.Tree.{element, tail}
 use Rattle.expansion.specs.Rules.{variable_p, pair_p, ellipsis_p}
 use Rattle.expansion.specs.Match.{holds, part}
-use Rattle.arena.specs.Arena.{word_at, reference_at, tree_at}
+use Rattle.arena.specs.Arena.{word_at, reference_at}
 use Rattle.arena.specs.ArenaLaws.{word_at-none, reference_at-most}
 use Rattle.arena.specs.Lists.{Means}
 use Rattle.rule_cells.specs.Cells.{pattern_at}
@@ -22,14 +21,6 @@ use Rattle.environments.specs.Entries.{entry_at, ellipsis_in, taking_of, Low, St
 use Rattle.environments.specs.EntryLaws.{ellipsis_in-some}
 use Rattle.environments.specs.Bind.{bound, BindsOne, second_of, inner_second, BindsList, Binds}
 use Rattle.environments.specs.Parts.{After}
-
--- ---- of a work table, what is so of the part that is all of it
-
-pub whole-list : (work : List ℕ) (p list first second : ℕ) (old new : List ℕ) → BindsList (rest 0 work) p list first second old new → BindsList work p list first second old new
-whole-list work p list first second old new = whole (λ s. BindsList s p list first second old new) work
-
-pub whole-binds : (work : List ℕ) (p u : ℕ) (old new : List ℕ) → Binds (rest 0 work) p u old new → Binds work p u old new
-whole-binds work p u old new = whole (λ s. Binds s p u old new) work
 
 -- ---- one variable
 

@@ -1,15 +1,13 @@
 -- Laws of binding a pattern's variables and of reading what they take, one for each way through the code.
-use Rattle.std.specs.Prelude.{◌≡◌, ℕ, zero, suc, ◌+◌, ◌-◌, ◌*◌, ◌^◌, ◌<◌, ◌≤◌, Bool, true, false, cond, List, [], ◌∷◌, map, reverse, length, take, ◌≢◌, nat_lt}
+use Rattle.std.specs.Prelude.{◌≡◌, ℕ, zero, suc, ◌+◌, ◌-◌, ◌^◌, ◌<◌, ◌≤◌, List, [], ◌∷◌, map, reverse, length, take, ◌≢◌, nat_lt}
 use Rattle.std.proofs.Math.Path.{refl, sym, ap}
-use Rattle.std.proofs.Common.{ap₂, subst, ◌∙◌}
+use Rattle.std.proofs.Common.{◌∙◌}
 use native.Mathlib.Omega.{arith}
 use borrow.Author.Tests.{lt-ltb, le-ltb, ltb-true, ltb-false}
 use Rattle.words.specs.ListLaws.{either}
-use Rattle.words.specs.Limits.{pattern_variables_most}
 use Rattle.recipe.specs.Tree.{Tree, empty}
 use Rattle.expansion.specs.Match.{holds}
 use Rattle.arena.specs.Arena.{tree_at}
-use Rattle.arena.specs.ArenaLaws.{take_less}
 use Rattle.arena.specs.ListLaws.{tree_at-none}
 use Rattle.rule_cells.specs.Cells.{pattern_at}
 use Rattle.environments.specs.declared.fill.Free.{Free}

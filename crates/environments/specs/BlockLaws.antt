@@ -1,17 +1,15 @@
 -- Laws of blocks: reading them, the words that they take, and that they stand where what they stand in is kept.
-use Rattle.std.specs.Prelude.{◌≡◌, ℕ, zero, suc, ◌+◌, ◌*◌, ◌^◌, ◌<◌, ◌≤◌, Bool, true, false, cond, ◌||◌, List, [], ◌∷◌, length, take, ◌==◌, ◌≢◌, slice_index}
+use Rattle.std.specs.Prelude.{◌≡◌, ℕ, zero, suc, ◌+◌, ◌*◌, ◌^◌, ◌<◌, ◌≤◌, Bool, true, false, ◌||◌, List, [], ◌∷◌, length, take, ◌==◌, ◌≢◌, slice_index}
 use Rattle.std.proofs.Math.Path.{refl}
 use Rattle.std.proofs.Common.{sym, ap, subst, ◌∙◌, mul-le-mul_right, mul-le-mul_left, mul-lt-mul_of_pos_right, le_of_lt, lt_of_le_of_lt, pow_pos, get_or-take, lt-ltb, le-ltb, eqb-true}
 use Rattle.std.proofs.lemmas.Bool.{false≢true, eqb-false}
 use native.Mathlib.Omega.{arith}
 use Rattle.std.proofs.Math.ListN.{get_or-eq_default}
 use Rattle.words.specs.ListLaws.{either}
-use Rattle.recipe.specs.Tree.{Tree, element}
+use Rattle.recipe.specs.Tree.{Tree}
 use Rattle.expansion.specs.Rules.{Pattern, variable_p, literal_p, wildcard_p, constant_p, empty_p, pair_p, ellipsis_p}
 use Rattle.expansion.specs.Match.{holds}
 use Rattle.arena.specs.Arena.{word_at, reference_at, tree_at}
-use Rattle.arena.specs.ArenaLaws.{take_less}
-use Rattle.arena.specs.CellLaws.{tree-kept}
 use Rattle.rule_cells.specs.Cells.{pattern_at}
 use Rattle.environments.specs.PatternCells.{variable-is, other-is, pair_is, ellipsis-is}
 use Rattle.environments.specs.Taken.{Taken, one, many}

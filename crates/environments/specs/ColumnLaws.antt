@@ -1,15 +1,15 @@
 -- Laws of entries, and of the walk of a pattern that finds them, one for each way through the code.
-use Rattle.std.specs.Prelude.{◌≡◌, ℕ, suc, ◌+◌, ◌*◌, ◌<◌, ◌≤◌, Bool, true, false, cond, ◌||◌, List, [], ◌∷◌, length, ◌==◌, ◌≢◌, nat_eq, slice_set}
+use Rattle.std.specs.Prelude.{◌≡◌, ℕ, ◌+◌, ◌*◌, ◌<◌, ◌≤◌, Bool, true, false, ◌||◌, List, [], ◌∷◌, length, ◌==◌, ◌≢◌, nat_eq, slice_set}
 use Rattle.std.proofs.Math.Path.{refl, ap}
-use Rattle.std.proofs.Common.{sym, subst, ◌∙◌, true≢false}
+use Rattle.std.proofs.Common.{sym, ◌∙◌, true≢false}
 use Rattle.std.proofs.lemmas.Bool.{false≢true}
 use native.Mathlib.Omega.{arith}
 use Rattle.std.proofs.Math.ListN.{length-set}
 use Rattle.std.proofs.Math.Seq.{get_or-set_same, get_or-set_other}
-use borrow.Author.Tests.{eqb-true, eqb-false, eq-eqb, ne_eqb}
+use borrow.Author.Tests.{eqb-true, eqb-false, ne_eqb}
 use Rattle.words.specs.ListLaws.{either}
 use Rattle.words.specs.Limits.{pattern_variables_most}
-use Rattle.expansion.specs.Rules.{Pattern, variable_p, pair_p, ellipsis_p}
+use Rattle.expansion.specs.Rules.{variable_p, pair_p, ellipsis_p}
 use Rattle.expansion.specs.Match.{holds}
 use Rattle.arena.specs.Arena.{word_at, reference_at}
 use Rattle.rule_cells.specs.Cells.{pattern_at}

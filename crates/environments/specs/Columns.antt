@@ -1,5 +1,5 @@
 -- Entries of variables: four words each, which say where what a variable takes stands. Past the table there is none.
-use Rattle.std.specs.Prelude.{◌≡◌, ℕ, zero, suc, ◌+◌, ◌-◌, ◌*◌, ◌%◌, ◌^◌, ◌<◌, ◌≤◌, true, false, cond, List, [], ◌∷◌, length, take, ◌==◌, ◌≢◌}
+use Rattle.std.specs.Prelude.{◌≡◌, ℕ, ◌+◌, ◌-◌, ◌*◌, ◌%◌, ◌<◌, ◌≤◌, true, false, cond, List, [], ◌∷◌, take, ◌==◌, ◌≢◌}
 use Rattle.words.specs.Limits.{pattern_variables_most}
 use Rattle.expansion.specs.Match.{holds}
 use Rattle.rule_cells.specs.Cells.{pattern_at}

@@ -1,14 +1,11 @@
 -- Driving lists by what entries stand for.
-use Rattle.std.specs.Prelude.{◌≡◌, ℕ, ◌<◌, ◌≤◌, true, false, List, ◌∷◌, map, nat_eq}
+use Rattle.std.specs.Prelude.{◌≡◌, Result, Ok, Err, ℕ, ◌<◌, ◌≤◌, true, false, List, ◌∷◌, map, nat_eq}
 use Rattle.words.specs.Limits.{pattern_variables_most, depth_most}
 use Rattle.words.specs.Lists.{all_of}
 use Rattle.expansion.specs.Rules.{Template, variable_t, insert_t, constant_t, empty_t, pair_t, ellipsis_t, drivers}
 use Rattle.rule_cells.specs.Cells.{template_at}
-use Rattle.environments.specs.declared.lengths.Driving.{Driving}
-use Rattle.environments.specs.declared.lengths.Count.{Count}
-use Rattle.environments.specs.declared.lengths.Count.TheVariants.{Of}
-use Rattle.environments.specs.declared.lengths.Count.TheVariants as answer
-use Rattle.environments.specs.Lengths.{after}
+use Rattle.environments.specs.declared.lengths.Differ.{Differ}
+use Rattle.environments.specs.Lengths.{Driving, after}
 use Rattle.environments.specs.Taken.{Taken, count, taken, lengths, copy_count}
 use Rattle.environments.specs.Columns.{entry_of, EntryStands}
 
@@ -40,10 +37,10 @@ DrivenBy work env j t inner before r =
     (base low high w : ℕ) (v : ℕ → Taken) (is : List ℕ) → Known work env base low high w v (template_at work t) → r ≡ after before (lengths_under v (inner ∷ is) j (template_at work t))
 
 -- an element gets c copies, and the lists that drive it, if any, have c elements each; or they differ
-abbrev pub CountedBy : (work env : List ℕ) (e inner : ℕ) → Count → Type 0
-CountedBy work env e inner (Of c) =
+abbrev pub CountedBy : (work env : List ℕ) (e inner : ℕ) → Result ℕ Differ → Type 0
+CountedBy work env e inner (Ok c) =
     (base low high w : ℕ) (v : ℕ → Taken) (is : List ℕ) → Known work env base low high w v (template_at work e)
     → (c ≡ copy_count v (inner ∷ is) (template_at work e)) × (true ≡ all_of (nat_eq c) (lengths v (inner ∷ is) (template_at work e)))
-CountedBy work env e inner answer.Differ =
+CountedBy work env e inner (Err d) =
     (base low high w : ℕ) (v : ℕ → Taken) (is : List ℕ) → Known work env base low high w v (template_at work e)
     → false ≡ all_of (nat_eq (copy_count v (inner ∷ is) (template_at work e))) (lengths v (inner ∷ is) (template_at work e))

@@ -1,7 +1,7 @@
 -- Laws of driving lists by what entries stand for, one for each way through the code.
-use Rattle.std.specs.Prelude.{◌≡◌, ℕ, ◌+◌, ◌-◌, ◌<◌, ◌≤◌, true, false, List, [], ◌∷◌, ◌++◌, map, ◌==◌, ◌≢◌}
+use Rattle.std.specs.Prelude.{◌≡◌, Option, Some, None, Ok, Err, ℕ, ◌+◌, ◌-◌, ◌<◌, ◌≤◌, List, [], ◌∷◌, map, ◌==◌, ◌≢◌}
 use Rattle.std.proofs.Math.Path.{refl, sym, ap, subst}
-use Rattle.std.proofs.Common.{◌∙◌}
+use Rattle.std.proofs.Common.{◌∙◌, unwrap_or}
 use mathlib.Core.List.{map-append}
 use native.Mathlib.Omega.{arith}
 use borrow.Author.Tests.{eqb-true, eqb-false}
@@ -11,12 +11,9 @@ use Rattle.expansion.specs.Rules.{drivers}
 use Rattle.arena.specs.Arena.{word_at, reference_at}
 use Rattle.rule_cells.specs.Cells.{template_at}
 use Rattle.rule_cells.specs.CellLaws.{template_at-variable}
-use Rattle.environments.specs.declared.lengths.Driving.{Driving}
-use Rattle.environments.specs.declared.lengths.Driving.TheVariants.{None, Length, Differ}
-use Rattle.environments.specs.declared.lengths.Count.TheVariants.{Of}
-use Rattle.environments.specs.declared.lengths.Count.TheVariants as answer
-use Rattle.environments.specs.Lengths.{also, after, deeper}
-use Rattle.environments.specs.LengthLaws.{deeper-most, drivers-none, drivers-few, drivers-one, drivers-both, after-append, Told, told}
+use Rattle.environments.specs.declared.lengths.Differ.{Differ}
+use Rattle.environments.specs.Lengths.{Driving, also, after, deeper}
+use Rattle.environments.specs.LengthLaws.{deeper-most, drivers-none, drivers-few, drivers-one, drivers-both, after-append, after-differ, Told, told}
 use Rattle.environments.specs.TemplateCells.{pair_is, ellipsis-is}
 use Rattle.environments.specs.Taken.{Taken, count, taken, lengths, copy_count}
 use Rattle.environments.specs.Binding.{CopiesAt}
@@ -57,21 +54,22 @@ module _ (work env : List ℕ) (t tag : ℕ) (tag_is : tag ≡ word_at work t 1)
         g base low high w v is k.1
         ∙ sym (ap (after before) both ∙ after-append before _ _ ∙ ap (λ (z : Driving). after z (lengths_under v (inner ∷ is) j (template_at work rest))) (sym (f base low high w v is k.0)))
 
-module _ (work env : List ℕ) (e inner : ℕ) (r : Driving) (f : DrivenBy work env 0 e inner None r) where
+    -- where they differ in the first part, they do in both
+    pub driven-differ : (d : Differ) → DrivenBy work env i head inner before (Err d) → DrivenBy work env j t inner before (Err d)
+    driven-differ d f = driven-both (Err d) (Err d) f (λ base low high w v is known. sym (after-differ d (lengths_under v (inner ∷ is) j (template_at work rest))))
+
+module _ (work env : List ℕ) (e inner : ℕ) (r : Driving) (f : DrivenBy work env 0 e inner (Ok None) r) where
   tells : (base low high w : ℕ) (v : ℕ → Taken) (is : List ℕ) → Known work env base low high w v (template_at work e) → Told (lengths v (inner ∷ is) (template_at work e)) r
   unfolding lengths_under lengths
   tells base low high w v is known = subst (Told _) (sym (f base low high w v is known)) (told _)
 
-  pub counted_none : r ≡ None → CountedBy work env e inner (Of 0)
+  pub counted_of : (o : Option ℕ) → r ≡ Ok o → CountedBy work env e inner (Ok (unwrap_or o 0))
   unfolding copy_count all_of
-  counted_none i base low high w v is known =
+  counted_of None i base low high w v is known =
       let no : lengths v (inner ∷ is) (template_at work e) ≡ [] = subst (Told (lengths v (inner ∷ is) (template_at work e))) i (tells base low high w v is known) in
       rw no (refl, refl)
+  counted_of (Some c) i base low high w v is known = subst (Told (lengths v (inner ∷ is) (template_at work e))) i (tells base low high w v is known)
 
-  pub counted-some : (c : ℕ) → r ≡ Length c → CountedBy work env e inner (Of c)
+  pub counted-differ : (d : Differ) → r ≡ Err d → CountedBy work env e inner (Err d)
   unfolding copy_count
-  counted-some c i base low high w v is known = subst (Told (lengths v (inner ∷ is) (template_at work e))) i (tells base low high w v is known)
-
-  pub counted-differ : r ≡ Differ → CountedBy work env e inner answer.Differ
-  unfolding copy_count
-  counted-differ i base low high w v is known = subst (Told (lengths v (inner ∷ is) (template_at work e))) i (tells base low high w v is known)
+  counted-differ d i base low high w v is known = subst (Told (lengths v (inner ∷ is) (template_at work e))) i (tells base low high w v is known)

@@ -1,5 +1,5 @@
 -- Laws of filling slots from a use, one for each way through the code.
-use Rattle.std.specs.Prelude.{◌≡◌, ℕ, zero, suc, ◌+◌, ◌*◌, ◌^◌, ◌<◌, ◌≤◌, Bool, true, false, cond, ◌||◌, List, [], ◌∷◌, length, take, ◌==◌, ◌≢◌, slice_set}
+use Rattle.std.specs.Prelude.{◌≡◌, ℕ, suc, ◌+◌, ◌*◌, ◌^◌, ◌<◌, ◌≤◌, true, false, List, [], ◌∷◌, length, take, ◌==◌, ◌≢◌, slice_set}
 use Rattle.std.proofs.Math.Path.{refl, sym, ap, ap₂}
 use Rattle.std.proofs.Common.{subst, ◌∙◌, length-set, get_or-set_same}
 use Rattle.std.proofs.lemmas.Bool.{false≢true}
@@ -9,10 +9,10 @@ use borrow.Author.Tests.{eqb-true, eqb-false}
 use Rattle.words.specs.ListLaws.{either}
 use Rattle.recipe.specs.Tree.{Tree, element, tail, past}
 use Rattle.recipe.specs.TreeLaws.{element-past}
-use Rattle.expansion.specs.Rules.{Pattern, variable_p, pair_p, ellipsis_p}
+use Rattle.expansion.specs.Rules.{Pattern, pair_p, ellipsis_p}
 use Rattle.expansion.specs.Match.{share, holds}
 use Rattle.arena.specs.Arena.{word_at, reference_at, tree_at}
-use Rattle.arena.specs.ArenaLaws.{take_less, reference_at-most, word_at-below, reference_at-below}
+use Rattle.arena.specs.ArenaLaws.{take_less, reference_at-most}
 use Rattle.arena.specs.CellLaws.{tree-kept}
 use Rattle.arena.specs.Cells.{Room}
 use Rattle.arena.specs.Lists.{Means}
@@ -21,10 +21,10 @@ use Rattle.rule_cells.specs.CellLaws.{pattern_at-below}
 use Rattle.environments.specs.declared.fill.Free.{Free}
 use Rattle.environments.specs.Parts.{Shares}
 use Rattle.environments.specs.ShareLaws.{past-tail}
-use Rattle.environments.specs.PatternCells.{part_falls, variable-is, other-is, pair_is, ellipsis-is}
-use Rattle.environments.specs.Taken.{Taken, one, many, takes}
+use Rattle.environments.specs.PatternCells.{variable-is, other-is, pair_is, ellipsis-is}
+use Rattle.environments.specs.Taken.{Taken, many, takes}
 use Rattle.environments.specs.Blocks.{slots, added, blocks, columns, shift, word_in, Stands, RowStands, Same}
-use Rattle.environments.specs.BlockLaws.{words-kept, slots-variable, slots-none, slots-ellipsis, slots-pair, Within, columns-within, rows-less, added-less, stands-kept, row_kept, row-shift, other-holds}
+use Rattle.environments.specs.BlockLaws.{words-kept, slots-variable, slots-ellipsis, slots-pair, Within, columns-within, rows-less, added-less, stands-kept, row_kept, row-shift, other-holds}
 use Rattle.environments.specs.Fill.{Fillable, Filled, Openable, Opened, RowsFillable, RowsFilled, BlockFilled, Filling}
 
 -- ---- what is below a bound up to which words are kept

@@ -1,12 +1,12 @@
 -- Laws of driving lists on cells, one for each way through the code.
-use Rattle.std.specs.Prelude.{◌≡◌, ℕ, zero, suc, ◌+◌, ◌-◌, ◌<◌, ◌≤◌, true, false, cond, List, [], ◌∷◌, ◌++◌, map, ◌==◌, ◌≢◌, nat_eq, slice_index}
+use Rattle.std.specs.Prelude.{◌≡◌, Option, Some, None, Result, Ok, Err, IsErr, ℕ, zero, suc, ◌+◌, ◌-◌, ◌<◌, ◌≤◌, true, false, cond, List, [], ◌∷◌, ◌++◌, map, ◌==◌, ◌≢◌, nat_eq, slice_index}
 use Rattle.std.proofs.Math.Path.{refl, ap, subst}
-use Rattle.std.proofs.Common.{sym, ◌∙◌}
+use Rattle.std.proofs.Common.{sym, ◌∙◌, unwrap_or}
+use Rattle.std.proofs.lemmas.Bool.{false≢true}
 use mathlib.Core.List.{map-append}
 use native.Mathlib.Omega.{arith}
 use borrow.Author.Tests.{eq-eqb, eqb-true, eqb-false, lt-ltb, le-ltb}
-use Rattle.words.specs.ListLaws.{whole, either}
-use Rattle.words.specs.Parts.{rest}
+use Rattle.words.specs.ListLaws.{either}
 use Rattle.words.specs.Lists.{all_of}
 use Rattle.expansion.specs.Rules.{drivers}
 use Rattle.arena.specs.Arena.{word_at, reference_at, tree_at}
@@ -15,17 +15,8 @@ use Rattle.rule_cells.specs.CellLaws.{template_at-variable, template_at-pair, te
 use Rattle.environments.specs.Environment.{takes, counts, lengths_by, count_by}
 use Rattle.environments.specs.Entries.{entry_at, taking_of, environment_at, level, taken_in, CountsCopies}
 use Rattle.environments.specs.TemplateCells.{leaf-other}
-use Rattle.environments.specs.Lengths.{driving, also, after, Drives, Copies, Differs, Counted, deeper}
-use Rattle.environments.specs.declared.lengths.Driving.{Driving}
-use Rattle.environments.specs.declared.lengths.Driving.TheVariants.{None, Length, Differ}
-use Rattle.environments.specs.declared.lengths.Count.{Count}
-use Rattle.environments.specs.declared.lengths.Count.TheVariants.{Of}
-use Rattle.environments.specs.declared.lengths.Count.TheVariants as count
-
--- ---- of a work table, what is so of the part that is all of it
-
-pub whole-drives : (work env : List ℕ) (j t : ℕ) (x r : Driving) → Drives (rest 0 work) env j t x r → Drives work env j t x r
-whole-drives work env j t x r = whole (λ s. Drives s env j t x r) work
+use Rattle.environments.specs.Lengths.{Driving, driving, also, after, Drives, Copies, Differs, deeper}
+use Rattle.environments.specs.declared.lengths.Differ.{Differ}
 
 -- ---- drivers of a template's cell
 
@@ -62,29 +53,34 @@ unfolding after
 after-append x [] b = refl
 after-append x (l ∷ a) b = after-append (also x l) a b
 
-after-differ : (ls : List ℕ) → after Differ ls ≡ Differ
+pub after-differ : (d : Differ) (ls : List ℕ) → after (Err d) ls ≡ Err d
 unfolding after also
-after-differ [] = refl
-after-differ (l ∷ ls) = after-differ ls
+after-differ d [] = refl
+after-differ d (l ∷ ls) = after-differ d ls
 
-after-length : (c : ℕ) (ls : List ℕ) → after (Length c) ls ≡ cond (all_of (nat_eq c) ls) (Length c) Differ
+after-length : (c : ℕ) (ls : List ℕ) → after (Ok (Some c)) ls ≡ cond (all_of (nat_eq c) ls) (Ok (Some c)) (Err (record {}))
 unfolding after also all_of
 after-length c [] = refl
-after-length c (l ∷ ls) = either (c == l) (λ t. rw t (after-length c ls)) (λ t. rw t (after-differ ls))
+after-length c (l ∷ ls) = either (c == l) (λ t. rw t (after-length c ls)) (λ t. rw t (after-differ (record {}) ls))
 
 -- what is told of lists of these lengths
 abbrev pub Told : List ℕ → Driving → Type 0
-Told ls None = ls ≡ []
-Told ls (Length c) = (c ≡ slice_index ls 0) × (true ≡ all_of (nat_eq c) ls)
-Told ls Differ = false ≡ all_of (nat_eq (slice_index ls 0)) ls
+Told ls (Ok None) = ls ≡ []
+Told ls (Ok (Some c)) = (c ≡ slice_index ls 0) × (true ≡ all_of (nat_eq c) ls)
+Told ls (Err d) = false ≡ all_of (nat_eq (slice_index ls 0)) ls
 
-pub told : (ls : List ℕ) → Told ls (after None ls)
+pub told : (ls : List ℕ) → Told ls (after (Ok None) ls)
 unfolding after also all_of
 told [] = refl
 told (x ∷ xs) =
     either (all_of (nat_eq x) xs)
-    (λ t. let e : Length x ≡ after (Length x) xs = sym (after-length x xs ∙ rw t refl) in subst (Told (x ∷ xs)) e (refl, rw (eq-eqb x x refl, t) refl))
-    (λ t. let e : Differ ≡ after (Length x) xs = sym (after-length x xs ∙ rw t refl) in subst (Told (x ∷ xs)) e (rw (eq-eqb x x refl, t) refl))
+    (λ t. let e : Ok (Some x) ≡ after (Ok (Some x)) xs = sym (after-length x xs ∙ rw t refl) in subst (Told (x ∷ xs)) e (refl, rw (eq-eqb x x refl, t) refl))
+    (λ t. let e : Err (record {}) ≡ after (Ok (Some x)) xs = sym (after-length x xs ∙ rw t refl) in subst (Told (x ∷ xs)) e (rw (eq-eqb x x refl, t) refl))
+
+-- what `?` hands on
+pub differ-passed : {A : Type 0} (r : Result A Differ) → IsErr r → r ≡ Err (record {})
+differ-passed (Ok x) h = absurd (false≢true h)
+differ-passed (Err d) h = refl
 
 -- ---- driving lists
 
@@ -127,31 +123,25 @@ module _ (work env : List ℕ) where
       pub drives-both : (x y r : Driving) → Drives work env i head x y → Drives work env j rest y r → Drives work env j t x r
       drives-both x y r f g w = g w ∙ sym (ap (after x) (driving-both w) ∙ after-append x _ _ ∙ ap (λ (z : Driving). after z (driving work env w j rest)) (sym (f w)))
 
+      -- where they differ in the first part, they do in both
+      pub drives-differ : (x : Driving) (d : Differ) → Drives work env i head x (Err d) → Drives work env j t x (Err d)
+      drives-differ x d f = drives-both x (Err d) (Err d) f (λ w. sym (after-differ d (driving work env w j rest)))
+
   -- ---- the number of copies
 
-  module _ (e : ℕ) (r : Driving) (f : Drives work env 0 e None r) where
+  module _ (e : ℕ) (r : Driving) (f : Drives work env 0 e (Ok None) r) where
     tells : (w : ℕ) → Told (driving work env w 0 e) r
     tells w = subst (Told (driving work env w 0 e)) (sym (f w)) (told (driving work env w 0 e))
 
-    pub copies-none : r ≡ None → Copies work env e 0
+    pub copies-of : (o : Option ℕ) → r ≡ Ok o → Copies work env e (unwrap_or o 0)
     unfolding count_by driving all_of
-    copies-none i =
+    copies-of None i =
         let no : (w : ℕ) → driving work env w 0 e ≡ [] = λ w. subst (Told (driving work env w 0 e)) i (tells w) in
         record { count = λ w. rw (no w) refl; same = λ w. rw (no w) refl }
-
-    pub copies-some : (c : ℕ) → r ≡ Length c → Copies work env e c
-    unfolding count_by driving
-    copies-some c i =
-        let all : (w : ℕ) → Told (driving work env w 0 e) (Length c) = λ w. subst (Told (driving work env w 0 e)) i (tells w) in
+    copies-of (Some c) i =
+        let all : (w : ℕ) → Told (driving work env w 0 e) (Ok (Some c)) = λ w. subst (Told (driving work env w 0 e)) i (tells w) in
         record { count = λ w. (all w).0; same = λ w. (all w).1 }
 
-    pub copies-differ : r ≡ Differ → Differs work env e
+    pub copies-differ : (d : Differ) → r ≡ Err d → Differs work env e
     unfolding count_by driving
-    copies-differ i = record { differ = λ w. subst (Told (driving work env w 0 e)) i (tells w) }
-
--- what `copies` has answered
-pub counted_of : (work env : List ℕ) (e : ℕ) (r : Count) (c : ℕ) → r ≡ Of c → Counted work env e r → Copies work env e c
-counted_of work env e r c i k = subst (Counted work env e) i k
-
-pub counted-differ : (work env : List ℕ) (e : ℕ) (r : Count) → r ≡ count.Differ → Counted work env e r → Differs work env e
-counted-differ work env e r i k = subst (Counted work env e) i k
+    copies-differ d i = record { differ = λ w. subst (Told (driving work env w 0 e)) i (tells w) }

@@ -1,5 +1,5 @@
 -- Laws of marks: the lists that drive an element, marked and gathered by level, tell what they tell one after another.
-use Rattle.std.specs.Prelude.{◌≡◌, ℕ, zero, suc, ◌+◌, ◌-◌, ◌*◌, ◌<◌, ◌≤◌, Bool, true, false, ◌&&◌, ◌||◌, List, [], ◌∷◌, ◌++◌, map, length, replicate, ◌==◌, ◌≢◌, nat_eq, nat_lt, slice_index, slice_index_or, slice_set}
+use Rattle.std.specs.Prelude.{◌≡◌, Some, None, Ok, Err, ℕ, zero, suc, ◌+◌, ◌-◌, ◌*◌, ◌<◌, ◌≤◌, Bool, true, false, ◌&&◌, ◌||◌, List, [], ◌∷◌, ◌++◌, map, length, replicate, ◌==◌, ◌≢◌, nat_eq, nat_lt, slice_index, slice_index_or, slice_set}
 use Rattle.std.proofs.Math.Path.{refl, sym, ap}
 use Rattle.std.proofs.Common.{ap₂, subst, ◌∙◌, arith, get_or-set_same, get_or-set_other}
 use Rattle.std.proofs.lemmas.Bool.{false≢true}
@@ -18,11 +18,10 @@ use Rattle.environments.specs.EnvironmentLaws.{entering-whole, entering-first}
 use Rattle.environments.specs.Sound.{Plain, variable, insert, constant, empty, pairs, ellipsis, plain-pair, plain-ellipsis}
 use Rattle.environments.specs.Entries.{entry_at, taking_of, environment_at, CountsCopies, Stored}
 use Rattle.environments.specs.declared.environment.Entry.{Entry}
-use Rattle.environments.specs.Lengths.{driving, after, Drives}
+use Rattle.environments.specs.Lengths.{Driving, driving, after, Drives}
 use Rattle.environments.specs.Lengths as lengths
 use Rattle.environments.specs.TemplateCells.{pair_is, ellipsis-is}
-use Rattle.environments.specs.declared.lengths.Driving.{Driving}
-use Rattle.environments.specs.declared.lengths.Driving.TheVariants.{None, Length, Differ}
+use Rattle.environments.specs.declared.lengths.Differ.{Differ}
 use Rattle.environments.specs.Marks.{mark_words, marked, among, Marks, Unmarked, Keeps, also_if, gathered, Gathers}
 
 -- ---- plain cells
@@ -116,6 +115,15 @@ module _ (work env marks : List ℕ) (l n : ℕ) (x : Driving) where
     unfolding gathered also_if marked
     gather-unmarked off g w = rw (n-is, ← at-is, ne_eqb _ 1 off) (g w)
 
+-- nothing more tells, once two lists differ
+gathered-differ : (p : ℕ → Bool) (f : ℕ → ℕ) (d : Differ) (n : ℕ) → gathered p f (Err d) n ≡ Err d
+unfolding gathered also_if lengths.also
+gathered-differ p f d zero = refl
+gathered-differ p f d (suc n) = either (p n) (λ t. rw t (gathered-differ p f d n)) (λ t. rw t (gathered-differ p f d n))
+
+pub gather-differ : (work env marks : List ℕ) (l n : ℕ) (d : Differ) → Gathers work env marks l n (Err d) (Err d)
+gather-differ work env marks l n d w = sym (gathered-differ _ _ d n)
+
 -- ---- keeping the entries that move
 
 module _ (marks env : List ℕ) (k at : ℕ) (at-is : at ≡ pattern_variables_most * 1 + k) (old : List ℕ) (h : Keeps marks env k old) where
@@ -136,19 +144,19 @@ module _ (marks env : List ℕ) (k at : ℕ) (at-is : at ≡ pattern_variables_m
 
 also_turned : (x : Driving) (a b : ℕ) → lengths.also (lengths.also x a) b ≡ lengths.also (lengths.also x b) a
 unfolding lengths.also
-also_turned None a b =
+also_turned (Ok None) a b =
     either (a == b) (λ t. rw (eqb-true a b t) refl) (λ t. rw (t, ne_eqb b a (λ z. eqb-false a b t (sym z))) refl)
-also_turned (Length c) a b =
+also_turned (Ok (Some c)) a b =
     either (c == a)
     (λ t. either (c == b) (λ u. rw (t, u, t) refl) (λ u. rw (t, u) refl))
     (λ t. either (c == b) (λ u. rw (t, u, t) refl) (λ u. rw (t, u) refl))
-also_turned Differ a b = refl
+also_turned (Err d) a b = refl
 
 also-again : (x : Driving) (a : ℕ) → lengths.also (lengths.also x a) a ≡ lengths.also x a
 unfolding lengths.also
-also-again None a = rw (eq-eqb a a refl) refl
-also-again (Length c) a = either (c == a) (λ t. rw t (rw t refl)) (λ t. rw t refl)
-also-again Differ a = refl
+also-again (Ok None) a = rw (eq-eqb a a refl) refl
+also-again (Ok (Some c)) a = either (c == a) (λ t. rw t (rw t refl)) (λ t. rw t refl)
+also-again (Err d) a = refl
 
 also_if-also : (b : Bool) (x : Driving) (a l : ℕ) → also_if b (lengths.also x a) l ≡ lengths.also (also_if b x l) a
 unfolding also_if
@@ -282,10 +290,10 @@ module _ (work env old marks : List ℕ) (e : ℕ) (plain : Plain (template_at w
   marks-are : (k l : ℕ) → k < pattern_variables_most → l < depth_most → marked marks k l ≡ among k l (drivers 0 (template_at work e))
   marks-are k l h m = made k l h m ∙ ap (λ (b : Bool). b || among k l (drivers 0 (template_at work e))) (nothing k l)
 
-  module _ (still : Driving) (still-is : Gathers work env marks 0 pattern_variables_most None still) where
+  module _ (still : Driving) (still-is : Gathers work env marks 0 pattern_variables_most (Ok None) still) where
     -- with lists of level none as they are outside, and those of level one as an environment has them
     by-levels : (w : ℕ) (u : Environment) (x : Driving) → ((k : ℕ) → counts 0 (environment_at work env w k) ≡ counts 0 (u k))
-        → x ≡ gathered (λ k. among k 1 (drivers 0 (template_at work e))) (λ k. counts 1 (u k)) still pattern_variables_most → x ≡ after None (lengths_by u 0 (template_at work e))
+        → x ≡ gathered (λ k. among k 1 (drivers 0 (template_at work e))) (λ k. counts 1 (u k)) still pattern_variables_most → x ≡ after (Ok None) (lengths_by u 0 (template_at work e))
     unfolding lengths_by levels
     by-levels w u x whole x-is =
         let g : (ℕ × ℕ) → ℕ = λ v. counts v.1 (u v.0) in
@@ -293,21 +301,27 @@ module _ (work env old marks : List ℕ) (e : ℕ) (plain : Plain (template_at w
         x-is
         ∙ ap (λ (y : Driving). gathered (λ k. among k 1 ds) (λ k. g (k, 1)) y pattern_variables_most)
         (still-is w
-        ∙ gathered-cong (λ k. marked marks k 0) (λ k. among k 0 ds) (λ k. counts 0 (environment_at work env w k)) (λ k. g (k, 0)) None pattern_variables_most (λ k h. marks-are k 0 h (omega arith))
+        ∙ gathered-cong (λ k. marked marks k 0) (λ k. among k 0 ds) (λ k. counts 0 (environment_at work env w k)) (λ k. g (k, 0)) (Ok None) pattern_variables_most (λ k h. marks-are k 0 h (omega arith))
         (λ k h t. whole k))
-        ∙ levels-after g None (low-drivers 0 plain)
+        ∙ levels-after g (Ok None) (low-drivers 0 plain)
 
     -- the table has entered copy i, with the entries that move
     pub gathered-tells : (i : ℕ) (kept table : List ℕ) (x : Driving) → Gathers work table marks 1 pattern_variables_most still x → Keeps marks env pattern_variables_most kept
-        → ((w : ℕ) → environment_at work table w ≡ enter i (environment_at work kept w)) → (w : ℕ) → x ≡ after None (lengths_by (enter i (environment_at work env w)) 0 (template_at work e))
+        → ((w : ℕ) → environment_at work table w ≡ enter i (environment_at work kept w)) → (w : ℕ) → x ≡ after (Ok None) (lengths_by (enter i (environment_at work env w)) 0 (template_at work e))
     gathered-tells i kept table x x-is keeps enters w =
         by-levels w (enter i (environment_at work env w)) x (λ k. entered-whole (environment_at work env w) (enter i (environment_at work env w)) i k refl)
         (x-is w
         ∙ gathered-cong (λ k. marked marks k 1) (λ k. among k 1 (drivers 0 (template_at work e))) _ (λ k. counts 1 (enter i (environment_at work env w) k)) still pattern_variables_most (λ k h. marks-are k 1 h (omega arith))
         (λ k h t. ap (λ (z : Taking). counts 1 z) (ap (λ (z : Environment). z k) (enters w) ∙ entered-kept work w i k kept env (keeps k h t))))
 
+    -- lists of level none that differ in length do so in each copy
+    pub still-differs : (d : Differ) → still ≡ Err d → (i w : ℕ) → still ≡ after (Ok None) (lengths_by (enter i (environment_at work env w)) 0 (template_at work e))
+    still-differs d q i w =
+        by-levels w (enter i (environment_at work env w)) still (λ k. entered-whole (environment_at work env w) (enter i (environment_at work env w)) i k refl)
+        (rw q (sym (gathered-differ _ _ d pattern_variables_most)))
+
     module _ (unmarked : Unmarked marks 1 pattern_variables_most) where
-      pub still-drives : Drives work env 0 e None still
+      pub still-drives : Drives work env 0 e (Ok None) still
       unfolding driving
       still-drives w = by-levels w (environment_at work env w) still (λ k. refl) (sym (gathered_none _ _ still pattern_variables_most (λ k h. sym (marks-are k 1 h (omega arith)) ∙ unmarked k h)))
 

@@ -7,8 +7,7 @@ use Rattle.expansion.specs.Rules.{drivers}
 use Rattle.rule_cells.specs.Cells.{template_at}
 use Rattle.environments.specs.Environment.{counts}
 use Rattle.environments.specs.Entries.{entry_at, environment_at, Moving, AlongAll}
-use Rattle.environments.specs.Lengths.{also}
-use Rattle.environments.specs.declared.lengths.Driving.{Driving}
+use Rattle.environments.specs.Lengths.{Driving, also}
 
 abbrev pub mark_words : ℕ
 mark_words = 32

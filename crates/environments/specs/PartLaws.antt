@@ -7,7 +7,7 @@ use borrow.Author.Tests.{eqb-true, eqb-false}
 use Rattle.recipe.specs.Tree.{Tree, empty, element, tail}
 use Rattle.expansion.specs.Rules.{Pattern}
 use Rattle.expansion.specs.Match.{holds, part}
-use Rattle.arena.specs.Arena.{word_at, reference_at, tree_at}
+use Rattle.arena.specs.Arena.{word_at, reference_at}
 use Rattle.words.specs.ListLaws.{either}
 use Rattle.arena.specs.ArenaLaws.{word_at-some, reference_at-falls}
 use Rattle.rule_cells.specs.Cells.{pattern_at}

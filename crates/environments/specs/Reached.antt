@@ -1,20 +1,14 @@
 -- Ground 17 in all copies of an element. The lists that drive an ellipsis depend on the index of the ellipsis next outside it alone,
 -- since a variable lies under at most two of the pattern: they are compared in each copy that is reached there, and what they drive
 -- is looked into at each index below the largest of their counts, so that no index is met twice (`reached-ellipsis`).
-use Rattle.std.specs.Prelude.{◌≡◌, ℕ, zero, suc, Bool, true, false, cond, List, nat_eq, nat_lt}
+use Rattle.std.specs.Prelude.{◌≡◌, Option, Some, None, Result, Ok, Err, ℕ, zero, suc, Bool, true, false, cond, List, nat_eq, nat_lt}
 use Rattle.words.specs.Lists.{all_of}
 use Rattle.expansion.specs.Rules.{Template}
 use Rattle.expansion.specs.Transcribe.{all_below}
 use Rattle.rule_cells.specs.Cells.{template_at}
 use Rattle.environments.specs.Environment.{Environment, enter, lengths_by, count_by, agree_by}
 use Rattle.environments.specs.Entries.{environment_at}
-use Rattle.environments.specs.declared.lengths.Driving.{Driving}
-use Rattle.environments.specs.declared.lengths.Driving.TheVariants.{None, Length, Differ}
-use Rattle.environments.specs.declared.agree.Round.{Round}
-use Rattle.environments.specs.declared.agree.Round.TheVariants.{Nothing, Copies}
-use Rattle.environments.specs.declared.lengths.Count.{Count}
-use Rattle.environments.specs.declared.lengths.Count.TheVariants.{Of}
-use Rattle.environments.specs.declared.lengths.Count.TheVariants as count
+use Rattle.environments.specs.declared.lengths.Differ.{Differ}
 
 -- the lists that drive an element are of one length
 unfoldable pub same_by : Environment → Template → Bool
@@ -36,40 +30,34 @@ most_below v (suc n) e = larger (most_below v n e) (count_by (enter n v) e)
 unfoldable pub agree_below : Environment → ℕ → Template → Bool
 agree_below v n t = all_below (λ i. agree_by (enter i v) t) n
 
--- ---- the same where nothing is round a part of a template
+-- ---- the same where nothing is round a part of a template, or the first n copies of an element
 
-unfoldable pub same_in : Round → Environment → Template → Bool
-same_in Nothing v e = same_by v e
-same_in (Copies n) v e = same_below v n e
+unfoldable pub same_in : Option ℕ → Environment → Template → Bool
+same_in None v e = same_by v e
+same_in (Some n) v e = same_below v n e
 
-unfoldable pub most_in : Round → Environment → Template → ℕ
-most_in Nothing v e = count_by v e
-most_in (Copies n) v e = most_below v n e
+unfoldable pub most_in : Option ℕ → Environment → Template → ℕ
+most_in None v e = count_by v e
+most_in (Some n) v e = most_below v n e
 
-unfoldable pub agree_in : Round → Environment → Template → Bool
-agree_in Nothing v t = agree_by v t
-agree_in (Copies n) v t = agree_below v n t
+unfoldable pub agree_in : Option ℕ → Environment → Template → Bool
+agree_in None v t = agree_by v t
+agree_in (Some n) v t = agree_below v n t
 
 -- ---- on cells
 
-abbrev pub AgreesIn : (work env : List ℕ) (t : ℕ) → Round → Bool → Type 0
+abbrev pub AgreesIn : (work env : List ℕ) (t : ℕ) → Option ℕ → Bool → Type 0
 AgreesIn work env t round r = (w : ℕ) → r ≡ agree_in round (environment_at work env w) (template_at work t)
 
 -- wherever the element is reached, the lists that drive it are of one length, of which c is the largest
-pub record Reached (work env : List ℕ) (e : ℕ) (round : Round) (c : ℕ) : Type 0 where
+pub record Reached (work env : List ℕ) (e : ℕ) (round : Option ℕ) (c : ℕ) : Type 0 where
   pub same : (w : ℕ) → true ≡ same_in round (environment_at work env w) (template_at work e)
   pub most : (w : ℕ) → c ≡ most_in round (environment_at work env w) (template_at work e)
 
 -- somewhere they differ in length
-pub record DiffersIn (work env : List ℕ) (e : ℕ) (round : Round) : Type 0 where
+pub record DiffersIn (work env : List ℕ) (e : ℕ) (round : Option ℕ) : Type 0 where
   pub differ : (w : ℕ) → false ≡ same_in round (environment_at work env w) (template_at work e)
 
-abbrev pub CountedIn : (work env : List ℕ) (e : ℕ) → Round → Count → Type 0
-CountedIn work env e round (Of c) = Reached work env e round c
-CountedIn work env e round count.Differ = DiffersIn work env e round
-
--- a number of copies more, where the lists that drive them are of one length
-unfoldable pub most : Driving → ℕ → Count
-most None c = Of c
-most (Length d) c = Of (larger c d)
-most Differ c = count.Differ
+abbrev pub CountedIn : (work env : List ℕ) (e : ℕ) → Option ℕ → Result ℕ Differ → Type 0
+CountedIn work env e round (Ok c) = Reached work env e round c
+CountedIn work env e round (Err d) = DiffersIn work env e round

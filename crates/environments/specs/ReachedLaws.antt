@@ -1,10 +1,10 @@
 -- Ground 17 in all copies of an element at once is ground 17 in each, and laws of comparing there, one for each way through the code.
-use Rattle.std.specs.Prelude.{◌≡◌, ℕ, zero, suc, ◌+◌, ◌-◌, ◌<◌, ◌≤◌, Bool, true, false, cond, ◌&&◌, List, [], ◌∷◌, ◌++◌, nat_eq, nat_lt, slice_index}
+use Rattle.std.specs.Prelude.{◌≡◌, Option, Some, None, Result, Ok, Err, ℕ, zero, suc, ◌+◌, ◌-◌, ◌<◌, Bool, true, cond, ◌&&◌, List, [], ◌∷◌, ◌++◌, nat_eq, nat_lt, slice_index}
 use Rattle.std.proofs.Math.Path.{refl, sym, ap, ap₂, subst}
-use Rattle.std.proofs.Common.{◌∙◌}
+use Rattle.std.proofs.Common.{◌∙◌, max, unwrap_or}
 use mathlib.Core.List.{map-append}
 use native.Mathlib.Omega.{arith}
-use borrow.Author.Tests.{eqb-true, eqb-false, ltb-true, ltb-false, le-ltb}
+use borrow.Author.Tests.{ltb-true, ltb-false}
 use Rattle.words.specs.Limits.{depth_most}
 use Rattle.words.specs.Lists.{all_of}
 use Rattle.words.specs.ListLaws.{either}
@@ -16,16 +16,10 @@ use Rattle.environments.specs.BelowLaws.{and-turned, below_true, below-cong, bel
 use Rattle.environments.specs.EnvironmentLaws.{entering-whole, entering-one, entering-first, entering-second}
 use Rattle.environments.specs.Sound.{Plain, variable, insert, constant, empty, pairs, ellipsis}
 use Rattle.environments.specs.Entries.{environment_at}
-use Rattle.environments.specs.Lengths.{driving, after, Copies, Differs, Counted, Drives}
-use Rattle.environments.specs.LengthLaws.{Told, told, copies-none, copies-some, copies-differ}
-use Rattle.environments.specs.Reached.{same_by, same_below, larger, most_below, agree_below, same_in, most_in, agree_in, Reached, DiffersIn, CountedIn, most}
-use Rattle.environments.specs.declared.agree.Round.{Round}
-use Rattle.environments.specs.declared.agree.Round.TheVariants as round
-use Rattle.environments.specs.declared.lengths.Driving.{Driving}
-use Rattle.environments.specs.declared.lengths.Driving.TheVariants.{None, Length, Differ}
-use Rattle.environments.specs.declared.lengths.Count.{Count}
-use Rattle.environments.specs.declared.lengths.Count.TheVariants.{Of}
-use Rattle.environments.specs.declared.lengths.Count.TheVariants as count
+use Rattle.environments.specs.Lengths.{Driving, driving, after, Copies, Counted, Drives}
+use Rattle.environments.specs.LengthLaws.{Told, told, copies-of}
+use Rattle.environments.specs.Reached.{same_by, same_below, larger, most_below, agree_below, same_in, most_in, agree_in, Reached, DiffersIn, CountedIn}
+use Rattle.environments.specs.declared.lengths.Differ.{Differ}
 
 -- ---- the larger of two numbers
 
@@ -35,6 +29,10 @@ below-larger g a b =
     either (nat_lt a b)
     (λ t. rw t (below-fewer g a b (omega (arith, ltb-true a b t))))
     (λ t. rw t (and-turned (all_below g a) (all_below g b) ∙ below-fewer g b a (ltb-false a b t)))
+
+pub larger-max : (a b : ℕ) → larger a b ≡ max a b
+unfolding larger
+larger-max a b = either (nat_lt a b) (λ t. rw t (omega (arith, ltb-true a b t))) (λ t. rw t (omega (arith, ltb-false a b t)))
 
 -- ---- environments that a copy does not tell apart
 
@@ -101,18 +99,18 @@ unfolding all_below most_below
 below-most v zero e g = refl
 below-most v (suc n) e g = ap (λ (b : Bool). b && all_below g (count_by (enter n v) e)) (below-most v n e g) ∙ below-larger g (most_below v n e) (count_by (enter n v) e)
 
-pub reached-pair : (r : Round) (v : Environment) (a b : Template) → agree_in r v (pair_t a b) ≡ (agree_in r v a && agree_in r v b)
+pub reached-pair : (r : Option ℕ) (v : Environment) (a b : Template) → agree_in r v (pair_t a b) ≡ (agree_in r v a && agree_in r v b)
 unfolding agree_in agree_below agree_by
-reached-pair round.Nothing v a b = refl
-reached-pair (round.Copies n) v a b = below_both (λ i. agree_by (enter i v) a) (λ i. agree_by (enter i v) b) n
+reached-pair None v a b = refl
+reached-pair (Some n) v a b = below_both (λ i. agree_by (enter i v) a) (λ i. agree_by (enter i v) b) n
 
 -- ground 17 of an ellipsis: its lists wherever it is reached, then its element in as many copies as the largest of their counts, and the
 -- rest
-pub reached-ellipsis : (o : Round) (v : Environment) (e r : Template) → Plain e
-    → agree_in o v (ellipsis_t e r) ≡ (same_in o v e && (agree_in (round.Copies (most_in o v e)) v e && agree_in o v r))
+pub reached-ellipsis : (o : Option ℕ) (v : Environment) (e r : Template) → Plain e
+    → agree_in o v (ellipsis_t e r) ≡ (same_in o v e && (agree_in (Some (most_in o v e)) v e && agree_in o v r))
 unfolding agree_in same_in most_in agree_below same_below agree_by same_by
-reached-ellipsis round.Nothing v e r p = refl
-reached-ellipsis (round.Copies n) v e r p =
+reached-ellipsis None v e r p = refl
+reached-ellipsis (Some n) v e r p =
     below_both _ _ n
     ∙ ap (λ (b : Bool). same_below v n e && b)
     (below_both _ _ n
@@ -122,12 +120,12 @@ reached-ellipsis (round.Copies n) v e r p =
 -- ---- going through the copies
 
 module _ (work env : List ℕ) (e : ℕ) where
-  pub reached-begins : Reached work env e (round.Copies 0) 0
+  pub reached-begins : Reached work env e (Some 0) 0
   unfolding same_in most_in same_below most_below all_below
   reached-begins = record { same = λ w. refl; most = λ w. refl }
 
   -- x is what the lists tell in copy i
-  module _ (i : ℕ) (x : Driving) (x-is : (w : ℕ) → x ≡ after None (lengths_by (enter i (environment_at work env w)) 0 (template_at work e))) where
+  module _ (i : ℕ) (x : Driving) (x-is : (w : ℕ) → x ≡ after (Ok None) (lengths_by (enter i (environment_at work env w)) 0 (template_at work e))) where
     tells : (w : ℕ) (y : Driving) → x ≡ y → Told (lengths_by (enter i (environment_at work env w)) 0 (template_at work e)) y
     tells w y q =
         let ls : List ℕ = lengths_by (enter i (environment_at work env w)) 0 (template_at work e) in
@@ -135,7 +133,7 @@ module _ (work env : List ℕ) (e : ℕ) where
 
     -- a copy with lists of one length, of which there may be none
     reached-with : (c d : ℕ) → ((w : ℕ) → (count_by (enter i (environment_at work env w)) (template_at work e) ≡ d) × (same_by (enter i (environment_at work env w)) (template_at work e) ≡ true))
-        → Reached work env e (round.Copies i) c → Reached work env e (round.Copies (i + 1)) (larger c d)
+        → Reached work env e (Some i) c → Reached work env e (Some (i + 1)) (larger c d)
     unfolding same_in most_in same_below most_below all_below
     reached-with c d f g =
         let s : i + 1 ≡ suc i = omega arith in
@@ -144,33 +142,18 @@ module _ (work env : List ℕ) (e : ℕ) where
           most = λ w. rw ((f w).0, ← g.most w) refl;
         })
 
-    pub reached-more : (c m : ℕ) → most x c ≡ Of m → Reached work env e (round.Copies i) c → Reached work env e (round.Copies (i + 1)) m
-    unfolding most larger count_by same_by all_of
-    reached-more c m h g = by x refl
-      where
-        by : (y : Driving) → x ≡ y → Reached work env e (round.Copies (i + 1)) m
-        by None q =
-            let o : Of c ≡ Of m = ap (λ (y : Driving). most y c) (sym q) ∙ h in
-            let s : larger c 0 ≡ m = rw (le-ltb c 0 (omega arith)) cc in
-            subst (Reached work env e (round.Copies (i + 1))) s (reached-with c 0 (λ w. let n = tells w None q in (rw n refl, rw n refl)) g)
-        by (Length d) q =
-            let o : Of (larger c d) ≡ Of m = ap (λ (y : Driving). most y c) (sym q) ∙ h in
-            let s : larger c d ≡ m = cc in
-            subst (Reached work env e (round.Copies (i + 1))) s (reached-with c d (λ w. let n = tells w (Length d) q in (sym n.0, rw (← n.0) (sym n.1))) g)
-        by Differ q = let z : ◌≡◌ {A = ℕ} 0 1 = cc in absurd (omega arith)
+    pub reached-more : (c : ℕ) (o : Option ℕ) → x ≡ Ok o → Reached work env e (Some i) c → Reached work env e (Some (i + 1)) (max c (unwrap_or o 0))
+    unfolding count_by same_by all_of
+    reached-more c None q g = rw (← larger-max c 0) (reached-with c 0 (λ w. let n = tells w (Ok None) q in (rw n refl, rw n refl)) g)
+    reached-more c (Some d) q g = rw (← larger-max c d) (reached-with c d (λ w. let n = tells w (Ok (Some d)) q in (sym n.0, rw (← n.0) (sym n.1))) g)
 
-    pub reached-differs : (c n : ℕ) → most x c ≡ count.Differ → i < n → DiffersIn work env e (round.Copies n)
-    unfolding most same_in same_below same_by count_by
-    reached-differs c n h l = by x refl
-      where
-        by : (y : Driving) → x ≡ y → DiffersIn work env e (round.Copies n)
-        by None q = let z : ◌≡◌ {A = ℕ} 0 1 = cc in absurd (omega arith)
-        by (Length d) q = let z : ◌≡◌ {A = ℕ} 0 1 = cc in absurd (omega arith)
-        by Differ q = record { differ = λ w. sym (below_false _ n i l (sym (tells w Differ q))) }
+    pub reached-differs : (d : Differ) (n : ℕ) → x ≡ Err d → i < n → DiffersIn work env e (Some n)
+    unfolding same_in same_below same_by count_by
+    reached-differs d n q l = record { differ = λ w. sym (below_false _ n i l (sym (tells w (Err d) q))) }
 
 -- ---- where the lists are the same in each copy
 
-module _ (work env : List ℕ) (e : ℕ) (x : Driving) (x-is : Drives work env 0 e None x) (still : (v : Environment) (i : ℕ) → lengths_by (enter i v) 0 (template_at work e) ≡ lengths_by v 0 (template_at work e)) where
+module _ (work env : List ℕ) (e : ℕ) (x : Driving) (x-is : Drives work env 0 e (Ok None) x) (still : (v : Environment) (i : ℕ) → lengths_by (enter i v) 0 (template_at work e) ≡ lengths_by v 0 (template_at work e)) where
   most-still : (v : Environment) (n : ℕ) → most_below v (suc n) (template_at work e) ≡ count_by v (template_at work e)
   unfolding most_below count_by larger
   most-still v zero = rw (still v 0) (larger-none _)
@@ -183,7 +166,7 @@ module _ (work env : List ℕ) (e : ℕ) (x : Driving) (x-is : Drives work env 0
       larger-self c = either (nat_lt c c) (λ t. rw t refl) (λ t. rw t refl)
 
   module _ (n : ℕ) (some : 0 < n) where
-    still-with : (d : ℕ) → Copies work env e d → Reached work env e (round.Copies n) d
+    still-with : (d : ℕ) → Copies work env e d → Reached work env e (Some n) d
     unfolding same_in most_in same_below same_by count_by driving
     still-with d f =
         let s : n ≡ suc (n - 1) = omega arith in
@@ -192,33 +175,12 @@ module _ (work env : List ℕ) (e : ℕ) (x : Driving) (x-is : Drives work env 0
           most = λ w. f.count w ∙ sym (ap (λ (m : ℕ). most_below (environment_at work env w) m (template_at work e)) s ∙ most-still (environment_at work env w) (n - 1));
         }
 
-    differs-still : (w : ℕ) → Differs work env e → same_by (enter 0 (environment_at work env w)) (template_at work e) ≡ false
-    unfolding same_by count_by driving
-    differs-still w f = rw (still (environment_at work env w) 0) (sym (f.differ w))
-
-    pub reached-still : CountedIn work env e (round.Copies n) (most x 0)
-    unfolding most larger same_in same_below
-    reached-still = by x refl
-      where
-        by : (y : Driving) → x ≡ y → CountedIn work env e (round.Copies n) (most x 0)
-        by None q = subst (λ (y : Driving). CountedIn work env e (round.Copies n) (most y 0)) (sym q) (still-with 0 (copies-none work env e x x-is q))
-        by (Length d) q =
-            let z : d ≡ larger 0 d = either (nat_lt 0 d) (λ t. rw t refl) (λ t. let o : d ≡ 0 = omega (arith, ltb-false 0 d t) in rw t o) in
-            subst (λ (y : Driving). CountedIn work env e (round.Copies n) (most y 0)) (sym q) (subst (Reached work env e (round.Copies n)) z (still-with d (copies-some work env e x x-is d q)))
-        by Differ q =
-            subst (λ (y : Driving). CountedIn work env e (round.Copies n) (most y 0)) (sym q)
-            (record { differ = λ w. sym (below_false _ n 0 some (differs-still w (copies-differ work env e x x-is q))) })
+    pub reached-still : (o : Option ℕ) → x ≡ Ok o → Reached work env e (Some n) (unwrap_or o 0)
+    reached-still o q = still-with (unwrap_or o 0) (copies-of work env e x x-is o q)
 
 -- ---- where nothing is round
 
-pub reached-once : (work env : List ℕ) (e : ℕ) (r : Count) → Counted work env e r → CountedIn work env e round.Nothing r
+pub reached-once : (work env : List ℕ) (e : ℕ) (r : Result ℕ Differ) → Counted work env e r → CountedIn work env e None r
 unfolding same_in most_in same_by count_by driving
-reached-once work env e (Of c) k = record { same = λ w. rw (← k.count w) (k.same w); most = k.count }
-reached-once work env e count.Differ k = record { differ = k.differ }
-
-module _ (work env : List ℕ) (e : ℕ) (o : Round) (r : Count) where
-  pub reached-of : (c : ℕ) → r ≡ Of c → CountedIn work env e o r → Reached work env e o c
-  reached-of c i k = subst (CountedIn work env e o) i k
-
-  pub reached-differ : r ≡ count.Differ → CountedIn work env e o r → DiffersIn work env e o
-  reached-differ i k = subst (CountedIn work env e o) i k
+reached-once work env e (Ok c) k = record { same = λ w. rw (← k.count w) (k.same w); most = k.count }
+reached-once work env e (Err d) k = record { differ = k.differ }

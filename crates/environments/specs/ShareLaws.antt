@@ -1,6 +1,6 @@
 -- Laws of what an ellipsis takes of a list, and of what it leaves: a list is gone along with a second node ahead of the first by as many
 -- elements as follow the ellipsis, so that the ellipsis takes an element where the second node is a pair.
-use Rattle.std.specs.Prelude.{◌≡◌, ℕ, zero, suc, ◌+◌, ◌-◌, ◌≤◌, List, [], length, ◌==◌, ◌≢◌}
+use Rattle.std.specs.Prelude.{◌≡◌, Some, None, ℕ, zero, suc, ◌+◌, ◌-◌, ◌≤◌, List, [], length, ◌==◌, ◌≢◌}
 use Rattle.std.proofs.Math.Path.{refl, sym, ap}
 use Rattle.std.proofs.Common.{◌∙◌, arith, eqb-true, le-leb}
 use Rattle.std.proofs.lemmas.Bool.{eqb-false, lt-leb}
@@ -8,11 +8,9 @@ use Rattle.words.specs.ListLaws.{either}
 use Rattle.recipe.specs.Tree.{Tree, empty, constant, name, pair, on_pair, elements, tail, past}
 use Rattle.expansion.specs.Match.{share}
 use Rattle.arena.specs.Arena.{word_at, reference_at, tree_at}
-use Rattle.arena.specs.ArenaLaws.{reference_at-most}
 use Rattle.arena.specs.Lists.{Means, Counts, Counted, Skipped}
 use Rattle.arena.specs.ListLaws.{no-elements, a_pair, rest_some, count-begins, count-more, count_none, skip-begins, skip-more, skip-ends}
 use Rattle.environments.specs.Parts.{Shares, After, LooksAhead}
-use Rattle.environments.specs.declared.shares.Enough.TheVariants.{Yes, No}
 
 -- ---- on trees
 
@@ -69,14 +67,14 @@ module _ (work : List ℕ) (p list n : ℕ) (n-is : n ≡ word_at work p 4) wher
       record { skipped = skip-begins work list n; counted = rw e (count-begins work list); within = omega arith }
 
   module _ (node k : ℕ) (inv : Skipping work list n node k) where
-    pub skipping-ends : k ≡ 0 → LooksAhead work p list (Yes node)
+    pub skipping-ends : k ≡ 0 → LooksAhead work p list (Some node)
     skipping-ends e = (
       λ w. le-leb (word_at work p 4) (length (elements (tree_at work list w))) (omega (arith, e, n-is, inv.counted.is w)),
       rw (← n-is) (skip-ends work list n node k e inv.skipped),
     )
 
     module _ (kind : ℕ) (kind-is : kind ≡ word_at work node 3) (more : k ≡ 0 → ⊥) where
-      pub skipping-short : (kind ≢ 4) → LooksAhead work p list No
+      pub skipping-short : (kind ≢ 4) → LooksAhead work p list None
       skipping-short other w = lt-leb (word_at work p 4) (length (elements (tree_at work list w))) (omega (arith, more, n-is, inv.within, (count_none work node kind kind-is list (n - k) other inv.counted).is w))
 
       pub skipping-more : (r : ℕ) → kind ≡ 4 → r ≡ reference_at work node 1 → Skipping work list n r (k - 1)

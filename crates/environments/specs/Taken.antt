@@ -1,5 +1,5 @@
 -- What a variable takes, and the result of a step by it.
-use Rattle.std.specs.Prelude.{ℕ, zero, suc, Bool, true, cond, ◌&&◌, List, [], ◌∷◌, map, reverse, take, nat_eq, nat_lt, slice_index}
+use Rattle.std.specs.Prelude.{ℕ, Bool, true, cond, ◌&&◌, List, [], ◌∷◌, map, reverse, take, nat_eq, nat_lt, slice_index}
 use Rattle.words.specs.Lists.{all_of}
 use Rattle.recipe.specs.Tree.{Tree, empty, constant, name, pair, element, tail, past}
 use Rattle.expansion.specs.Rules.{Pattern, variable_p, literal_p, wildcard_p, constant_p, empty_p, pair_p, ellipsis_p, Template, variable_t, insert_t, constant_t, empty_t, pair_t, ellipsis_t, drivers}

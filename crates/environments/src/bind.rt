@@ -23,8 +23,8 @@ fn bind_variable(env: &mut [u32; environment::WORDS], k: u32, node: u32, first: 
             whole: node,
             one: node,
             two: node,
-            first: first,
-            second: second,
+            first,
+            second,
             along: 0,
             across: 0,
         },
@@ -56,22 +56,19 @@ fn bind_list(
     ensures { BindsList work.now p list first second env.old env.new }
 {
     let tag = arena::cells::word(work, p, cells::TAG);
-    if tag == cells::VARIABLE {
-        let k = arena::cells::word(work, p, cells::PATTERN_NUMBER);
-        bind_variable(env, k, list, first, second);
-        return;
+    match tag {
+        cells::VARIABLE => {
+            let k = arena::cells::word(work, p, cells::PATTERN_NUMBER);
+            bind_variable(env, k, list, first, second);
+        }
+        cells::PAIR | cells::ELLIPSIS => {
+            let rest = arena::cells::reference(work, p, cells::REST);
+            bind_list(work, env, rest, list, first, second);
+            let head = arena::cells::reference(work, p, cells::HEAD);
+            bind_list(work, env, head, list, first, inner_second(tag, p, second));
+        }
+        _ => {}
     }
-    if tag < cells::PAIR {
-        return;
-    }
-    if cells::ELLIPSIS < tag {
-        return;
-    }
-    let rest = arena::cells::reference(work, p, cells::REST);
-    bind_list(&work[0..], env, rest, list, first, second);
-    let head = arena::cells::reference(work, p, cells::HEAD);
-    let inner = inner_second(tag, p, second);
-    bind_list(&work[0..], env, head, list, first, inner);
 }
 
 // The variables of a pattern, each with what it takes from the use.
@@ -89,16 +86,16 @@ pub fn bind(work: &[u32], env: &mut [u32; environment::WORDS], p: u32, u: u32)
     if tag == cells::ELLIPSIS {
         if rest != 0 {
             let after = shares::after(work, p, u);
-            bind(&work[0..], env, rest, after);
+            bind(work, env, rest, after);
         }
-        bind_list(&work[0..], env, head, u, p, 0);
+        bind_list(work, env, head, u, p, 0);
         return;
     }
     if tag != cells::PAIR {
         return;
     }
     let tail = lists::rest(work, u);
-    bind(&work[0..], env, rest, tail);
+    bind(work, env, rest, tail);
     let first = lists::first(work, u);
-    bind(&work[0..], env, head, first);
+    bind(work, env, head, first);
 }

@@ -6,7 +6,6 @@ ghost use Rattle.words.specs.Limits.{pattern_variables_most};
 ghost use Rattle.environments.specs.Columns.{entries_words, entry_of, EntryStored, EntrySet, advance, inside, found};
 
 use crate::blocks;
-use std::num;
 
 // The words of an entry, and of all.
 const ENTRY: usize = 4;
@@ -67,30 +66,25 @@ pub fn set(env: &mut [u32; WORDS], k: u32, x: Entry)
 // ---- the next slot's entry, on a walk of the pattern: at level 1 its word's place, then its column
 
 // The slot after it.
+#[tactic(auto, unfolding(crate::specs::Columns::advance))]
 pub fn next(x: Entry) -> Entry
     ensures { result ≡ advance x 1 }
 {
     if x.level == 1 {
         return Entry {
-            level: x.level,
-            whole: num::wrapping_add_u32(x.whole, 1),
-            first: x.first,
-            second: x.second,
+            whole: x.whole.wrapping_add(1),
+            ..x
         };
     }
     if x.level == 2 {
         return Entry {
-            level: x.level,
-            whole: x.whole,
-            first: num::wrapping_add_u32(x.first, 1),
-            second: x.second,
+            first: x.first.wrapping_add(1),
+            ..x
         };
     }
     Entry {
-        level: x.level,
-        whole: x.whole,
-        first: x.first,
-        second: num::wrapping_add_u32(x.second, 1),
+        second: x.second.wrapping_add(1),
+        ..x
     }
 }
 
@@ -108,9 +102,8 @@ pub fn inside(work: &[u32], x: Entry) -> Entry
     }
     Entry {
         level: 3,
-        whole: x.whole,
-        first: x.first,
         second: 0,
+        ..x
     }
 }
 
@@ -120,10 +113,8 @@ pub fn found(work: &[u32], x: Entry) -> Entry
 {
     if x.level == 1 {
         return Entry {
-            level: 1,
             whole: blocks::at(work, x.whole as usize),
-            first: x.first,
-            second: x.second,
+            ..x
         };
     }
     x

@@ -137,13 +137,11 @@ fn begun(x: Entry) -> Entry
     ensures { result ≡ begun x }
 {
     Entry {
-        whole: x.whole,
         one: x.whole,
         two: x.one,
-        first: x.first,
-        second: x.second,
         along: x.whole,
         across: x.one,
+        ..x
     }
 }
 
@@ -154,14 +152,12 @@ pub fn begin(outer: &[u32; WORDS], inner: &mut [u32; WORDS]) -> usize
     let from: &[u32] = outer;
     let to: &mut [u32] = inner;
     let mut moving: usize = 0;
-    let mut k: usize = 0;
-    while k < ENTRIES {
+    for k in 0..ENTRIES {
         let x = get(from, k);
         if x.first != 0 {
             moving = k + 1;
         }
         put(to, k, begun(x));
-        k += 1;
     }
     moving
 }
@@ -188,13 +184,11 @@ fn next(work: &[u32], k: u32, x: Entry) -> Entry
     let along = lists::rest(work, x.along);
     let across = lists::rest(work, x.across);
     Entry {
-        whole: x.whole,
-        one: one,
-        two: two,
-        first: x.first,
-        second: x.second,
-        along: along,
-        across: across,
+        one,
+        two,
+        along,
+        across,
+        ..x
     }
 }
 
@@ -204,12 +198,10 @@ pub fn enter(work: &[u32], env: &mut [u32; WORDS], moving: usize)
     ensures { Enters work.now env.old env.new }
 {
     let table: &mut [u32] = env;
-    let mut k: usize = 0;
-    while k < moving {
+    for k in 0..moving {
         let x = get(table, k);
         if x.first != 0 {
             put(table, k, next(work, k as u32, x));
         }
-        k += 1;
     }
 }

@@ -136,22 +136,11 @@ fn fill_rows(work: &mut [u32], p: u32, u: u32, c: u32, x: Free) -> Behind
     while i < c {
         let first = lists::first(work, node);
         let tail = lists::rest(work, node);
-        let y = fill(
-            work,
-            p,
-            first,
-            Free {
-                slot: slot,
-                top: top,
-            },
-        );
+        let y = fill(work, p, first, Free { slot, top });
         node = tail;
         slot = y.slot;
         top = y.top;
         i += 1;
     }
-    Behind {
-        node: node,
-        top: top,
-    }
+    Behind { node, top }
 }

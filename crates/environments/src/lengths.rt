@@ -1,25 +1,14 @@
 // Driving lists: how many copies an element gets, where the lists that drive it are of one length (ground 17).
 
-ghost use Rattle.std.specs.Prelude.{◌≡◌, ◌+◌, ◌^◌, ◌<◌};
+ghost use Rattle.std.specs.Prelude.{◌≡◌, Ok, ◌+◌, ◌^◌, ◌<◌};
 ghost use Rattle.environments.specs.Lengths.{deeper, also, Drives, Counted};
 
 use crate::environment;
 use rule_cells::cells;
 
-// What the lists that drive an element say: there is none, all are of one length, or two differ in length.
+// That two lists which drive one element differ in length (ground 17).
 #[derive(Clone, Copy)]
-pub enum Driving {
-    None,
-    Length(u32),
-    Differ,
-}
-
-// How many copies an element gets, or the lists that drive it differ in length.
-#[derive(Clone, Copy)]
-pub enum Count {
-    Of(u32),
-    Differ,
-}
+pub struct Differ;
 
 // The ellipses round the first part of a template's cell: one more for an element.
 pub fn deeper(tag: u32, j: u32) -> u32
@@ -32,62 +21,57 @@ pub fn deeper(tag: u32, j: u32) -> u32
     j
 }
 
-// One list more, of this length.
-pub fn also(before: Driving, length: u32) -> Driving
+// The length of the lists, where there are any, with one list more, of this length.
+#[tactic(auto, unfolding(crate::specs::Lengths::also))]
+pub fn also(before: Result<Option<u32>, Differ>, length: u32) -> Result<Option<u32>, Differ>
     ensures { result ≡ also before length }
 {
     match before {
-        Driving::None => Driving::Length(length),
-        Driving::Length(c) => {
+        Ok(None) => Ok(Some(length)),
+        Ok(Some(c)) => {
             if c == length {
-                return Driving::Length(c);
+                return before;
             }
-            Driving::Differ
+            Err(Differ)
         }
-        Driving::Differ => Driving::Differ,
+        Err(_) => before,
     }
 }
 
-// The lists that drive the copies of an element, after others; t is the part of it under j ellipses.
+// The length of the lists that drive the copies of an element, and of others; t is the part of it under j ellipses.
 fn drivers(
     work: &[u32],
     env: &[u32; environment::WORDS],
     j: u32,
     t: u32,
-    before: Driving,
-) -> Driving
+    before: Option<u32>,
+) -> Result<Option<u32>, Differ>
     requires { j + t < 2 ^ 32 }
-    ensures { Drives work.now env.now j t before result }
+    ensures { Drives work.now env.now j t (Ok before) result }
 {
     let tag = arena::cells::word(work, t, cells::TAG);
-    if tag == cells::VARIABLE {
-        let d = arena::cells::word(work, t, cells::DEPTH);
-        if d <= j {
-            return before;
+    match tag {
+        cells::VARIABLE => {
+            let d = arena::cells::word(work, t, cells::DEPTH);
+            if d <= j {
+                return Ok(before);
+            }
+            let k = arena::cells::word(work, t, cells::NUMBER);
+            also(Ok(before), environment::copies(work, env, k, d - j - 1))
         }
-        let k = arena::cells::word(work, t, cells::NUMBER);
-        return also(before, environment::copies(work, env, k, d - j - 1));
+        cells::PAIR | cells::ELLIPSIS => {
+            let head = arena::cells::reference(work, t, cells::HEAD);
+            let first = drivers(work, env, deeper(tag, j), head, before)?;
+            let rest = arena::cells::reference(work, t, cells::REST);
+            drivers(work, env, j, rest, first)
+        }
+        _ => Ok(before),
     }
-    if tag < cells::PAIR {
-        return before;
-    }
-    if cells::ELLIPSIS < tag {
-        return before;
-    }
-    let head = arena::cells::reference(work, t, cells::HEAD);
-    let i = deeper(tag, j);
-    let first = drivers(&work[0..], env, i, head, before);
-    let rest = arena::cells::reference(work, t, cells::REST);
-    drivers(&work[0..], env, j, rest, first)
 }
 
 // How many copies an element gets: as many as each list that drives it has elements, none where there is no such list.
-pub fn copies(work: &[u32], env: &[u32; environment::WORDS], e: u32) -> Count
+pub fn copies(work: &[u32], env: &[u32; environment::WORDS], e: u32) -> Result<u32, Differ>
     ensures { Counted work.now env.now e result }
 {
-    match drivers(&work[0..], env, 0, e, Driving::None) {
-        Driving::None => Count::Of(0),
-        Driving::Length(c) => Count::Of(c),
-        Driving::Differ => Count::Differ,
-    }
+    Ok(drivers(work, env, 0, e, None)?.unwrap_or(0))
 }

@@ -1,13 +1,13 @@
 // Which lists drive the copies of an element, marked in a small table, and what the marked ones say. specs/Marks.antt says what the
 // table holds.
 
-ghost use Rattle.std.specs.Prelude.{◌≡◌, ◌+◌, ◌*◌, ◌^◌, ◌<◌, ◌≤◌, false, length};
+ghost use Rattle.std.specs.Prelude.{◌≡◌, Ok, ◌+◌, ◌*◌, ◌^◌, ◌<◌, ◌≤◌, false, length};
 ghost use Rattle.words.specs.Limits.{pattern_variables_most, depth_most};
 ghost use Rattle.rule_cells.specs.Cells.{template_at};
 ghost use Rattle.environments.specs.Sound.{Plain};
 ghost use Rattle.environments.specs.Marks.{mark_words, Marks, Unmarked, Keeps, Gathers};
 
-use crate::lengths::Driving;
+use crate::lengths::Differ;
 use crate::{environment, lengths};
 use rule_cells::cells;
 
@@ -28,25 +28,22 @@ pub fn mark(work: &[u32], j: u32, t: u32, marks: &mut [u32])
     ensures { Marks work.now j t marks.old marks.new }
 {
     let tag = arena::cells::word(work, t, cells::TAG);
-    if tag == cells::VARIABLE {
-        let d = arena::cells::word(work, t, cells::DEPTH);
-        if j < d {
-            let k = arena::cells::word(work, t, cells::NUMBER);
-            marks[place(k, d - j - 1)] = 1;
+    match tag {
+        cells::VARIABLE => {
+            let d = arena::cells::word(work, t, cells::DEPTH);
+            if j < d {
+                let k = arena::cells::word(work, t, cells::NUMBER);
+                marks[place(k, d - j - 1)] = 1;
+            }
         }
-        return;
+        cells::PAIR | cells::ELLIPSIS => {
+            let head = arena::cells::reference(work, t, cells::HEAD);
+            let rest = arena::cells::reference(work, t, cells::REST);
+            mark(work, lengths::deeper(tag, j), head, marks);
+            mark(work, j, rest, marks);
+        }
+        _ => {}
     }
-    if tag < cells::PAIR {
-        return;
-    }
-    if cells::ELLIPSIS < tag {
-        return;
-    }
-    let head = arena::cells::reference(work, t, cells::HEAD);
-    let rest = arena::cells::reference(work, t, cells::REST);
-    let i = lengths::deeper(tag, j);
-    mark(work, i, head, marks);
-    mark(work, j, rest, marks);
 }
 
 // Whether one of the first n variables' lists, taken under this many indices, is marked.
@@ -71,34 +68,32 @@ pub fn keep(env: &[u32; environment::WORDS], marks: &[u32], kept: &mut [u32; env
 {
     let from: &[u32] = env;
     let to: &mut [u32] = kept;
-    let mut k: u32 = 0;
-    while k < words::VARIABLES {
+    for k in 0..words::VARIABLES {
         if marks[place(k, 1)] == 1 {
             let x = environment::get(from, k as usize);
             environment::put(to, k as usize, x);
         }
-        k += 1;
     }
 }
 
-// Of the first n variables' lists, taken under this many indices, those that are marked, after others.
+// The length of those of the first n variables' lists, taken under this many indices, that are marked, and of others.
 pub fn gather(
     work: &[u32],
     env: &[u32; environment::WORDS],
     marks: &[u32],
     level: u32,
     n: u32,
-    before: Driving,
-) -> Driving
+    before: Option<u32>,
+) -> Result<Option<u32>, Differ>
     requires { (length marks.now ≡ mark_words) × (level < depth_most) × (n ≤ pattern_variables_most) }
-    ensures { Gathers work.now env.now marks.now level n before result }
+    ensures { Gathers work.now env.now marks.now level n (Ok before) result }
 {
     if n == 0 {
-        return before;
+        return Ok(before);
     }
     let k = n - 1;
     if marks[place(k, level)] == 1 {
-        let more = lengths::also(before, environment::copies(work, env, k, level));
+        let more = lengths::also(Ok(before), environment::copies(work, env, k, level))?;
         return gather(work, env, marks, level, k, more);
     }
     gather(work, env, marks, level, k, before)

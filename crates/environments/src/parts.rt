@@ -10,22 +10,15 @@ use rule_cells::cells;
 fn holds(work: &[u32], p: u32, k: u32) -> bool
     ensures { Holds work.now p k result }
 {
-    let tag = arena::cells::word(work, p, cells::TAG);
-    if tag == cells::VARIABLE {
-        return k == arena::cells::word(work, p, cells::PATTERN_NUMBER);
+    match arena::cells::word(work, p, cells::TAG) {
+        cells::VARIABLE => k == arena::cells::word(work, p, cells::PATTERN_NUMBER),
+        cells::PAIR | cells::ELLIPSIS => {
+            let head = arena::cells::reference(work, p, cells::HEAD);
+            let tail = arena::cells::reference(work, p, cells::REST);
+            holds(work, head, k) || holds(work, tail, k)
+        }
+        _ => false,
     }
-    if tag < cells::PAIR {
-        return false;
-    }
-    if cells::ELLIPSIS < tag {
-        return false;
-    }
-    let head = arena::cells::reference(work, p, cells::HEAD);
-    if holds(work, head, k) {
-        return true;
-    }
-    let tail = arena::cells::reference(work, p, cells::REST);
-    holds(work, tail, k)
 }
 
 // Whether a part of the pattern holds variable k. Another variable is told without a call more.

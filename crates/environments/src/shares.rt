@@ -5,15 +5,9 @@ ghost use Rattle.environments.specs.Parts.{Shares, After, LooksAhead};
 use arena::lists;
 use rule_cells::cells;
 
-// Whether a list has as many elements as follow an ellipsis, and then the node behind so many of them.
-#[derive(Clone, Copy)]
-pub enum Enough {
-    Yes(u32),
-    No,
-}
-
-// As many elements as follow the ellipsis of a pattern's cell, gone along from a list's first.
-pub fn look_ahead(work: &[u32], p: u32, list: u32) -> Enough
+// The node behind as many elements as follow the ellipsis of a pattern's cell, gone along from a list's first; none where the list has
+// fewer.
+pub fn look_ahead(work: &[u32], p: u32, list: u32) -> Option<u32>
     ensures { LooksAhead work.now p list result }
 {
     let n = arena::cells::word(work, p, cells::FOLLOWING);
@@ -21,12 +15,12 @@ pub fn look_ahead(work: &[u32], p: u32, list: u32) -> Enough
     let mut k = n;
     while k != 0 {
         if arena::cells::word(work, node, arena::cells::KIND) != arena::cells::PAIR {
-            return Enough::No;
+            return None;
         }
         node = arena::cells::reference(work, node, arena::cells::TAIL);
         k -= 1;
     }
-    Enough::Yes(node)
+    Some(node)
 }
 
 // How many elements of a list it takes: all but as many as follow the ellipsis of a pattern's cell.

@@ -8,7 +8,7 @@ use Rattle.expansion.specs.Run.{words_of, words_of_all}
 use Rattle.expansion.specs.Forms.{expand, expand_all}
 use Rattle.arena.specs.Arena.{tree_at}
 use Rattle.turns.specs.declared.answers.Reached.{Reached}
-use Rattle.turns.specs.declared.answers.Ended.{Ended}
+use Rattle.turns.specs.Answers.{Ended}
 use Rattle.turns.specs.Ends.{End, end_of}
 use Rattle.turns.specs.Memory.{Tables, state_at, Placed, Kept}
 use Rattle.turns.specs.Turns.{Lent, Left}

@@ -1,5 +1,5 @@
 -- What the cycle's loops know gives its calls what they ask for, and their answers carry the loops on.
-use Rattle.std.specs.Prelude.{◌≡◌, refl, List, ℕ, suc, ◌+◌, ◌-◌, ◌≤◌, ◌<◌, length}
+use Rattle.std.specs.Prelude.{◌≡◌, refl, List, ℕ, suc, ◌+◌, ◌-◌, ◌≤◌, ◌<◌, length, Ok, Err}
 use Rattle.std.proofs.Common.{sym, subst, ◌∙◌, arith}
 use Rattle.words.specs.Limits.{macros_most}
 use Rattle.recipe.specs.Tree.{Tree, pair, size, elements}
@@ -8,9 +8,8 @@ use Rattle.arena.specs.ArenaLaws.{take_less, reference_at-falls, reference_at-be
 use Rattle.arena.specs.NodeLaws.{tree_at-pair}
 use Rattle.arena.specs.ListLaws.{no-pair, kind-some}
 use Rattle.turns.specs.declared.answers.Reached.{Reached}
-use Rattle.turns.specs.declared.answers.Ended.{Ended}
-use Rattle.turns.specs.declared.answers.Ended.TheVariants.{Done, Refused}
-use Rattle.turns.specs.declared.answers.Turn.{Turn}
+use Rattle.turns.specs.declared.answers.Refused.{Refused}
+use Rattle.turns.specs.Answers.{Ended, TurnEnd}
 use Rattle.turns.specs.declared.answers.Turn.TheVariants.{Again, Operands, Over}
 use Rattle.turns.specs.Memory.{Tables, core_need, Ready, Placed, Kept}
 use Rattle.turns.specs.MemoryLaws.{ready-after}
@@ -33,9 +32,9 @@ module _ (operations : List ℕ) (fuel : ℕ) where
     pub going-ready : Ready fuel (size tree) r₀ before → Ready fuel (size here) r a
     going-ready x = ready-after fuel (size tree) (size here) 0 r₀ r r before a a x g.kept
 
-    module _ (b : Tables) (x : Turn) (turned : Turned macros_most operations fuel here r a b x) where
+    module _ (b : Tables) (x : TurnEnd) (turned : Turned macros_most operations fuel here r a b x) where
       -- another expression follows
-      module _ (node' w' : ℕ) (q : Reached) (is : x ≡ Again node' w' q) where
+      module _ (node' w' : ℕ) (q : Reached) (is : x ≡ Ok (Again node' w' q)) where
         follows : Follows macros_most operations fuel here r a b node' w' q
         follows = subst (Turned macros_most operations fuel here r a b) is turned
 
@@ -46,7 +45,7 @@ module _ (operations : List ℕ) (fuel : ℕ) where
         again-going = going_on operations fuel tree r₀ before node w r a g node' w' q b follows
 
       -- operands are left
-      module _ (list w' : ℕ) (q : Reached) (is : x ≡ Operands list w' q) where
+      module _ (list w' : ℕ) (q : Reached) (is : x ≡ Ok (Operands list w' q)) where
         spreads : Spreads macros_most operations fuel here r a b list w' q
         spreads = subst (Turned macros_most operations fuel here r a b) is turned
 
@@ -62,8 +61,12 @@ module _ (operations : List ℕ) (fuel : ℕ) where
         spread-over last e h = going-spreads operations fuel tree r₀ before node w r a g list w' q b last e spreads h
 
       -- nothing is left
-      pub over-right : (e : Ended) → x ≡ Over e → Expands operations fuel tree r₀ before b e
-      over-right e is = going-over operations fuel tree r₀ before node w r a g b e (subst (Turned macros_most operations fuel here r a b) is turned)
+      pub over-right : (q : Reached) → x ≡ Ok (Over q) → Expands operations fuel tree r₀ before b (Ok q)
+      over-right q is = going-over operations fuel tree r₀ before node w r a g b (Ok q) (subst (Turned macros_most operations fuel here r a b) is turned)
+
+      -- refused
+      pub stopped-right : (y : Refused) → x ≡ Err y → Expands operations fuel tree r₀ before b (Err y)
+      stopped-right y is = going-over operations fuel tree r₀ before node w r a g b (Err y) (subst (Turned macros_most operations fuel here r a b) is turned)
 
   -- ---- operands
 
@@ -77,7 +80,7 @@ module _ (operations : List ℕ) (fuel : ℕ) where
     unfolding elements size
     one_left other = no-pair a.work list kind kind-is (λ (t : Tree). (length (elements t) ≡ 0) × (size t ≡ 1)) (refl, refl) (λ x. (refl, refl)) (λ c. (refl, refl)) other w
 
-    pub operands_end : (kind ≡ 4 → ⊥) → ExpandsAll operations fuel tree r₀ before a (Done r)
+    pub operands_end : (kind ≡ 4 → ⊥) → ExpandsAll operations fuel tree r₀ before a (Ok r)
     operands_end other = walking-end operations fuel tree r₀ before list w r a g (one_left other).0 (one_left other).1
 
     -- a pair: an operand, and the rest behind it
@@ -113,13 +116,12 @@ module _ (operations : List ℕ) (fuel : ℕ) where
       )
 
       module _ (b : Tables) (e : Ended) (expanded : Expands operations fuel first r a b e) where
-        pub operand-refused : (x y z : ℕ) → e ≡ Refused x y z → ExpandsAll operations fuel tree r₀ before b e
-        operand-refused x y z is =
-            subst (ExpandsAll operations fuel tree r₀ before b) (sym is)
-            (walking-refused operations fuel tree r₀ before list w r a g head rest list-is head-low rest-low b x y z (subst (Expands operations fuel first r a b) is expanded))
+        pub operand-refused : (x : Refused) → e ≡ Err x → ExpandsAll operations fuel tree r₀ before b (Err x)
+        operand-refused x is =
+            walking-refused operations fuel tree r₀ before list w r a g head rest list-is head-low rest-low b x (subst (Expands operations fuel first r a b) is expanded)
 
-        module _ (q : Reached) (is : e ≡ Done q) (next : ℕ) (next-is : next ≡ reference_at b.work list 1) where
-          done : Expands operations fuel first r a b (Done q)
+        module _ (q : Reached) (is : e ≡ Ok q) (next : ℕ) (next-is : next ≡ reference_at b.work list 1) where
+          done : Expands operations fuel first r a b (Ok q)
           done = subst (Expands operations fuel first r a b) is expanded
 
           next-rest : next ≡ rest

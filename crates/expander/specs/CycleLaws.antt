@@ -1,5 +1,5 @@
 -- Laws of the cycle's loops, one for each way through the code.
-use Rattle.std.specs.Prelude.{◌≡◌, List, length}
+use Rattle.std.specs.Prelude.{◌≡◌, List, length, Ok, Err}
 use Rattle.std.proofs.Math.Path.{refl, ap, subst}
 use Rattle.std.proofs.Common.{sym, ◌∙◌, arith}
 use Prim.Native.Nat.{ℕ, zero, suc, ◌+◌, ◌-◌, ◌≤◌, ◌<◌}
@@ -17,8 +17,8 @@ use Rattle.arena.specs.Arena.{tree_at}
 use Rattle.arena.specs.CellLaws.{tree-kept}
 use Rattle.forms.specs.QuoteLaws.{written_none}
 use Rattle.turns.specs.declared.answers.Reached.{Reached}
-use Rattle.turns.specs.declared.answers.Ended.{Ended}
-use Rattle.turns.specs.declared.answers.Ended.TheVariants.{Done, Refused}
+use Rattle.turns.specs.declared.answers.Refused.{Refused}
+use Rattle.turns.specs.Answers.{Ended}
 use Rattle.turns.specs.Ends.{End, finished, refused_end, halted, then}
 use Rattle.turns.specs.EndLaws.{expand_all-pair}
 use Rattle.turns.specs.Memory.{Tables, state_at, work_need, core_need, variable_need, macro_need, Proper, Ready, Placed, Kept}
@@ -72,8 +72,8 @@ module _ (operations : List ℕ) (fuel : ℕ) where
       }
 
   kept_then : (n m : ℕ) (r q : Reached) (a b last : Tables) (e : Ended) → Kept fuel n m r q a b → KeptBy fuel m q b last e → KeptBy fuel n r a last e
-  kept_then n m r q a b last (Done p) k l = kept-both fuel n m 0 r q p a b last k l
-  kept_then n m r q a b last (Refused x y z) k l = tt
+  kept_then n m r q a b last (Ok p) k l = kept-both fuel n m 0 r q p a b last k l
+  kept_then n m r q a b last (Err x) k l = tt
 
   -- ---- gas
 
@@ -138,7 +138,7 @@ module _ (operations : List ℕ) (fuel : ℕ) where
   first_done v halted = tt
 
   -- where the first operand is done, the later ones' words follow its words
-  later-right : (r q : Reached) (a b last : Tables) (e : Ended) (first : End (Term Name)) (later : State → End (Terms Name)) → Left words_of r a.core b first (Done q) → q.at ≤ length a.core
+  later-right : (r q : Reached) (a b last : Tables) (e : Ended) (first : End (Term Name)) (later : State → End (Terms Name)) → Left words_of r a.core b first (Ok q) → q.at ≤ length a.core
       → Left words_of_all q b.core last (later (state_at b q)) e → Left words_of_all r a.core last (then (λ v u. then (λ x s. finished (more_c v x) s) (later u)) first) e
   unfolding then
   later-right r q a b last e (finished v s) later l room k =
@@ -148,26 +148,26 @@ module _ (operations : List ℕ) (fuel : ℕ) where
   later-right r q a b last e halted later l room k = absurd l
 
   -- where it is refused, so are the operands
-  first-refused : (r : Reached) (a last : Tables) (x y z : ℕ) (first : End (Term Name)) (later : State → End (Terms Name)) → Left words_of r a.core last first (Refused x y z)
-      → Left words_of_all r a.core last (then (λ v u. then (λ b s. finished (more_c v b) s) (later u)) first) (Refused x y z)
+  first-refused : (r : Reached) (a last : Tables) (x : Refused) (first : End (Term Name)) (later : State → End (Terms Name)) → Left words_of r a.core last first (Err x)
+      → Left words_of_all r a.core last (then (λ v u. then (λ b s. finished (more_c v b) s) (later u)) first) (Err x)
   unfolding then
-  first-refused r a last x y z (finished v s) later l = absurd l
-  first-refused r a last x y z (refused_end g s) later l = l
-  first-refused r a last x y z halted later l = absurd l
+  first-refused r a last x (finished v s) later l = absurd l
+  first-refused r a last x (refused_end g s) later l = l
+  first-refused r a last x halted later l = absurd l
 
   module _ (tree : Tree) (r₀ : Reached) (before : Tables) (list w : ℕ) (r : Reached) (a : Tables) (g : Walking operations fuel tree r₀ before list w r a) where
     abbrev left : Tree
     left = tree_at a.work list w
 
     -- the end of the list
-    pub walking-end : length (elements left) ≡ 0 → size left ≡ 1 → ExpandsAll operations fuel tree r₀ before a (Done r)
+    pub walking-end : length (elements left) ≡ 0 → size left ≡ 1 → ExpandsAll operations fuel tree r₀ before a (Ok r)
     unfolding on_formals encode_all
     walking-end none one =
         record {
           kept = kept-part (size tree - 1) (size left - 1) (size tree - 1) 0 r₀ r before a (omega arith) g.kept;
-          means = g.means (Done r) a
+          means = g.means (Ok r) a
               (λ gas l.
-              subst (λ (e : End (Terms Name)). Left words_of_all r a.core a e (Done r))
+              subst (λ (e : End (Terms Name)). Left words_of_all r a.core a e (Ok r))
               (sym (no-operands macros_most operations fuel (expand macros_most operations fuel gas) left none (state_at a r)))
               (refl, written_none a.core r.at));
         }
@@ -195,17 +195,17 @@ module _ (operations : List ℕ) (fuel : ℕ) where
           ap (λ (t : Tree). expand_all_by operations fuel gas t a r) list-is
           ∙ expand_all-pair macros_most operations fuel (expand macros_most operations fuel gas) first (tree_at a.work rest w) (state_at a r)
 
-      pub walking-refused : (last : Tables) (x y z : ℕ) → Expands operations fuel first r a last (Refused x y z) → ExpandsAll operations fuel tree r₀ before last (Refused x y z)
-      walking-refused last x y z f =
+      pub walking-refused : (last : Tables) (x : Refused) → Expands operations fuel first r a last (Err x) → ExpandsAll operations fuel tree r₀ before last (Err x)
+      walking-refused last x f =
           record {
             kept = tt;
-            means = g.means (Refused x y z) last
+            means = g.means (Err x) last
                 (λ gas l.
-                subst (λ (e : End (Terms Name)). Left words_of_all r a.core last e (Refused x y z)) (sym (by-pair gas))
-                (first-refused r a last x y z (expand_by operations fuel gas first a r) _ (f.means gas (omega (arith, sizes)))));
+                subst (λ (e : End (Terms Name)). Left words_of_all r a.core last e (Err x)) (sym (by-pair gas))
+                (first-refused r a last x (expand_by operations fuel gas first a r) _ (f.means gas (omega (arith, sizes)))));
           }
 
-      pub walking_on : (q : Reached) (b : Tables) → q.at ≤ length a.core → Expands operations fuel first r a b (Done q) → Walking operations fuel tree r₀ before rest w q b
+      pub walking_on : (q : Reached) (b : Tables) → q.at ≤ length a.core → Expands operations fuel first r a b (Ok q) → Walking operations fuel tree r₀ before rest w q b
       walking_on q b room f =
           let low : rest ≤ r.top = omega (arith, g.placed.node-below) in
           let same : tree_at b.work rest w ≡ tree_at a.work rest w = tree-kept a.work b.work r.top rest w low g.placed.wrap-below f.kept.arena in

@@ -1,10 +1,15 @@
 -- The promise of the expansion service: its answer and every word of both lent tables are those of the definition's run, for
 -- every item table, fuel and pair of lent tables.
-use Rattle.std.specs.Prelude.{◌≡◌, List, [], ℕ, length}
+use Rattle.std.specs.Prelude.{◌≡◌, List, [], ℕ, length, Result, Ok, Err}
+use Rattle.words.specs.Code.Ground.{number_of}
 use Rattle.words.specs.Tables.{left_at}
 use Rattle.expansion.specs.Run.{Outcome, accepted, refused_on, unfinished, stage_of, Run, core_of, run}
-use Rattle.expander.specs.declared.Expansion.{Expansion}
-use Rattle.expander.specs.declared.Expansion.TheVariants.{Accepted, Refused}
+use Rattle.turns.specs.declared.answers.Refused.{Refused}
+use Rattle.expander.specs.declared.Expanded.{Expanded}
+
+-- how a call ends: accepted, or refused
+abbrev pub Expansion : Type 0
+Expansion = Result Expanded Refused
 
 -- ---- this paper's numbers for each answer
 
@@ -16,8 +21,8 @@ pub record Numbers : Type 0 where
   pub length : ℕ
 
 unfoldable pub numbers_of : Expansion → Numbers
-numbers_of (Accepted steps sum length) = record { ground_number = 0; steps = steps; sum = sum; length = length }
-numbers_of (Refused ground_number steps sum) = record { ground_number = ground_number; steps = steps; sum = sum; length = 0 }
+numbers_of (Ok x) = record { ground_number = 0; steps = x.steps; sum = x.sum; length = x.length }
+numbers_of (Err x) = record { ground_number = number_of x.ground; steps = x.steps; sum = x.sum; length = 0 }
 
 -- no run is unfinished (`run-finished`); its number is no ground's, and more than a word holds, so that no answer has it
 unfoldable pub ground_of : Outcome → ℕ

@@ -1,5 +1,8 @@
 -- Laws of a call: a run that is refused before it begins, and one that ends as its expansion.
-use Rattle.std.specs.Prelude.{◌≡◌, refl, Bool, true, false, ◌&&◌, ℕ, ◌+◌, ◌*◌, ◌-◌, ◌≤◌, ◌<◌, leb, length, take, drop, replicate}
+use Rattle.std.specs.Prelude.{◌≡◌, refl, Bool, true, false, ◌&&◌, ℕ, ◌+◌, ◌*◌, ◌-◌, ◌≤◌, ◌<◌, leb, length, take, drop, replicate, Ok, Err}
+use Rattle.words.specs.Code.Ground.{number_of}
+use Rattle.words.specs.declared.ground.Ground.{Ground}
+use Rattle.words.specs.declared.ground.Ground.TheVariants as G
 use Rattle.std.proofs.Math.Path.{ap, sym}
 use Rattle.std.proofs.Common.{◌∙◌, arith, length-drop, drop_of_length-le, leb-true}
 use mathlib.Core.List.{List, [], ◌++◌, append-nil}
@@ -13,13 +16,10 @@ use Rattle.expansion.specs.RunLaws.{Begun}
 use Rattle.expansion.proofs.RunLaws.{ended-begun, begun-run}
 use Rattle.expansion.proofs.Bounds.{run-core-fits}
 use Rattle.layout.specs.Places.{Places}
-use Rattle.expander.specs.declared.Expansion.{Expansion}
-use Rattle.expander.specs.declared.Expansion.TheVariants.{Accepted, Refused}
 use Rattle.turns.specs.declared.answers.Reached.{Reached}
-use Rattle.turns.specs.declared.answers.Ended.{Ended}
-use Rattle.turns.specs.declared.answers.Ended.TheVariants.{Done}
-use Rattle.turns.specs.declared.answers.Ended.TheVariants as ends
-use Rattle.expander.specs.Service.{Numbers, numbers_of, ground_of, run_numbers, core_after, work_after, Served}
+use Rattle.turns.specs.declared.answers.Refused.{Refused}
+use Rattle.turns.specs.Answers.{Ended, Unbegun}
+use Rattle.expander.specs.Service.{Expansion, Numbers, numbers_of, ground_of, run_numbers, core_after, work_after, Served}
 use Rattle.words.specs.Tables.{Stage, begun, filled, left_at}
 use Rattle.words.specs.TableLaws.{zeros-left}
 use Rattle.expander.specs.Start.{Lends, end_numbers, Expanded, kept_to, Finished}
@@ -32,31 +32,31 @@ room items fuel work core = leb (work_rate * (item_count items + fuel)) (length 
 
 module _ (items : List ℕ) (fuel : ℕ) (work core : List ℕ) where
   -- refused on g, with both tables as they were
-  abbrev pub RefusedOn : ℕ → Type 0
-  RefusedOn g = (r : Expansion) → r ≡ Refused g 0 0 → Served items fuel work work core core r
+  abbrev pub RefusedOn : Ground → Type 0
+  RefusedOn g = (x : Refused) → Unbegun g x → Served items fuel work work core core (Err x)
 
-  turned : (g : ℕ) → run items fuel (length work) (length core) ≡ unbegun g → RefusedOn g
+  turned : (g : Ground) → run items fuel (length work) (length core) ≡ unbegun (number_of g) → RefusedOn g
   unfolding unbegun stage_of left_at numbers_of run_numbers ground_of core_after work_after
-  turned g e r i = record { numbers = rw (e, i); core-after = rw e; work-after = rw e }
+  turned g e x i = record { numbers = rw (e, i.ground-is, i.steps-are, i.sum_is); core-after = rw e; work-after = rw e }
 
-  pub served-layout : is_layout items ≡ false → RefusedOn 7
+  pub served-layout : is_layout items ≡ false → RefusedOn G.BadLayout
   unfolding run require unbegun
-  served-layout e = turned 7 (rw e)
+  served-layout e = turned G.BadLayout (rw e)
 
   module _ (layout : is_layout items ≡ true) where
-    pub served-fuel : leb fuel fuel_most ≡ false → RefusedOn 8
+    pub served-fuel : leb fuel fuel_most ≡ false → RefusedOn G.TooMuchFuel
     unfolding run require unbegun
-    served-fuel e = turned 8 (rw (layout, e))
+    served-fuel e = turned G.TooMuchFuel (rw (layout, e))
 
     module _ (fuelled : leb fuel fuel_most ≡ true) where
-      pub served-tables : room items fuel work core ≡ false → RefusedOn 9
+      pub served-tables : room items fuel work core ≡ false → RefusedOn G.SmallTables
       unfolding run require unbegun
-      served-tables e = turned 9 (rw (layout, fuelled, e))
+      served-tables e = turned G.SmallTables (rw (layout, fuelled, e))
 
       module _ (roomy : room items fuel work core ≡ true) where
-        pub served-operations : are_operations (tree_of items) ≡ false → RefusedOn 10
+        pub served-operations : are_operations (tree_of items) ≡ false → RefusedOn G.BadOperations
         unfolding run require unbegun
-        served-operations e = turned 10 (rw (layout, fuelled, roomy, e))
+        served-operations e = turned G.BadOperations (rw (layout, fuelled, roomy, e))
 
         -- ---- past the tests
 
@@ -72,22 +72,22 @@ module _ (items : List ℕ) (fuel : ℕ) (work core : List ℕ) where
 -- ---- the end
 
 -- the words of a finished expansion are in the table
-pub done-fits : (e : Ended) (q : Reached) (n : ℕ) → e ≡ Done q → (end_numbers e).length ≤ n → q.at ≤ n
+pub done-fits : (e : Ended) (q : Reached) (n : ℕ) → e ≡ Ok q → (end_numbers e).length ≤ n → q.at ≤ n
 unfolding end_numbers
 done-fits e q n i h = rw i at h
 
 -- zeros in the place of all that follows them
-pub finished-done : (e : Ended) (q : Reached) (core zeros : List ℕ) → e ≡ Done q → q.at ≤ length core → zeros ≡ replicate (length (rest q.at core)) 0
-    → Finished e core (take q.at core ++ (zeros ++ drop (length core - q.at) (drop q.at core))) (Accepted q.steps q.sum q.at)
+pub finished-done : (e : Ended) (q : Reached) (core zeros : List ℕ) → e ≡ Ok q → q.at ≤ length core → zeros ≡ replicate (length (rest q.at core)) 0
+    → Finished e core (take q.at core ++ (zeros ++ drop (length core - q.at) (drop q.at core))) (Ok (record { steps = q.steps; sum = q.sum; length = q.at }))
 unfolding end_numbers numbers_of kept_to
 finished-done e q core zeros i h z =
     let none : drop (length core - q.at) (drop q.at core) ≡ [] = drop_of_length-le (drop q.at core) {i = length core - q.at} (omega (arith, length-drop q.at core)) in
     let long : length (rest q.at core) ≡ length core - q.at = ap length (rest-is q.at core) ∙ length-drop q.at core in
     record { numbers = rw i; table = rw (i, none, z, long) (rw append-nil) }
 
-pub finished-refused : (e : Ended) (g n m : ℕ) (core zeros : List ℕ) → e ≡ ends.Refused g n m → zeros ≡ replicate (length core) 0 → Finished e core zeros (Refused g n m)
+pub finished-refused : (e : Ended) (x : Refused) (core zeros : List ℕ) → e ≡ Err x → zeros ≡ replicate (length core) 0 → Finished e core zeros (Err x)
 unfolding end_numbers numbers_of kept_to
-finished-refused e g n m core zeros i z = let l : length core - 0 ≡ length core = omega arith in record { numbers = rw i; table = rw (i, l, z) }
+finished-refused e x core zeros i z = let l : length core - 0 ≡ length core = omega arith in record { numbers = rw i; table = rw (i, l, z) }
 
 module _ (items : List ℕ) (fuel : ℕ) (work core core₁ : List ℕ) (e : Ended) (b : Begun items fuel (length work) (length core))
     (x : Expanded (ended (expand_recipe macros_most fuel (tree_of items))) core₁ e) (long : length core₁ ≡ length core) where

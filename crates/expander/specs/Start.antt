@@ -1,14 +1,13 @@
 -- The start and the end of a call: what the tests of grounds 7 to 10 hand on, how an expansion ends, and what its end leaves.
-use Rattle.std.specs.Prelude.{◌≡◌, List, ◌++◌, ℕ, ◌-◌, length, take, replicate}
+use Rattle.std.specs.Prelude.{◌≡◌, List, ◌++◌, ℕ, ◌-◌, length, take, replicate, Ok, Err}
+use Rattle.words.specs.Code.Ground.{number_of}
 use Rattle.words.specs.Limits.{names_most}
 use Rattle.recipe.specs.Table.{tree_of}
 use Rattle.expansion.specs.Run.{Run, core_of, operation_numbers}
 use Rattle.expansion.specs.RunLaws.{Begun}
 use Rattle.layout.specs.Places.{Places}
-use Rattle.expander.specs.declared.Expansion.{Expansion}
-use Rattle.turns.specs.declared.answers.Ended.{Ended}
-use Rattle.turns.specs.declared.answers.Ended.TheVariants.{Done, Refused}
-use Rattle.expander.specs.Service.{Numbers, numbers_of, run_numbers}
+use Rattle.turns.specs.Answers.{Ended}
+use Rattle.expander.specs.Service.{Expansion, Numbers, numbers_of, run_numbers}
 
 -- the tests are passed, and the operations have their places
 pub record Lends (items work core operations : List ℕ) (fuel : ℕ) : Type 0 where
@@ -18,8 +17,8 @@ pub record Lends (items work core operations : List ℕ) (fuel : ℕ) : Type 0 w
 
 -- the numbers of an end; the words reach as far as the term is long
 unfoldable pub end_numbers : Ended → Numbers
-end_numbers (Done q) = record { ground_number = 0; steps = q.steps; sum = q.sum; length = q.at }
-end_numbers (Refused ground_number steps sum) = record { ground_number = ground_number; steps = steps; sum = sum; length = 0 }
+end_numbers (Ok q) = record { ground_number = 0; steps = q.steps; sum = q.sum; length = q.at }
+end_numbers (Err x) = record { ground_number = number_of x.ground; steps = x.steps; sum = x.sum; length = 0 }
 
 -- an expansion ended as the run says, and its term's words begin the core table
 pub record Expanded (run : Run) (core : List ℕ) (e : Ended) : Type 0 where

@@ -1,5 +1,5 @@
 -- Laws of the start: what the tests of grounds 7 to 10 hand on is what the cycle asks, and its end is the run's.
-use Rattle.std.specs.Prelude.{◌≡◌, true, List, ◌++◌, length, take, drop}
+use Rattle.std.specs.Prelude.{◌≡◌, true, List, ◌++◌, length, take, drop, Ok, Err}
 use Rattle.std.proofs.Math.Path.{refl, subst}
 use Rattle.std.proofs.Common.{ap, sym, ◌∙◌, arith}
 use Prim.Native.Nat.{ℕ, ◌+◌, ◌*◌, ◌≤◌}
@@ -25,8 +25,7 @@ use Rattle.arena.specs.Arena.{tree_at}
 use Rattle.arena.specs.LayOut.{LaidOut}
 use Rattle.arena.specs.Lists.{Means}
 use Rattle.turns.specs.declared.answers.Reached.{Reached}
-use Rattle.turns.specs.declared.answers.Ended.{Ended}
-use Rattle.turns.specs.declared.answers.Ended.TheVariants.{Done, Refused}
+use Rattle.turns.specs.Answers.{Ended}
 use Rattle.turns.specs.Ends.{end_of}
 use Rattle.turns.specs.Numbers.{at_start}
 use Rattle.turns.specs.Memory.{macro_items, Tables, tables, macros_at, state_at, work_need, core_need, variable_need, macro_need, Placed, Ready}
@@ -41,15 +40,15 @@ use Rattle.expander.specs.Start.{Lends, end_numbers, Expanded}
 -- an end as the definition's, from the core table's start, is the run's
 expanded : (core : List ℕ) (r : Reached) (last : Tables) (out : Out (Term Name)) (e : Ended) → r.at ≡ 0 → Left words_of r core last (end_of out) e → Expanded (ended out) last.core e
 unfolding end_of ended end_numbers run_numbers ground_of state_at
-expanded core r last (done t s l) (Done q) z (i, w) =
+expanded core r last (done t s l) (Ok q) z (i, w) =
     let steps : q.steps ≡ s.steps = sym (ap (λ (u : State). u.steps) i) in
     let sum : q.sum ≡ s.sum = sym (ap (λ (u : State). u.sum) i) in
     let until : q.at ≡ length (words_of t) = omega (arith, w.end) in
     let begins : last.core ≡ words_of t ++ drop q.at core = w.words ∙ rw z in
     record { numbers = rw (steps, sum, until); words = ap (take (length (words_of t))) begins ∙ take-append_seam (words_of t) (drop q.at core) }
-expanded core r last (done t s l) (Refused h n m) z x = absurd x
-expanded core r last (refused g s l) (Done q) z x = absurd x
-expanded core r last (refused g s l) (Refused h n m) z (i, j, k) = record { numbers = rw (i, j, k); words = refl }
+expanded core r last (done t s l) (Err y) z x = absurd x
+expanded core r last (refused g s l) (Ok q) z x = absurd x
+expanded core r last (refused g s l) (Err y) z (i, j, k) = record { numbers = rw (i, j, k); words = refl }
 expanded core r last (starved l) e z x = absurd x
 
 -- ---- the start

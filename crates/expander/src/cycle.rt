@@ -7,9 +7,11 @@ ghost use Rattle.turns.specs.Memory.{tables, Placed, Ready};
 ghost use Rattle.turns.specs.Turns.{ExpandsBy, ExpandsAllBy};
 ghost use Rattle.expander.specs.Cycle.{Lending};
 
-use arena::cells;
-use turns::answers::{Ended, Reached, Turn};
+use arena::nodes::Node;
+use arena::{cells, nodes};
+use turns::answers::{Reached, Refused, Turn};
 use turns::{dispatch, leaf};
+use words::ground::Ground;
 
 #[cycle(expression_operand_operands)]
 pub fn expression(
@@ -21,7 +23,7 @@ pub fn expression(
     start: u32,
     outer: u32,
     from: Reached,
-) -> Ended
+) -> Result<Reached, Refused>
     requires { (Lending operations.now) × (Placed work.old from.top start outer) × (Ready fuel (size (tree_at work.old start outer)) from (tables work.old core.old known.old)) }
     ensures { ExpandsBy operations.now fuel (tree_at work.old start outer) from (tables work.old core.old known.old) (tables work.new core.new known.new) result }
 {
@@ -29,7 +31,7 @@ pub fn expression(
     let mut wrap = outer;
     let mut reached = from;
     loop {
-        match dispatch::turn(work, core, known, operations, fuel, node, wrap, reached) {
+        match dispatch::turn(work, core, known, operations, fuel, node, wrap, reached)? {
             Turn::Again(n, w, q) => {
                 node = n;
                 wrap = w;
@@ -38,8 +40,8 @@ pub fn expression(
             Turn::Operands(l, w, q) => {
                 return operands(work, core, known, operations, fuel, l, w, q);
             }
-            Turn::Over(e) => {
-                return e;
+            Turn::Over(q) => {
+                return Ok(q);
             }
         }
     }
@@ -56,23 +58,16 @@ fn operand(
     node: u32,
     wrap: u32,
     from: Reached,
-) -> Ended
+) -> Result<Reached, Refused>
     requires { (Lending operations.now) × (Placed work.old from.top node wrap) × (Ready fuel (size (tree_at work.old node wrap)) from (tables work.old core.old known.old)) }
     ensures { ExpandsBy operations.now fuel (tree_at work.old node wrap) from (tables work.old core.old known.old) (tables work.new core.new known.new) result }
 {
-    let kind = cells::word(work, node, cells::KIND);
-    if kind == cells::NAME {
-        return leaf::bare_name(work, core, operations, node, wrap, from);
+    match nodes::opened(work, node) {
+        Node::Empty => Err(from.refused(Ground::BadForm)),
+        Node::Name(_, _) => leaf::bare_name(work, core, operations, node, wrap, from),
+        Node::Pair(_, _) => expression(work, core, known, operations, fuel, node, wrap, from),
+        Node::Constant(kind, first, second) => Ok(leaf::constant(core, kind, first, second, from)),
     }
-    if kind == cells::PAIR {
-        return expression(work, core, known, operations, fuel, node, wrap, from);
-    }
-    if kind == cells::EMPTY {
-        return leaf::refuse(13, from);
-    }
-    let first = cells::word(work, node, cells::FIRST);
-    let second = cells::word(work, node, cells::SECOND);
-    leaf::constant(core, kind, first, second, from)
 }
 
 #[cycle(expression_operand_operands)]
@@ -85,7 +80,7 @@ fn operands(
     first: u32,
     wrap: u32,
     from: Reached,
-) -> Ended
+) -> Result<Reached, Refused>
     requires { (Lending operations.now) × (Placed work.old from.top first wrap) × (Ready fuel (size (tree_at work.old first wrap) - 1) from (tables work.old core.old known.old)) }
     ensures { ExpandsAllBy operations.now fuel (tree_at work.old first wrap) from (tables work.old core.old known.old) (tables work.new core.new known.new) result }
 {
@@ -93,12 +88,8 @@ fn operands(
     let mut reached = from;
     while cells::word(work, list, cells::KIND) == cells::PAIR {
         let head = cells::reference(work, list, cells::HEAD);
-        let ended = operand(work, core, known, operations, fuel, head, wrap, reached);
-        let Ended::Done(done) = ended else {
-            return ended;
-        };
-        reached = done;
+        reached = operand(work, core, known, operations, fuel, head, wrap, reached)?;
         list = cells::reference(work, list, cells::TAIL);
     }
-    Ended::Done(reached)
+    Ok(reached)
 }

@@ -3,35 +3,26 @@
 ghost use Rattle.std.specs.Prelude.{◌≤◌, length};
 ghost use Rattle.expander.specs.Start.{end_numbers, Finished};
 
-use crate::Expansion;
-use turns::answers::Ended;
-use words::tables::zero_words;
+use crate::Expanded;
+use turns::answers::{Reached, Refused};
 
 // The answer for an expansion that ended so.
-pub fn finish(core: &mut [u32], ended: Ended) -> Expansion
+pub fn finish(core: &mut [u32], ended: Result<Reached, Refused>) -> Result<Expanded, Refused>
     requires { (end_numbers ended).length ≤ length core.old }
     ensures { Finished ended core.old core.new result }
 {
     match ended {
-        Ended::Done(q) => {
-            zero_words(&mut core[q.at as usize..]);
-            Expansion::Accepted {
-                steps: q.steps,
-                sum: q.sum,
-                length: q.at,
-            }
+        Ok(reached) => {
+            core[reached.at as usize..].fill(0);
+            Ok(Expanded {
+                steps: reached.steps,
+                sum: reached.sum,
+                length: reached.at,
+            })
         }
-        Ended::Refused {
-            ground: g,
-            steps: n,
-            sum: m,
-        } => {
-            zero_words(core);
-            Expansion::Refused {
-                ground: g,
-                steps: n,
-                sum: m,
-            }
+        Err(refused) => {
+            core.fill(0);
+            Err(refused)
         }
     }
 }

@@ -9,7 +9,7 @@ ghost use Rattle.expander.specs.Start.{Lends, Expanded};
 
 use crate::cycle;
 use arena::lists;
-use turns::answers::{Ended, Reached};
+use turns::answers::{Reached, Refused};
 
 // A macro takes at least six items, and an expansion has at most its table's and one for each unit of fuel.
 const MACRO_ITEMS: usize = 6;
@@ -27,7 +27,7 @@ fn run(
     known: &mut [u32],
     operations: &[u16],
     fuel: u32,
-) -> Ended
+) -> Result<Reached, Refused>
     requires { (Lends items.now work.old core.old operations.now fuel) × (item_count items.now + fuel ≤ macro_items * length known.old) }
     ensures { Expanded (ended (expand_recipe macros_most fuel (tree_of items.now))) core.new result }
 {
@@ -44,7 +44,7 @@ pub fn expand_recipe(
     core: &mut [u32],
     operations: &[u16],
     fuel: u32,
-) -> Ended
+) -> Result<Reached, Refused>
     requires { Lends items.now work.old core.old operations.now fuel }
     ensures { Expanded (ended (expand_recipe macros_most fuel (tree_of items.now))) core.new result }
 {

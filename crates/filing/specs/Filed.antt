@@ -1,13 +1,13 @@
 -- The promise of the filing call: its output, and every word of the four tables that it is lent, for every text, fuel and lengths
 -- of tables.
-use Rattle.std.specs.Prelude.{◌≡◌, List, ℕ, length}
+use Rattle.std.specs.Prelude.{◌≡◌, List, ℕ, length, Result}
+use Rattle.words.specs.declared.ground.Ground.{Ground}
 use Rattle.std.proofs.Math.Option.{some}
 use Rattle.reading.specs.Elements.{Answer, got, refused_for}
 use Rattle.reading.specs.Read.{Recipe, read, item_words, items_after, names_after}
 use Rattle.expansion.specs.Run.{Run, run}
 use Rattle.expander.specs.Service.{work_after, core_after}
 use Rattle.output.specs.Output.{printed, filed}
-use Rattle.writer.specs.declared.Writing.{Writing}
 use Rattle.writer.specs.Wrote.{Wrote}
 
 -- ---- a recipe's items
@@ -17,7 +17,7 @@ unfoldable pub printed_run : List ℕ → Run → List ℕ
 printed_run names r = printed names r.outcome r
 
 -- the run's output, and what expansion leaves of its tables; writing changes neither
-pub record Expanded (items : List ℕ) (fuel : ℕ) (names work work' core core' out out' : List ℕ) (r : Writing) : Type 0 where
+pub record Expanded (items : List ℕ) (fuel : ℕ) (names work work' core core' out out' : List ℕ) (r : Result ℕ Ground) : Type 0 where
   pub output : Wrote (some (printed_run names (run items fuel (length work) (length core)))) out out' r
   pub work-after : work' ≡ work_after (run items fuel (length work) (length core)) work
   pub core-after : core' ≡ core_after (run items fuel (length work) (length core)) core
@@ -35,7 +35,7 @@ module _ (fuel : ℕ) where
   core_left work (refused_for stage g) core = core
 
 -- what a call answers and leaves
-pub record Filed (text : List ℕ) (fuel : ℕ) (items items' names names' work work' core core' out out' : List ℕ) (r : Writing) : Type 0 where
+pub record Filed (text : List ℕ) (fuel : ℕ) (items items' names names' work work' core core' out out' : List ℕ) (r : Result ℕ Ground) : Type 0 where
   pub output : Wrote (some (filed text fuel (length items) (length names) (length work) (length core))) out out' r
   pub items-after : items' ≡ items_after (read text (length items) (length names)) items
   pub names-after : names' ≡ names_after (read text (length items) (length names)) names

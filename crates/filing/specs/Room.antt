@@ -1,5 +1,7 @@
 -- No output of the filing program passes the 116,736 bytes that it has, so it always prints what the definition says.
-use Rattle.std.specs.Prelude.{◌≡◌, ℕ, ◌≤◌, ◌<◌}
+use Rattle.std.specs.Prelude.{◌≡◌, ℕ, ◌≤◌, ◌<◌, Result, Ok, Err}
+use Rattle.std.specs.Result.{result_unwrap_or}
+use Rattle.words.specs.declared.ground.Ground.{Ground}
 use Rattle.std.proofs.Math.Path.{refl, subst}
 use Rattle.std.proofs.Common.{sym, ap}
 use mathlib.Core.List.{List, [], ◌∷◌, ◌++◌}
@@ -22,10 +24,9 @@ use Rattle.expansion.proofs.Bounds.{run-sum, run-steps, run-core-fits}
 use Rattle.expansion.proofs.Ways.Grounds.{ground-range, run-ground}
 use Rattle.output.specs.Output.{line, refusal, header, acceptance, term_text, printed, output_of, filed, output}
 use Rattle.output.proofs.WrittenLaws.{recipe-named}
-use Rattle.writer.specs.declared.Writing.{Writing}
-use Rattle.writer.specs.declared.Writing.TheVariants.{Written, NoTerm, NoRoom}
 use Rattle.writer.specs.Wrote.{Wrote}
-use Rattle.writer.specs.WroteLaws.{written_is, no-room-is, not-no-term}
+use Rattle.writer.specs.WroteLaws.{written_is}
+use Rattle.filing.specs.FileLaws.{refused-no-room}
 use Rattle.program_laws.specs.Printed.{Printed}
 use Rattle.filing.specs.Written.{run-written}
 use Rattle.filing.specs.File.{output_most}
@@ -96,7 +97,7 @@ module _ (fuel : ℕ) (small : fuel < limit) where
 
 -- ---- in the filing program's tables
 
-module _ (txt out out' : List ℕ) (r : Writing) (items names work core : ℕ) (w : Wrote (some (filed txt filing_fuel items names work core)) out out' r)
+module _ (txt out out' : List ℕ) (r : Result ℕ Ground) (items names work core : ℕ) (w : Wrote (some (filed txt filing_fuel items names work core)) out out' r)
     (i : items ≡ item_words_least) (n : names ≡ name_bytes_least) (k : work ≡ filing_work) (c : core ≡ filing_core) (room : output_most ≤ length out) where
   abbrev whole : List ℕ
   whole = output txt filing_fuel
@@ -109,11 +110,10 @@ module _ (txt out out' : List ℕ) (r : Writing) (items names work core : ℕ) (
   unfolding output
   fits = omega (arith, filed-room filing_fuel (omega arith) txt item_words_least name_bytes_least filing_work filing_core (omega arith))
 
-  pub output-told : (to : ℕ) → r ≡ Written to → Printed whole out out' to
-  output-told to e = let q = written_is whole out out' to (subst (Wrote (some whole) out out') e told) in record { size = q.0; bytes = q.2 }
-
-  pub output-known : r ≡ NoTerm → ⊥
-  output-known e = not-no-term whole out out' (subst (Wrote (some whole) out out') e told)
-
-  pub output-fits : r ≡ NoRoom → ⊥
-  output-fits e = omega (arith, fits, (no-room-is whole out out' (subst (Wrote (some whole) out out') e told)).0)
+  -- it is written whole
+  pub output-told : Printed whole out out' (result_unwrap_or r 0)
+  output-told = go r told
+    where
+      go : (q : Result ℕ Ground) → Wrote (some whole) out out' q → Printed whole out out' (result_unwrap_or q 0)
+      go (Ok to) v = let k = written_is whole out out' to v in record { size = k.0; bytes = k.2 }
+      go (Err g) v = absurd (omega (arith, fits, (refused-no-room whole out out' g v).0))

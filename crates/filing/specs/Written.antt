@@ -1,5 +1,6 @@
 -- An accepted recipe is written, of a call of the writing service: in any output that is long enough.
-use Rattle.std.specs.Prelude.{◌≡◌, List, ◌++◌, ℕ, ◌≤◌, length, drop}
+use Rattle.std.specs.Prelude.{◌≡◌, List, ◌++◌, ℕ, ◌≤◌, length, drop, Result, Ok, Err}
+use Rattle.words.specs.declared.ground.Ground.{Ground}
 use Rattle.std.proofs.Common.{ap, subst, sym, ◌∙◌, arith}
 use Rattle.std.proofs.Math.Option.{some}
 use Rattle.words.specs.Limits.{operations_most}
@@ -12,11 +13,10 @@ use Rattle.expansion.proofs.CoreTermLaws.{run-operations, named-term-within}
 use Rattle.output.specs.Output.{term_text}
 use Rattle.output.specs.Written.{operation_count, AcceptedIsWritten}
 use Rattle.output.proofs.WrittenLaws.{accepted-is-written}
-use Rattle.writer.specs.declared.Writing.{Writing}
-use Rattle.writer.specs.declared.Writing.TheVariants.{Written, NoTerm, NoRoom}
 use Rattle.writer.specs.Writing.{text_for, text_of}
 use Rattle.writer.specs.Wrote.{Wrote}
-use Rattle.writer.specs.WroteLaws.{written_is, no-room-is, not-no-term}
+use Rattle.writer.specs.WroteLaws.{written_is}
+use Rattle.filing.specs.FileLaws.{refused-no-room}
 
 -- ---- the text of a run's term
 
@@ -33,10 +33,9 @@ term-text operations names r t = ap (text_for names) t.passes ∙ sym (ap (λ o.
 -- ---- a call
 
 -- a text that fits is written
-wrote-fits : (x out out' : List ℕ) (w : Writing) → Wrote (some x) out out' w → length x ≤ length out → (w ≡ Written (length x)) × (out' ≡ x ++ drop (length x) out)
-wrote-fits x out out' (Written n) o l = let k = written_is x out out' n o in (ap Written k.0, k.2)
-wrote-fits x out out' NoTerm o l = absurd (not-no-term x out out' o)
-wrote-fits x out out' NoRoom o l = absurd (omega (arith, (no-room-is x out out' o).0))
+wrote-fits : (x out out' : List ℕ) (w : Result ℕ Ground) → Wrote (some x) out out' w → length x ≤ length out → (w ≡ Ok (length x)) × (out' ≡ x ++ drop (length x) out)
+wrote-fits x out out' (Ok n) o l = let k = written_is x out out' n o in (ap Ok k.0, k.2)
+wrote-fits x out out' (Err g) o l = absurd (omega (arith, (refused-no-room x out out' g o).0))
 
 -- the claim: for a text that reading accepts, and a run of its items that is accepted, a call of writing with the reading's names and the
 -- recipe's count of operations writes the term's text, whole, in any output that is no shorter
@@ -46,10 +45,10 @@ WrittenCall =
     → read text items names ≡ got recipe
     → (fuel work core : ℕ)
     → (run (item_words recipe) fuel work core).outcome ≡ accepted
-    → (out out' : List ℕ) (w : Writing)
+    → (out out' : List ℕ) (w : Result ℕ Ground)
     → Wrote (text_of (core_of (run (item_words recipe) fuel work core)) (operation_count recipe) (name_bytes recipe)) out out' w
     → length (term_text (name_bytes recipe) (run (item_words recipe) fuel work core).term) ≤ length out
-    → (w ≡ Written (length (term_text (name_bytes recipe) (run (item_words recipe) fuel work core).term)))
+    → (w ≡ Ok (length (term_text (name_bytes recipe) (run (item_words recipe) fuel work core).term)))
     × (out' ≡ term_text (name_bytes recipe) (run (item_words recipe) fuel work core).term ++ drop (length (term_text (name_bytes recipe) (run (item_words recipe) fuel work core).term)) out)
 
 pub written-call : WrittenCall

@@ -1,7 +1,7 @@
 // The filing program: the recipe on standard input is read, expanded and written, with document 01's fuel and tables.
 #![tactic(auto)]
 
-ghost use Rattle.std.specs.Prelude.{◌≤◌, length, IfOk};
+ghost use Rattle.std.specs.Prelude.{◌≤◌, length};
 ghost use Rattle.words.specs.Limits.{filing_fuel};
 ghost use Rattle.output.specs.Output.{output};
 ghost use Rattle.program_laws.specs.Printed.{Printed};
@@ -11,10 +11,9 @@ mod file; // the whole output of a text, in lent tables
 mod lines; // the line that opens it
 
 use file::file;
+use input::load;
 use std::io;
-use std::io::Read;
 use words::{FILING_CORE, FILING_FUEL, FILING_WORK, ITEM_WORDS, NAME_BYTES, TEXT_BYTES};
-use writer::Writing;
 
 // Bytes of a buffer that any text fits, and that a text which is too long fills.
 const BUFFER: usize = TEXT_BYTES + 1;
@@ -22,36 +21,16 @@ const BUFFER: usize = TEXT_BYTES + 1;
 // Bytes of the longest output, and some to spare. specs/File.antt has the same number.
 const OUTPUT: usize = 116736;
 
-fn item_table() -> [u32; ITEM_WORDS] {
-    [0; ITEM_WORDS]
-}
-
-fn name_table() -> [u8; NAME_BYTES] {
-    [0; NAME_BYTES]
-}
-
-fn work_table() -> [u32; FILING_WORK] {
-    [0; FILING_WORK]
-}
-
-fn core_table() -> [u32; FILING_CORE] {
-    [0; FILING_CORE]
-}
-
-fn room() -> [u8; OUTPUT] {
-    [0; OUTPUT]
-}
-
 // The output of a text, at the beginning of out; its length. Any output fits.
 fn output(text: &[u8], out: &mut [u8]) -> usize
     requires { output_most ≤ length out.old }
     ensures { Printed (output text.now filing_fuel) out.old out.new result }
 {
-    let mut items = item_table();
-    let mut names = name_table();
-    let mut work = work_table();
-    let mut core = core_table();
-    match file(
+    let mut items = [0; ITEM_WORDS];
+    let mut names = [0; NAME_BYTES];
+    let mut work = [0; FILING_WORK];
+    let mut core = [0; FILING_CORE];
+    let written = file(
         text,
         FILING_FUEL,
         &mut items,
@@ -59,47 +38,13 @@ fn output(text: &[u8], out: &mut [u8]) -> usize
         &mut work,
         &mut core,
         out,
-    ) {
-        Writing::Written(length) => length,
-        Writing::NoTerm => 0,
-        Writing::NoRoom => 0,
-    }
-}
-
-// Reads until the buffer is full or the input ends; how many bytes stand at its beginning.
-fn read_full(input: &mut impl Read, bytes: &mut [u8]) -> io::Result<usize>
-    ensures { IfOk result (λ n. n ≤ length bytes.new) }
-{
-    let mut done = 0;
-    while done < bytes.len() {
-        let n = input.read(&mut bytes[done..])?;
-        if n == 0 {
-            break;
-        }
-        done += n;
-    }
-    Ok(done)
-}
-
-// Whether the input can be read on from where it stands, or why not; at its end it can.
-fn can_read(input: &mut impl Read) -> io::Result<()> {
-    let mut more = [0u8; 1];
-    input.read(&mut more)?;
-    Ok(())
-}
-
-// The bytes of an input that can be read on behind them, as many as the buffer holds, at its beginning; how many.
-fn load(input: &mut impl Read, bytes: &mut [u8]) -> io::Result<usize>
-    ensures { IfOk result (λ n. n ≤ length bytes.new) }
-{
-    let length = read_full(input, bytes)?;
-    can_read(input)?;
-    Ok(length)
+    );
+    written.unwrap_or(0)
 }
 
 // Prints the output of a text.
 fn print(rt: &(impl Print + Eprint), text: &[u8]) -> io::Result<()> {
-    let mut out = room();
+    let mut out = [0; OUTPUT];
     let end = output(text, &mut out);
     match rt.write_all(&out[..end]) {
         Ok(()) => Ok(()),

@@ -1,6 +1,6 @@
 -- Laws of binders one after another: they are the definition's bind_all. Each own name is resolved under the wrap that waits
 -- on the form, so a binder does not see the ones before it, and the definition's list of names is read before it binds.
-use Rattle.std.specs.Prelude.{◌≡◌, refl, Bool, true, false, ◌&&◌, ℕ, suc, ◌+◌, ◌^◌, ◌≤◌, ◌<◌, leb, length}
+use Rattle.std.specs.Prelude.{◌≡◌, refl, Bool, true, ◌&&◌, ℕ, suc, ◌+◌, ◌^◌, ◌≤◌, ◌<◌, leb, length}
 use Rattle.std.proofs.Common.{sym, ap₂, subst, ◌∙◌, arith, add-one, length-append}
 use Rattle.std.proofs.Math.Path.{ap}
 use mathlib.Core.List.{List, [], ◌∷◌, ◌++◌}
@@ -10,7 +10,7 @@ use Rattle.words.specs.Lists.{within, all_of}
 use Rattle.words.specs.ListLaws.{never}
 use Rattle.words.specs.TestLaws.{and_left, and_right, all-parts, within-most}
 use Rattle.datum.specs.Constant.{Constant}
-use Rattle.recipe.specs.Name.{Binding, variable, macro, Name, binding_key, bind_name}
+use Rattle.recipe.specs.Name.{Binding, Name, binding_key, bind_name}
 use Rattle.recipe.specs.Tree.{Tree, empty, constant, name, pair, names, is_ordinary_name, is_list, is_list_of, on_empty, on_pair, elements, element, on_names, bind, bind_all}
 use Rattle.recipe.specs.TreeLaws.{on_names-∘}
 use Rattle.recipe.specs.Tidy.{Tidy, tidy_empty, tidy_constant, tidy_name, tidy_pair, tidy-element, ordinary-names}
@@ -20,8 +20,10 @@ use Rattle.arena.specs.ArenaLaws.{take_less}
 use Rattle.arena.specs.Cells.{Room, Binds}
 use Rattle.arena.specs.CellLaws.{tree-kept, tree-after}
 use Rattle.forms.specs.Shapes.{own_name, binds_one}
-use Rattle.forms.specs.Binders.{AllNames, own_names, names_in, ListTails, binds_to, bind_names, Opened, Space, Scoped, Scoping}
+use Rattle.forms.specs.Binders.{AllNames, own_names, names_in, ListTails, HasNames, bound_names, binds_to, bind_names, Opened, Space, Scoped, Scoping}
 use Rattle.forms.specs.BinderLaws.{binds-ordinary}
+use Rattle.forms.specs.declared.shapes.Bound.{Bound}
+use Rattle.forms.specs.declared.shapes.Bound.TheVariants.{Formals, Keywords}
 
 -- ---- no name
 
@@ -31,9 +33,9 @@ scoped-none f k xs parent old top e h = record { end_is = rw e (omega arith); wr
 
 -- ---- one name more
 
-module _ (old : List ℕ) (list w : ℕ) (entries macros : Bool) (number parent top own rest : ℕ)
-    (space : Space (names_in entries (tree_at old list w)) old list w number parent top) (open' : Opened old list w entries own rest) where
-  count-is : length (names_in entries (tree_at old list w)) ≡ suc (length (names_in entries (tree_at old rest w)))
+module _ (old : List ℕ) (list w : ℕ) (bound : Bound) (number parent top own rest : ℕ)
+    (space : Space (names_in bound (tree_at old list w)) old list w number parent top) (open' : Opened old list w bound own rest) where
+  count-is : length (names_in bound (tree_at old list w)) ≡ suc (length (names_in bound (tree_at old rest w)))
   count-is = ap length open'.names-are
 
   pub own_below : own ≤ top
@@ -45,64 +47,64 @@ module _ (old : List ℕ) (list w : ℕ) (entries macros : Bool) (number parent 
   pub number_small : number < 2 ^ 30
   number_small = omega (arith, space.numbers, count-is)
 
-  module _ (key next : ℕ) (mid : List ℕ) (key-is : key ≡ binding_key (some (binds_to macros number))) (bound : Binds own w key parent old mid top next) where
+  module _ (key next : ℕ) (mid : List ℕ) (key-is : key ≡ binding_key (some (binds_to bound number))) (binds : Binds own w key parent old mid top next) where
     rest-kept : tree_at mid rest w ≡ tree_at old rest w
-    rest-kept = tree-kept old mid top rest w (omega (arith, space.node-below, open'.rest-low)) space.w-below bound.kept
+    rest-kept = tree-kept old mid top rest w (omega (arith, space.node-below, open'.rest-low)) space.w-below binds.kept
 
-    more-is : names_in entries (tree_at old list w) ≡ name_at old own w ∷ names_in entries (tree_at mid rest w)
+    more-is : names_in bound (tree_at old list w) ≡ name_at old own w ∷ names_in bound (tree_at mid rest w)
     more-is = rw rest-kept open'.names-are
 
-    more-count : length (names_in entries (tree_at old list w)) ≡ suc (length (names_in entries (tree_at mid rest w)))
+    more-count : length (names_in bound (tree_at old list w)) ≡ suc (length (names_in bound (tree_at mid rest w)))
     more-count = ap length more-is
 
-    ordinary-next : AllNames entries (tree_at mid rest w)
+    ordinary-next : AllNames bound (tree_at mid rest w)
     ordinary-next = rw rest-kept open'.ordinary
 
-    space-next : length mid ≡ length old → Space (names_in entries (tree_at mid rest w)) mid rest w (number + 1) next next
+    space-next : length mid ≡ length old → Space (names_in bound (tree_at mid rest w)) mid rest w (number + 1) next next
     space-next l =
         record {
-          fits = omega (arith, space.fits, more-count, bound.end);
-          small = omega (arith, space.small, more-count, bound.end);
+          fits = omega (arith, space.fits, more-count, binds.end);
+          small = omega (arith, space.small, more-count, binds.end);
           numbers = omega (arith, space.numbers, more-count);
-          node-below = omega (arith, space.node-below, open'.rest-low, bound.end);
-          w-below = omega (arith, space.w-below, bound.end);
+          node-below = omega (arith, space.node-below, open'.rest-low, binds.end);
+          w-below = omega (arith, space.w-below, binds.end);
           parent-below = omega arith;
         }
 
-    scoped_more : (new : List ℕ) (wrap end : ℕ) → Scoped (binds_to macros) (number + 1) (names_in entries (tree_at mid rest w)) next mid new next wrap end
-        → Scoped (binds_to macros) number (names_in entries (tree_at old list w)) parent old new top wrap end
+    scoped_more : (new : List ℕ) (wrap end : ℕ) → Scoped (binds_to bound) (number + 1) (names_in bound (tree_at mid rest w)) next mid new next wrap end
+        → Scoped (binds_to bound) number (names_in bound (tree_at old list w)) parent old new top wrap end
     unfolding bind_names
     scoped_more new wrap end s =
         record {
-          end_is = omega (arith, s.end_is, more-count, bound.end);
+          end_is = omega (arith, s.end_is, more-count, binds.end);
           wrap-below = s.wrap-below;
-          kept = take_less new mid top next (omega (arith, bound.end)) s.kept ∙ bound.kept;
+          kept = take_less new mid top next (omega (arith, binds.end)) s.kept ∙ binds.kept;
           means = λ x.
               s.means x
-              ∙ ap (λ (k : ℕ). bind_names (binds_to macros) k (names_in entries (tree_at mid rest w)) (wrap_at mid next x)) (add-one number)
-              ∙ ap (bind_names (binds_to macros) (suc number) (names_in entries (tree_at mid rest w))) (bound.means (binds_to macros number) key-is x)
-              ∙ ap (λ (l : List Name). bind_names (binds_to macros) number l (wrap_at old parent x)) (sym more-is);
+              ∙ ap (λ (k : ℕ). bind_names (binds_to bound) k (names_in bound (tree_at mid rest w)) (wrap_at mid next x)) (add-one number)
+              ∙ ap (bind_names (binds_to bound) (suc number) (names_in bound (tree_at mid rest w))) (binds.means (binds_to bound number) key-is x)
+              ∙ ap (λ (l : List Name). bind_names (binds_to bound) number l (wrap_at old parent x)) (sym more-is);
         }
 
 -- ---- name after name
 
-module _ (old : List ℕ) (list w : ℕ) (entries macros : Bool) (number parent top : ℕ) where
-  pub scoping-begins : AllNames entries (tree_at old list w) → Space (names_in entries (tree_at old list w)) old list w number parent top
-      → Scoping old list w entries macros number parent top old list number parent top
+module _ (old : List ℕ) (list w : ℕ) (bound : Bound) (number parent top : ℕ) where
+  pub scoping-begins : AllNames bound (tree_at old list w) → Space (names_in bound (tree_at old list w)) old list w number parent top
+      → Scoping old list w bound number parent top old list number parent top
   scoping-begins h s = record { ordinary = h; space = s; whole = λ new x y r. r }
 
-  module _ (work : List ℕ) (node n wrap end : ℕ) (inv : Scoping old list w entries macros number parent top work node n wrap end) where
-    pub scoping-ends : names_in entries (tree_at work node w) ≡ [] → Scoped (binds_to macros) number (names_in entries (tree_at old list w)) parent old work top wrap end
-    scoping-ends e = inv.whole work wrap end (scoped-none (binds_to macros) n _ wrap work end e inv.space.parent-below)
+  module _ (work : List ℕ) (node n wrap end : ℕ) (inv : Scoping old list w bound number parent top work node n wrap end) where
+    pub scoping-ends : names_in bound (tree_at work node w) ≡ [] → Scoped (binds_to bound) number (names_in bound (tree_at old list w)) parent old work top wrap end
+    scoping-ends e = inv.whole work wrap end (scoped-none (binds_to bound) n _ wrap work end e inv.space.parent-below)
 
-    pub scoping-more : (own rest : ℕ) → Opened work node w entries own rest → (key next : ℕ) (mid : List ℕ) → key ≡ binding_key (some (binds_to macros n)) → Binds own w key wrap work mid end next → length mid ≡ length work
-        → Scoping old list w entries macros number parent top mid rest (n + 1) next next
+    pub scoping-more : (own rest : ℕ) → Opened work node w bound own rest → (key next : ℕ) (mid : List ℕ) → key ≡ binding_key (some (binds_to bound n)) → Binds own w key wrap work mid end next → length mid ≡ length work
+        → Scoping old list w bound number parent top mid rest (n + 1) next next
     scoping-more own rest o key next mid k b l =
         let s = inv.space in
         record {
-          ordinary = ordinary-next work node w entries macros n wrap end own rest s o key next mid k b;
-          space = space-next work node w entries macros n wrap end own rest s o key next mid k b l;
-          whole = λ new x y r. inv.whole new x y (scoped_more work node w entries macros n wrap end own rest s o key next mid k b new x y r);
+          ordinary = ordinary-next work node w bound n wrap end own rest s o key next mid k b;
+          space = space-next work node w bound n wrap end own rest s o key next mid k b l;
+          whole = λ new x y r. inv.whole new x y (scoped_more work node w bound n wrap end own rest s o key next mid k b new x y r);
         }
 
 -- ---- trees
@@ -133,7 +135,7 @@ proper (tidy_constant c) = tidy_constant tt
 proper (tidy_name x) = tidy_name tt
 proper (tidy_pair h t l) = tidy_pair (proper h) (proper t) l
 
-formal-names : {t : Tree} → ListTails t → is_list t ≡ true → names_in false t ≡ names t
+formal-names : {t : Tree} → ListTails t → is_list t ≡ true → names_in Formals t ≡ names t
 unfolding names_in own_names own_name elements names is_list on_empty on_pair
 formal-names tidy_empty l = refl
 formal-names (tidy_constant c) l = never l refl
@@ -149,47 +151,47 @@ module _ (t : Tree) where
     unfolding is_lambda
     within-shape = and_right (is_list_of 3 t) _ shape
 
-    pub lambda-names : AllNames false (element 1 t)
+    pub lambda-names : AllNames Formals (element 1 t)
     unfolding binds_one
     lambda-names = and_left _ (leb (length (elements (element 1 t))) formals_most) (and_right list-shape _ within-shape)
 
-    pub formals-are : ListTails t → names_in false (element 1 t) ≡ formals t
+    pub formals-are : ListTails t → names_in Formals (element 1 t) ≡ formals t
     unfolding formals
     formals-are p = formal-names (tidy-element 1 p) (and_left list-shape _ within-shape)
 
-  pub macros-names : (limit : ℕ) → is_macros limit t ≡ true → AllNames true (element 1 t)
+  pub macros-names : (limit : ℕ) → is_macros limit t ≡ true → AllNames Keywords (element 1 t)
   unfolding is_macros binds_one
   macros-names limit shape =
       and_left _ (within 1 limit (length (elements (element 1 t)))) (and_right list-shape _ (and_right (is_list_of 3 t) _ shape))
 
-first-names : (cs : List Tree) → own_names true cs ≡ first_names cs
+first-names : (cs : List Tree) → own_names Keywords cs ≡ first_names cs
 unfolding own_names own_name first_names
 first-names [] = refl
 first-names (c ∷ cs) = ap (λ (xs : List Name). names (element 0 c) ++ xs) (first-names cs)
 
-pub keywords-are : (t : Tree) → names_in true (element 1 t) ≡ keywords t
+pub keywords-are : (t : Tree) → names_in Keywords (element 1 t) ≡ keywords t
 unfolding names_in keywords
 keywords-are t = first-names (elements (element 1 t))
 
 -- ---- how many they are
 
-own-count : (entries : Bool) (cs : List Tree) → all_of (binds_one entries) cs ≡ true → length (own_names entries cs) ≡ length cs
+own-count : (bound : Bound) (cs : List Tree) → all_of (binds_one bound) cs ≡ true → length (own_names bound cs) ≡ length cs
 unfolding own_names
-own-count entries [] h = refl
-own-count entries (c ∷ cs) h =
-    let g = all-parts (binds_one entries) c cs h in
-    length-append (names (own_name entries c)) (own_names entries cs) ∙ omega (arith, ordinary-names (own_name entries c) (binds-ordinary entries c g.0), own-count entries cs g.1)
+own-count bound [] h = refl
+own-count bound (c ∷ cs) h =
+    let g = all-parts (binds_one bound) c cs h in
+    length-append (names (own_name bound c)) (own_names bound cs) ∙ omega (arith, ordinary-names (own_name bound c) (binds-ordinary bound c g.0), own-count bound cs g.1)
 
-pub names-count : (entries : Bool) (t : Tree) → AllNames entries t → length (names_in entries t) ≡ length (elements t)
+pub names-count : (bound : Bound) (t : Tree) → AllNames bound t → length (names_in bound t) ≡ length (elements t)
 unfolding names_in
-names-count entries t h = own-count entries (elements t) h
+names-count bound t h = own-count bound (elements t) h
 
 module _ (t : Tree) where
   pub formals-count : is_lambda t ≡ true → ListTails t → length (formals t) ≡ length (elements (element 1 t))
-  formals-count shape p = sym (ap length (formals-are t shape p)) ∙ names-count false (element 1 t) (lambda-names t shape)
+  formals-count shape p = sym (ap length (formals-are t shape p)) ∙ names-count Formals (element 1 t) (lambda-names t shape)
 
-  pub keywords-count : AllNames true (element 1 t) → length (keywords t) ≡ length (elements (element 1 t))
-  keywords-count h = sym (ap length (keywords-are t)) ∙ names-count true (element 1 t) h
+  pub keywords-count : AllNames Keywords (element 1 t) → length (keywords t) ≡ length (elements (element 1 t))
+  keywords-count h = sym (ap length (keywords-are t)) ∙ names-count Keywords (element 1 t) h
 
   pub keywords-most : (limit : ℕ) → is_macros limit t ≡ true → length (keywords t) ≤ limit
   unfolding is_macros
@@ -210,13 +212,14 @@ space-list xs ys work node w number parent top list e l s =
       parent-below = s.parent-below;
     }
 
-pub scoped-names : (f g : ℕ → Binding) (k : ℕ) (xs ys : List Name) (parent : ℕ) (old new : List ℕ) (top wrap end : ℕ) → f ≡ g → xs ≡ ys → Scoped f k xs parent old new top wrap end → Scoped g k ys parent old new top wrap end
-scoped-names f g k xs ys parent old new top wrap end d e s = subst (λ (h : ℕ → Binding). Scoped h k ys parent old new top wrap end) d (subst (λ (zs : List Name). Scoped f k zs parent old new top wrap end) e s)
+pub scoped-names : (f : ℕ → Binding) (k : ℕ) (xs ys : List Name) (parent : ℕ) (old new : List ℕ) (top wrap end : ℕ) → xs ≡ ys → Scoped f k xs parent old new top wrap end → Scoped f k ys parent old new top wrap end
+scoped-names f k xs ys parent old new top wrap end e s = subst (λ (zs : List Name). Scoped f k zs parent old new top wrap end) e s
 
-pub to-variables : binds_to false ≡ variable
-unfolding binds_to
-to-variables = refl
+-- the names of a form's list are the form's
+pub all-names : (bound : Bound) (t : Tree) → HasNames bound t → AllNames bound (element 1 t)
+all-names Formals t h = lambda-names t h.0
+all-names Keywords t h = h
 
-pub to-macros : binds_to true ≡ macro
-unfolding binds_to
-to-macros = refl
+pub names-are : (bound : Bound) (t : Tree) → HasNames bound t → names_in bound (element 1 t) ≡ bound_names bound t
+names-are Formals t h = formals-are t h.0 h.1
+names-are Keywords t h = keywords-are t

@@ -17,6 +17,8 @@ use Rattle.arena.specs.Lists.{Means}
 use Rattle.arena.specs.ListLaws.{no-pair, a_pair, ordinary-other}
 use Rattle.forms.specs.Shapes.{own_name, binds_one}
 use Rattle.forms.specs.Binders.{AllNames, own_names, names_in, Opened}
+use Rattle.forms.specs.declared.shapes.Bound.{Bound}
+use Rattle.forms.specs.declared.shapes.Bound.TheVariants.{Formals, Keywords}
 
 -- ---- names
 
@@ -27,19 +29,19 @@ ordinary-name work node w h =
     (λ t. never h (sym (ordinary-other work node (word_at work node 3) refl (eqb-false (word_at work node 3) 3 t) w)))
 
 -- an element that binds as it should has an ordinary name
-pub binds-ordinary : (entries : Bool) (c : Tree) → binds_one entries c ≡ true → is_ordinary_name (own_name entries c) ≡ true
+pub binds-ordinary : (bound : Bound) (c : Tree) → binds_one bound c ≡ true → is_ordinary_name (own_name bound c) ≡ true
 unfolding binds_one own_name is_macro
-binds-ordinary false c h = h
-binds-ordinary true c h = and_right (is_list_of 2 c) (is_ordinary_name (element 0 c)) h
+binds-ordinary Formals c h = h
+binds-ordinary Keywords c h = and_right (is_list_of 2 c) (is_ordinary_name (element 0 c)) h
 
-module _ (work : List ℕ) (list kind : ℕ) (kind-is : kind ≡ word_at work list 3) (w : ℕ) (entries : Bool) where
+module _ (work : List ℕ) (list kind : ℕ) (kind-is : kind ≡ word_at work list 3) (w : ℕ) (bound : Bound) where
   -- the list's tree, and another's under the same wrap
   abbrev at : ℕ → Tree
   at node = tree_at work node w
 
-  pub names-none : (kind ≡ 4 → ⊥) → names_in entries (at list) ≡ []
+  pub names-none : (kind ≡ 4 → ⊥) → names_in bound (at list) ≡ []
   unfolding names_in elements own_names
-  names-none other = no-pair work list kind kind-is (λ t. names_in entries t ≡ []) refl (λ x. refl) (λ a. refl) other w
+  names-none other = no-pair work list kind kind-is (λ t. names_in bound t ≡ []) refl (λ x. refl) (λ a. refl) other w
 
   module _ (a-list : kind ≡ 4) where
     part_falls : (k rest : ℕ) → rest ≡ reference_at work list k → rest < list
@@ -47,25 +49,25 @@ module _ (work : List ℕ) (list kind : ℕ) (kind-is : kind ≡ word_at work li
         let some : 0 < list = word_at-some work list 3 (omega arith) (λ z. omega (arith, kind-is ∙ z)) in
         rw e (reference_at-falls work list k some)
 
-    rest-names : AllNames entries (at list) → (rest : ℕ) → rest ≡ reference_at work list 1 → AllNames entries (at rest)
+    rest-names : AllNames bound (at list) → (rest : ℕ) → rest ≡ reference_at work list 1 → AllNames bound (at rest)
     unfolding elements
     rest-names h rest e =
-        let g : AllNames entries (pair (at (reference_at work list 2)) (at (reference_at work list 1))) = rw (a_pair work list kind kind-is a-list w) at h in
-        rw e (all-parts (binds_one entries) (at (reference_at work list 2)) (elements (at (reference_at work list 1))) g).1
+        let g : AllNames bound (pair (at (reference_at work list 2)) (at (reference_at work list 1))) = rw (a_pair work list kind kind-is a-list w) at h in
+        rw e (all-parts (binds_one bound) (at (reference_at work list 2)) (elements (at (reference_at work list 1))) g).1
 
-    first-name : AllNames entries (at list) → (first own : ℕ) → first ≡ reference_at work list 2 → Means work first own (own_name entries) → own_name entries (at first) ≡ name (name_at work own w)
+    first-name : AllNames bound (at list) → (first own : ℕ) → first ≡ reference_at work list 2 → Means work first own (own_name bound) → own_name bound (at first) ≡ name (name_at work own w)
     unfolding elements
     first-name h first own e p =
-        let g : AllNames entries (pair (at (reference_at work list 2)) (at (reference_at work list 1))) = rw (a_pair work list kind kind-is a-list w) at h in
-        let b : binds_one entries (at first) ≡ true = rw e (all-parts (binds_one entries) (at (reference_at work list 2)) (elements (at (reference_at work list 1))) g).0 in
-        sym (p.is w) ∙ ordinary-name work own w (rw (p.is w) (binds-ordinary entries (at first) b))
+        let g : AllNames bound (pair (at (reference_at work list 2)) (at (reference_at work list 1))) = rw (a_pair work list kind kind-is a-list w) at h in
+        let b : binds_one bound (at first) ≡ true = rw e (all-parts (binds_one bound) (at (reference_at work list 2)) (elements (at (reference_at work list 1))) g).0 in
+        sym (p.is w) ∙ ordinary-name work own w (rw (p.is w) (binds-ordinary bound (at first) b))
 
-    names_more : AllNames entries (at list) → (first own rest : ℕ) → first ≡ reference_at work list 2 → Means work first own (own_name entries) → rest ≡ reference_at work list 1 → names_in entries (at list) ≡ name_at work own w ∷ names_in entries (at rest)
+    names_more : AllNames bound (at list) → (first own rest : ℕ) → first ≡ reference_at work list 2 → Means work first own (own_name bound) → rest ≡ reference_at work list 1 → names_in bound (at list) ≡ name_at work own w ∷ names_in bound (at rest)
     unfolding names_in elements own_names names
     names_more h first own rest e p q =
         rw (a_pair work list kind kind-is a-list w, sym e, sym q, first-name h first own e p)
 
-    pub opened : AllNames entries (at list) → (first own rest : ℕ) → first ≡ reference_at work list 2 → Means work first own (own_name entries) → rest ≡ reference_at work list 1 → Opened work list w entries own rest
+    pub opened : AllNames bound (at list) → (first own rest : ℕ) → first ≡ reference_at work list 2 → Means work first own (own_name bound) → rest ≡ reference_at work list 1 → Opened work list w bound own rest
     opened h first own rest e p q =
         record {
           own-low = omega (arith, p.low, part_falls 2 first e);

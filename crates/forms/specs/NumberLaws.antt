@@ -1,6 +1,6 @@
 -- The numbers of a lambda's names in the core table, one after another, whatever waits on the list.
-use Rattle.std.specs.Prelude.{◌≡◌, refl, false, List, [], ◌∷◌, ◌++◌, map, ℕ, suc, ◌+◌, ◌≤◌, ◌<◌, length, set}
-use Rattle.std.proofs.Common.{sym, ap, ap₂, ◌∙◌, append_assoc, append-nil, arith, length-set}
+use Rattle.std.specs.Prelude.{◌≡◌, refl, List, [], ◌∷◌, ◌++◌, map, ℕ, ◌+◌, ◌≤◌, ◌<◌, length, set}
+use Rattle.std.proofs.Common.{sym, ap, ◌∙◌, append_assoc, append-nil, arith, length-set}
 use Rattle.std.proofs.lemmas.List.Edits.{sets-eq}
 use Rattle.recipe.specs.Tree.{Tree}
 use Rattle.arena.specs.Arena.{word_at, reference_at, tree_at, number_of}
@@ -11,35 +11,36 @@ use Rattle.forms.specs.Binders.{AllNames, names_in, Opened}
 use Rattle.forms.specs.BinderLaws.{opened, names-none}
 use Rattle.forms.specs.Quotes.{Written}
 use Rattle.forms.specs.QuoteLaws.{written_none, written_then, written_as}
+use Rattle.forms.specs.declared.shapes.Bound.TheVariants.{Formals}
 
 -- the numbers of the names that a lambda's list binds
 abbrev pub numbers_in : Tree → List ℕ
-numbers_in t = map (λ x. x.number) (names_in false t)
+numbers_in t = map (λ x. x.number) (names_in Formals t)
 
 -- the numbers before `node` have been put from `at` on
 pub record Putting (work : List ℕ) (list v at : ℕ) (old : List ℕ) (node n : ℕ) (new : List ℕ) : Type 0 where
-  pub ordinary : AllNames false (tree_at work node v)
+  pub ordinary : AllNames Formals (tree_at work node v)
   pub sofar : List ℕ
-  pub whole : (w : ℕ) → AllNames false (tree_at work list w) → AllNames false (tree_at work node w) × (numbers_in (tree_at work list w) ≡ sofar ++ numbers_in (tree_at work node w))
+  pub whole : (w : ℕ) → AllNames Formals (tree_at work list w) → AllNames Formals (tree_at work node w) × (numbers_in (tree_at work list w) ≡ sofar ++ numbers_in (tree_at work node w))
   pub written : Written sofar old new at n
-  pub room : n + length (names_in false (tree_at work node v)) ≤ length old
+  pub room : n + length (names_in Formals (tree_at work node v)) ≤ length old
   pub same : length new ≡ length old
 
 module _ (work : List ℕ) (list v at : ℕ) (old : List ℕ) where
-  pub putting-begins : AllNames false (tree_at work list v) → at + length (names_in false (tree_at work list v)) ≤ length old → Putting work list v at old list at old
+  pub putting-begins : AllNames Formals (tree_at work list v) → at + length (names_in Formals (tree_at work list v)) ≤ length old → Putting work list v at old list at old
   putting-begins h r = record { ordinary = h; sofar = []; whole = λ w k. (k, refl); written = written_none old at; room = r; same = refl }
 
   module _ (node n : ℕ) (new : List ℕ) (p : Putting work list v at old node n new) (kind : ℕ) (kind-is : kind ≡ word_at work node 3) where
-    pub putting-ends : (kind ≡ 4 → ⊥) → (w : ℕ) → AllNames false (tree_at work list w) → Written (numbers_in (tree_at work list w)) old new at n
+    pub putting-ends : (kind ≡ 4 → ⊥) → (w : ℕ) → AllNames Formals (tree_at work list w) → Written (numbers_in (tree_at work list w)) old new at n
     putting-ends other w h =
-        let none : numbers_in (tree_at work node w) ≡ [] = ap (map (λ x. x.number)) (names-none work node kind kind-is w false other) in
+        let none : numbers_in (tree_at work node w) ≡ [] = ap (map (λ x. x.number)) (names-none work node kind kind-is w Formals other) in
         written_as p.sofar (numbers_in (tree_at work list w)) old new at n (sym ((p.whole w h).1 ∙ ap (λ (l : List ℕ). p.sofar ++ l) none ∙ append-nil p.sofar)) p.written
 
-    module _ (a-list : kind ≡ 4) (first own rest number : ℕ) (first-is : first ≡ reference_at work node 2) (own_is : Means work first own (own_name false)) (rest-is : rest ≡ reference_at work node 1) (number_is : number ≡ number_of work own) where
-      open_at : (w : ℕ) → AllNames false (tree_at work node w) → Opened work node w false own rest
-      open_at w h = opened work node kind kind-is w false a-list h first own rest first-is own_is rest-is
+    module _ (a-list : kind ≡ 4) (first own rest number : ℕ) (first-is : first ≡ reference_at work node 2) (own_is : Means work first own (own_name Formals)) (rest-is : rest ≡ reference_at work node 1) (number_is : number ≡ number_of work own) where
+      open_at : (w : ℕ) → AllNames Formals (tree_at work node w) → Opened work node w Formals own rest
+      open_at w h = opened work node kind kind-is w Formals a-list h first own rest first-is own_is rest-is
 
-      numbers-are : (w : ℕ) → AllNames false (tree_at work node w) → numbers_in (tree_at work node w) ≡ number ∷ numbers_in (tree_at work rest w)
+      numbers-are : (w : ℕ) → AllNames Formals (tree_at work node w) → numbers_in (tree_at work node w) ≡ number ∷ numbers_in (tree_at work rest w)
       numbers-are w h = ap (map (λ x. x.number)) (open_at w h).names-are ∙ ap (λ (k : ℕ). k ∷ numbers_in (tree_at work rest w)) (name_at-number work own w ∙ sym number_is)
 
       pub putting-room : n < length new

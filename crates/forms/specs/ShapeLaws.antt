@@ -15,16 +15,18 @@ use Rattle.arena.specs.Arena.{word_at, reference_at, tree_at}
 use Rattle.arena.specs.Lists.{Means, Tests}
 use Rattle.arena.specs.ListLaws.{no-pair, a_pair}
 use Rattle.forms.specs.Shapes.{own_name, binds_one, binds_all}
+use Rattle.forms.specs.declared.shapes.Bound.{Bound}
+use Rattle.forms.specs.declared.shapes.Bound.TheVariants.{Formals, Keywords}
 
 -- ---- what an element binds
 
-pub own-macro : (work : List ℕ) (node r : ℕ) (entries : Bool) → entries ≡ true → Means work node r (element 0) → Means work node r (own_name entries)
+pub own-macro : (work : List ℕ) (node r : ℕ) (bound : Bound) → bound ≡ Keywords → Means work node r (element 0) → Means work node r (own_name bound)
 unfolding own_name
-own-macro work node r entries e p = rw e (record { low = p.low; is = p.is })
+own-macro work node r bound e p = rw e (record { low = p.low; is = p.is })
 
-pub own-formal : (work : List ℕ) (node : ℕ) (entries : Bool) → entries ≡ false → Means work node node (own_name entries)
+pub own-formal : (work : List ℕ) (node : ℕ) (bound : Bound) → bound ≡ Formals → Means work node node (own_name bound)
 unfolding own_name
-own-formal work node entries e = rw e (record { low = omega arith; is = λ w. refl })
+own-formal work node bound e = rw e (record { low = omega arith; is = λ w. refl })
 
 module _ (work : List ℕ) (node : ℕ) (listed : Bool) (list_of : Tests (is_list_of 2) work node listed) where
   pub macro-shape : listed ≡ false → Tests is_macro work node false
@@ -35,45 +37,45 @@ module _ (work : List ℕ) (node : ℕ) (listed : Bool) (list_of : Tests (is_lis
   unfolding is_macro
   macro-name e own r p h w = h w ∙ rw (sym (list_of w) ∙ e, p.is w)
 
-pub one-macro : (work : List ℕ) (node : ℕ) (entries r : Bool) → entries ≡ true → Tests is_macro work node r → Tests (binds_one entries) work node r
+pub one-macro : (work : List ℕ) (node : ℕ) (bound : Bound) (r : Bool) → bound ≡ Keywords → Tests is_macro work node r → Tests (binds_one bound) work node r
 unfolding binds_one
-one-macro work node entries r e h = rw e h
+one-macro work node bound r e h = rw e h
 
-pub one-formal : (work : List ℕ) (node : ℕ) (entries r : Bool) → entries ≡ false → Tests is_ordinary_name work node r → Tests (binds_one entries) work node r
+pub one-formal : (work : List ℕ) (node : ℕ) (bound : Bound) (r : Bool) → bound ≡ Formals → Tests is_ordinary_name work node r → Tests (binds_one bound) work node r
 unfolding binds_one
-one-formal work node entries r e h = rw e h
+one-formal work node bound r e h = rw e h
 
 -- ---- all of a list
 
 -- all of the list bind, at most so many, where all of the node do, at most as many as are left
-abbrev pub AllLeft : (work : List ℕ) (entries : Bool) (list most node left : ℕ) → Type 0
-AllLeft work entries list most node left = (w : ℕ) → binds_all entries most (tree_at work list w) ≡ binds_all entries left (tree_at work node w)
+abbrev pub AllLeft : (work : List ℕ) (bound : Bound) (list most node left : ℕ) → Type 0
+AllLeft work bound list most node left = (w : ℕ) → binds_all bound most (tree_at work list w) ≡ binds_all bound left (tree_at work node w)
 
-module _ (work : List ℕ) (entries : Bool) (list most node left : ℕ) (inv : AllLeft work entries list most node left) (kind : ℕ) (kind-is : kind ≡ word_at work node 3) where
-  pub all_none : (kind ≡ 4 → ⊥) → Tests (binds_all entries most) work list true
+module _ (work : List ℕ) (bound : Bound) (list most node left : ℕ) (inv : AllLeft work bound list most node left) (kind : ℕ) (kind-is : kind ≡ word_at work node 3) where
+  pub all_none : (kind ≡ 4 → ⊥) → Tests (binds_all bound most) work list true
   unfolding binds_all elements all_of
   all_none other w =
       let none : true ≡ leb 0 left = sym (leb-zero left) in
-      no-pair work node kind kind-is (λ t. true ≡ binds_all entries left t) none (λ x. none) (λ a. none) other w ∙ sym (inv w)
+      no-pair work node kind kind-is (λ t. true ≡ binds_all bound left t) none (λ x. none) (λ a. none) other w ∙ sym (inv w)
 
   module _ (a-list : kind ≡ 4) where
-    pub all-over : left ≡ 0 → Tests (binds_all entries most) work list false
+    pub all-over : left ≡ 0 → Tests (binds_all bound most) work list false
     unfolding binds_all elements
     all-over z w =
         let h = tree_at work (reference_at work node 2) w in
         let t = tree_at work (reference_at work node 1) w in
-        sym (inv w ∙ rw (a_pair work node kind kind-is a-list w, z, leb-suc-zero (length (elements t))) (and-false (all_of (binds_one entries) (elements (pair h t)))))
+        sym (inv w ∙ rw (a_pair work node kind kind-is a-list w, z, leb-suc-zero (length (elements t))) (and-false (all_of (binds_one bound) (elements (pair h t)))))
 
-    module _ (first : ℕ) (r : Bool) (first-is : first ≡ reference_at work node 2) (binds : Tests (binds_one entries) work first r) where
-      pub all_first : r ≡ false → Tests (binds_all entries most) work list false
+    module _ (first : ℕ) (r : Bool) (first-is : first ≡ reference_at work node 2) (binds : Tests (binds_one bound) work first r) where
+      pub all_first : r ≡ false → Tests (binds_all bound most) work list false
       unfolding binds_all elements all_of
       all_first e w = sym (inv w ∙ rw (a_pair work node kind kind-is a-list w, ← first-is, ← binds w, e) refl)
 
-      pub all-later : (rest : ℕ) → r ≡ true → (left ≡ 0 → ⊥) → rest ≡ reference_at work node 1 → AllLeft work entries list most rest (left - 1)
+      pub all-later : (rest : ℕ) → r ≡ true → (left ≡ 0 → ⊥) → rest ≡ reference_at work node 1 → AllLeft work bound list most rest (left - 1)
       unfolding binds_all elements all_of
       all-later rest e z l w =
           let n : ℕ = length (elements (tree_at work rest w)) in
-          inv w ∙ rw (a_pair work node kind kind-is a-list w, ← first-is, ← binds w, e, ← l) (ap (λ (b : Bool). all_of (binds_one entries) (elements (tree_at work rest w)) && b) (one_less n left z))
+          inv w ∙ rw (a_pair work node kind kind-is a-list w, ← first-is, ← binds w, e, ← l) (ap (λ (b : Bool). all_of (binds_one bound) (elements (tree_at work rest w)) && b) (one_less n left z))
         where
           one_less : (n k : ℕ) → (k ≡ 0 → ⊥) → leb (suc n) k ≡ leb n (k - 1)
           one_less n zero h = absurd (h refl)
@@ -97,7 +99,7 @@ module _ (work : List ℕ) (node : ℕ) (listed : Bool) (list_of : Tests (is_lis
     unfolding is_lambda
     lambda-list r h e w = rw (sym (part.is w), sym (h w) ∙ e) (sym (and-false (is_list_of 3 (tree_at work node w))))
 
-    pub lambda-all : listed ≡ true → (r s : Bool) → Tests is_list work list r → r ≡ true → Tests (binds_all false 8) work list s → Tests is_lambda work node s
+    pub lambda-all : listed ≡ true → (r s : Bool) → Tests is_list work list r → r ≡ true → Tests (binds_all Formals 8) work list s → Tests is_lambda work node s
     unfolding is_lambda binds_all binds_one
     lambda-all e r s h d g w = g w ∙ rw (sym (list_of w) ∙ e, sym (part.is w), sym (h w) ∙ d)
 
@@ -112,7 +114,7 @@ module _ (work : List ℕ) (node : ℕ) (listed : Bool) (list_of : Tests (is_lis
           none : false ≡ (is_list_of 3 (tree_at work node w) && false)
           none = sym (and-false (is_list_of 3 (tree_at work node w)))
 
-      pub macros-all : listed ≡ true → (s : Bool) → kind ≡ 4 → Tests (binds_all true limit) work list s → Tests (is_macros limit) work node s
+      pub macros-all : listed ≡ true → (s : Bool) → kind ≡ 4 → Tests (binds_all Keywords limit) work list s → Tests (is_macros limit) work node s
       unfolding is_macros is_list on_empty on_pair elements binds_all binds_one within
       macros-all e s p g w =
           let n : ℕ = length (elements (tree_at work (reference_at work list 1) w)) in

@@ -1,6 +1,6 @@
 // Quoting: the core words of a node without marks and bindings, whatever waits on it. Recursion goes with nesting alone.
 
-ghost use Rattle.std.specs.Prelude.{[], ◌∷◌, ◌+◌, ◌≤◌, length};
+ghost use Rattle.std.specs.Prelude.{◌+◌, ◌≤◌, length};
 ghost use Rattle.datum.specs.Constant.{decimal_kind, constant_words};
 ghost use Rattle.datum.specs.ConstantLaws.{made};
 ghost use Rattle.arena.specs.Arena.{tree_at};
@@ -11,14 +11,14 @@ use core_term::codes;
 use datum::constants;
 use resolution::names;
 
-// Two words at `at`; answers where the next stand.
-fn put_two(core: &mut [u32], at: usize, a: u32, b: u32) -> usize
-    requires { at + 2 ≤ length core.old }
-    ensures { Written (a ∷ b ∷ []) core.old core.new at result }
+// Words from `at`; answers where the next stand.
+pub fn put(core: &mut [u32], at: usize, words: &[u32]) -> usize
+    requires { at + length words.now ≤ length core.old }
+    ensures { Written words.now core.old core.new at result }
 {
-    core[at] = a;
-    core[at + 1] = b;
-    at + 2
+    let end = at + words.len();
+    core[at..end].copy_from_slice(words);
+    end
 }
 
 // The words of a constant: its code and its value, and a decimal's places.
@@ -27,12 +27,9 @@ pub fn put_constant(core: &mut [u32], at: usize, kind: u32, first: u32, second: 
     ensures { Written (constant_words (made kind first second)) core.old core.new at result }
 {
     if kind != constants::DECIMAL {
-        return put_two(core, at, kind + 1, first);
+        return put(core, at, &[kind + 1, first]);
     }
-    core[at] = codes::DECIMAL;
-    core[at + 1] = first;
-    core[at + 2] = second;
-    at + 3
+    put(core, at, &[codes::DECIMAL, first, second])
 }
 
 // The words of a node, from `at`; answers where the next stand.
@@ -44,15 +41,15 @@ pub fn quote(work: &[u32], node: u32, core: &mut [u32], at: usize) -> usize
     let kind = cells::word(work, node, cells::KIND);
     if kind == cells::PAIR {
         let count = lists::count(work, node);
-        let n = put_two(core, at, codes::LIST, count);
+        let n = put(core, at, &[codes::LIST, count]);
         return quote_all(work, node, core, n);
     }
     if kind == cells::NAME {
         let number = names::number_of(work, node);
-        return put_two(core, at, codes::NAME, number);
+        return put(core, at, &[codes::NAME, number]);
     }
     if kind == cells::EMPTY {
-        return put_two(core, at, codes::LIST, 0);
+        return put(core, at, &[codes::LIST, 0]);
     }
     let first = cells::word(work, node, cells::FIRST);
     let second = cells::word(work, node, cells::SECOND);

@@ -1,5 +1,4 @@
-// Shapes of forms (ground 13). `entries` says what a list that binds has: names, as a lambda's, or (name rules), as a
-// let-syntax's and a letrec-syntax's.
+// Shapes of forms (ground 13), and what a form binds.
 
 ghost use Rattle.expansion.specs.Forms.{is_lambda, is_macro, is_macros};
 ghost use Rattle.arena.specs.Lists.{Means, Tests};
@@ -8,14 +7,22 @@ ghost use Rattle.forms.specs.Shapes.{own_name, binds_one, binds_all};
 use arena::{cells, lists};
 use resolution::names;
 
+// What a form's list binds: formals, each a name, as a lambda's; or keywords, each (name rules), as a let-syntax's and a
+// letrec-syntax's.
+#[derive(Clone, Copy, Debug, PartialEq, Eq)]
+pub enum Bound {
+    Formals,
+    Keywords,
+}
+
 // The node of the name that an element binds.
-pub(crate) fn own_name(work: &[u32], node: u32, entries: bool) -> u32
-    ensures { Means work.now node result (own_name entries) }
+pub(crate) fn own_name(work: &[u32], node: u32, bound: Bound) -> u32
+    ensures { Means work.now node result (own_name bound) }
 {
-    if entries {
-        return lists::element(work, node, 0);
+    match bound {
+        Bound::Formals => node,
+        Bound::Keywords => lists::element(work, node, 0),
     }
-    node
 }
 
 // (name rules)
@@ -30,18 +37,18 @@ fn is_macro(work: &[u32], node: u32) -> bool
 }
 
 // Whether an element of the list binds as it should.
-fn binds_one(work: &[u32], node: u32, entries: bool) -> bool
-    ensures { Tests (binds_one entries) work.now node result }
+fn binds_one(work: &[u32], node: u32, bound: Bound) -> bool
+    ensures { Tests (binds_one bound) work.now node result }
 {
-    if entries {
-        return is_macro(work, node);
+    match bound {
+        Bound::Formals => names::is_ordinary(work, node),
+        Bound::Keywords => is_macro(work, node),
     }
-    names::is_ordinary(work, node)
 }
 
 // Whether all elements of a list do, and are at most so many.
-fn binds_all(work: &[u32], list: u32, entries: bool, most: u32) -> bool
-    ensures { Tests (binds_all entries most) work.now list result }
+fn binds_all(work: &[u32], list: u32, bound: Bound, most: u32) -> bool
+    ensures { Tests (binds_all bound most) work.now list result }
 {
     let mut node = list;
     let mut left = most;
@@ -50,7 +57,7 @@ fn binds_all(work: &[u32], list: u32, entries: bool, most: u32) -> bool
             return false;
         }
         let first = cells::reference(work, node, cells::HEAD);
-        if !binds_one(work, first, entries) {
+        if !binds_one(work, first, bound) {
             return false;
         }
         node = cells::reference(work, node, cells::TAIL);
@@ -70,7 +77,7 @@ pub fn is_lambda(work: &[u32], node: u32) -> bool
     if !lists::is_list(work, list) {
         return false;
     }
-    binds_all(work, list, false, words::FORMALS)
+    binds_all(work, list, Bound::Formals, words::FORMALS)
 }
 
 // (let-syntax ((name rules) ...) body), at most `limit` macros
@@ -84,5 +91,5 @@ pub fn is_macros(work: &[u32], node: u32, limit: u32) -> bool
     if cells::word(work, list, cells::KIND) != cells::PAIR {
         return false;
     }
-    binds_all(work, list, true, limit)
+    binds_all(work, list, Bound::Keywords, limit)
 }

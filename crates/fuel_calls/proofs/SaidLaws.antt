@@ -2,8 +2,7 @@
 -- `least-fuel-calls`, whose conditions stand in a record.
 use Rattle.std.specs.Prelude.{◌≡◌, List, ℕ, ◌+◌, ◌*◌, ◌≤◌, ◌<◌, length}
 use Rattle.recipe.specs.Table.{item_count}
-use Rattle.expander.specs.declared.Expansion.{Expansion}
-use Rattle.expander.specs.Service.{numbers_of, Served}
+use Rattle.expander.specs.Service.{Expansion, numbers_of, Served}
 use Rattle.fuel_calls.specs.Statement.{Call, Same, MoreFuelCalls, LeastFuelCalls}
 use Rattle.fuel_calls.proofs.Calls.{more-fuel-calls, least-fuel-calls}
 use Rattle.fuel_calls.specs.Said.{called}

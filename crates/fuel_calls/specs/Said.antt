@@ -2,8 +2,7 @@
 -- `least-fuel-calls`, whose conditions stand in a record.
 use Rattle.std.specs.Prelude.{◌≡◌, List, ℕ, ◌+◌, ◌*◌, ◌≤◌, ◌<◌, length}
 use Rattle.recipe.specs.Table.{item_count}
-use Rattle.expander.specs.declared.Expansion.{Expansion}
-use Rattle.expander.specs.Service.{Served}
+use Rattle.expander.specs.Service.{Expansion, Served}
 use Rattle.fuel_calls.specs.Statement.{Call}
 
 -- a call by all that it asks: a fuel up to 8,192, and for each item and unit of fuel 24 words of work and 3 of core

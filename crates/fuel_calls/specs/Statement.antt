@@ -5,8 +5,7 @@ use Rattle.words.specs.Limits.{fuel_most, work_rate, core_rate}
 use Rattle.words.specs.Tables.{testing, begun, filled}
 use Rattle.recipe.specs.Table.{item_count}
 use Rattle.expansion.specs.RunLaws.{GroundIn}
-use Rattle.expander.specs.declared.Expansion.{Expansion}
-use Rattle.expander.specs.Service.{numbers_of, Served}
+use Rattle.expander.specs.Service.{Expansion, numbers_of, Served}
 
 -- a call with a fuel up to 8,192 and lent tables that pass ground 9 for it: what it is lent, what it leaves, its answer, and its promise
 pub record Call (items : List ℕ) : Type 0 where

@@ -1,5 +1,5 @@
 -- The three numbers of an answer in a lent table, or more; a table too short for them is left alone.
-use Rattle.std.specs.Prelude.{◌≡◌, cond, List, [], ◌∷◌, ◌++◌, ℕ, ltb, length, drop}
+use Rattle.std.specs.Prelude.{◌≡◌, cond, List, ◌∷◌, ◌++◌, ℕ, ltb, length, drop}
 use Rattle.reading.specs.Read as R
 use Rattle.expansion.specs.Run as X
 use Rattle.expander.specs.Service as E

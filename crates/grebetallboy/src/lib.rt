@@ -13,34 +13,17 @@ ghost use Rattle.runner.specs.Service as M;
 ghost use Rattle.recipe_runner.specs.Service.{of_running};
 ghost use Rattle.grebetallboy.specs.Calls.{told, told_numbers, tells_read, tells_run, tells_verdict, verdict_ground, RunCalled, RecipeRunCalled};
 
-use expander::Expansion;
-use reader::Reading;
-use recipe_runner::RecipeRunning;
-use runner::Running;
-use supplier::Comparison;
-use writer::Writing;
+use recipe_runner::RecipeError;
+use runner::{Outcome, Value};
+use words::ground::Ground;
 
-// Three numbers, where the table has three words for them.
-fn tell(counts: &mut [u64], a: u64, b: u64, c: u64)
-    ensures { counts.new ≡ told a b c counts.old }
+// Numbers, where the table has words for them.
+fn tell(counts: &mut [u64], numbers: &[u64])
+    ensures { counts.new ≡ told_numbers numbers.now counts.old }
 {
-    if counts.len() < 3 {
-        return;
+    if numbers.len() <= counts.len() {
+        counts[..numbers.len()].copy_from_slice(numbers);
     }
-    counts[0] = a;
-    counts[1] = b;
-    counts[2] = c;
-}
-
-// Four.
-fn tell_four(counts: &mut [u64], a: u64, b: u64, c: u64, d: u64)
-    ensures { counts.new ≡ told_numbers (a ∷ b ∷ c ∷ d ∷ []) counts.old }
-{
-    if counts.len() < 4 {
-        return;
-    }
-    tell(counts, a, b, c);
-    counts[3] = d;
 }
 
 // Reading: counts has the items and the names of an accepted text, then 0.
@@ -56,13 +39,13 @@ pub fn grebetallboy_read(
         × (counts.new ≡ tells_read (read_numbers (read text.now (length items.old) (length names.old))) counts.old) }
 {
     match reader::read(text, items, names) {
-        Reading::Read { items: i, names: n } => {
-            tell(counts, i as u64, n as u64, 0);
+        Ok(read) => {
+            tell(counts, &[read.items as u64, read.names as u64, 0]);
             0
         }
-        Reading::Refused(g) => {
-            tell(counts, 0, 0, 0);
-            g
+        Err(why) => {
+            tell(counts, &[0, 0, 0]);
+            why.number()
         }
     }
 }
@@ -81,21 +64,20 @@ pub fn grebetallboy_expand(
         × (counts.new ≡ tells_run (run_numbers (run items.now fuel (length work.old) (length core.old))) counts.old) }
 {
     match expander::expand(items, fuel, work, core) {
-        Expansion::Accepted {
-            steps: n,
-            sum: m,
-            length: l,
-        } => {
-            tell(counts, n as u64, m as u64, l as u64);
+        Ok(reached) => {
+            tell(
+                counts,
+                &[
+                    reached.steps as u64,
+                    reached.sum as u64,
+                    reached.length as u64,
+                ],
+            );
             0
         }
-        Expansion::Refused {
-            ground: g,
-            steps: n,
-            sum: m,
-        } => {
-            tell(counts, n as u64, m as u64, 0);
-            g
+        Err(refused) => {
+            tell(counts, &[refused.steps as u64, refused.sum as u64, 0]);
+            refused.ground.number()
         }
     }
 }
@@ -113,17 +95,13 @@ pub fn grebetallboy_write(
         × (counts.new ≡ told (size (outcome out.old (text_of words.now operations names.now))) 0 0 counts.old) }
 {
     match writer::write(words, operations, names, out) {
-        Writing::Written(n) => {
-            tell(counts, n as u64, 0, 0);
+        Ok(length) => {
+            tell(counts, &[length as u64, 0, 0]);
             0
         }
-        Writing::NoTerm => {
-            tell(counts, 0, 0, 0);
-            19
-        }
-        Writing::NoRoom => {
-            tell(counts, 0, 0, 0);
-            20
+        Err(why) => {
+            tell(counts, &[0, 0, 0]);
+            why.number()
         }
     }
 }
@@ -144,46 +122,45 @@ pub fn grebetallboy_compare(
         × (counts.new ≡ tells_verdict (compare items.now names.now words.now text.now (length text_items.old) (length text_names.old)).verdict counts.old) }
 {
     match supplier::compare(items, names, words, text, text_items, text_names) {
-        Comparison::Yes => {
-            tell(counts, 1, 0, 0);
+        Ok(same) => {
+            tell(counts, &[u64::from(same), 0, 0]);
             0
         }
-        Comparison::No => {
-            tell(counts, 0, 0, 0);
-            0
-        }
-        Comparison::Refused(g) => {
-            tell(counts, 0, 0, 0);
-            g
+        Err(why) => {
+            tell(counts, &[0, 0, 0]);
+            why.number()
         }
     }
 }
 
-fn bit(b: bool) -> u64
-    ensures { result ≡ M.bit b }
+// A value and its units.
+fn tell_value(value: Value, units: usize, counts: &mut [u64])
+    ensures { counts.new ≡ told_numbers (of_running (M.value_numbers value units)) counts.old }
 {
-    if b {
-        return 1;
+    let units = units as u64;
+    match value {
+        Value::Integer(w) => tell(counts, &[1, w as u64, 0, units]),
+        Value::Boolean(b) => tell(counts, &[2, u64::from(b), 0, units]),
+        Value::Datum(place) => tell(counts, &[3, place as u64, 0, units]),
+        Value::Closure => tell(counts, &[4, 0, 0, units]),
+        Value::Operation => tell(counts, &[5, 0, 0, units]),
     }
-    0
 }
 
 // The numbers of a run, and its ground.
-fn tell_running(running: Running, counts: &mut [u64]) -> u32
+fn tell_running(running: Result<Outcome, Ground>, counts: &mut [u64]) -> u32
     ensures { (result ≡ (M.numbers_of running).ground_number) × (counts.new ≡ told_numbers (of_running (M.numbers_of running)) counts.old) }
 {
     match running {
-        Running::Integer(w, u) => tell_four(counts, 1, w as u64, 0, u as u64),
-        Running::Boolean(b, u) => tell_four(counts, 2, bit(b), 0, u as u64),
-        Running::Datum(p, u) => tell_four(counts, 3, p as u64, 0, u as u64),
-        Running::Closure(u) => tell_four(counts, 4, 0, 0, u as u64),
-        Running::Operation(u) => tell_four(counts, 5, 0, 0, u as u64),
-        Running::Refused(g) => {
-            tell_four(counts, 0, 0, 0, 0);
-            return g;
+        Ok(outcome) => {
+            tell_value(outcome.value, outcome.units, counts);
+            0
+        }
+        Err(why) => {
+            tell(counts, &[0, 0, 0, 0]);
+            why.number()
         }
     }
-    0
 }
 
 // Running: counts has what the result is (1 integer, 2 boolean, 3 quoted datum, 4 closure, 5 operation), its two words, the units.
@@ -206,14 +183,11 @@ pub fn grebetallboy_run_recipe(
     ensures { RecipeRunCalled items.now fuel work.old work.new core.old core.new budget table.old table.new counts.old counts.new result }
 {
     match recipe_runner::run_recipe(items, fuel, work, core, budget, table) {
-        RecipeRunning::Ran(r) => tell_running(r, counts),
-        RecipeRunning::Refused {
-            ground: g,
-            steps: n,
-            sum: m,
-        } => {
-            tell_four(counts, n as u64, m as u64, 0, 0);
-            g
+        Ok(outcome) => tell_running(Ok(outcome), counts),
+        Err(RecipeError::Run(why)) => tell_running(Err(why), counts),
+        Err(RecipeError::Expansion(refused)) => {
+            tell(counts, &[refused.steps as u64, refused.sum as u64, 0, 0]);
+            refused.ground.number()
         }
     }
 }

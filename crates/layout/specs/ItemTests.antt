@@ -1,5 +1,5 @@
 -- Laws of the test of one item (ground 7), one for each way through `is_pair`, `is_leaf`, `takes_item` and `items_fit`.
-use Rattle.std.specs.Prelude.{◌≡◌, Bool, ◌&&◌, List, ℕ, zero, suc, ◌+◌, ◌-◌, ◌*◌, ◌<◌, ◌≤◌, ltb, leb, length, drop}
+use Rattle.std.specs.Prelude.{◌≡◌, Bool, ◌&&◌, List, ℕ, suc, ◌+◌, ◌-◌, ◌*◌, ◌<◌, ◌≤◌, ltb, length, drop}
 use Rattle.std.proofs.Math.Path.{refl}
 use Rattle.std.proofs.Common.{◌∙◌, add-one, drop_of_length-le}
 use Rattle.std.proofs.Math.Bool.{true, false, and-true, and-false}
@@ -8,7 +8,7 @@ use Rattle.std.proofs.Math.Dec.{eqb}
 use borrow.Author.Tests.{ne_eqb}
 use Rattle.words.specs.Limits.{places_most, names_most}
 use Rattle.words.specs.Lists.{within, all_of}
-use Rattle.words.specs.TestLaws.{and-none-left, and-none-right, within-is, outside_below, outside_above}
+use Rattle.words.specs.TestLaws.{and-none-left, within-is, outside_below, outside_above}
 use Rattle.datum.specs.Constant.{decimal_kind, is_constant}
 use Rattle.datum.specs.ConstantLaws.{unused-no, kind-no}
 use Rattle.recipe.specs.Table.{Item, items, by_kind, constant_of, kind_at, is_pair_item, is_item}

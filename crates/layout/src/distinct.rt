@@ -20,10 +20,7 @@ fn is_fit(table: &[u32], i: usize, low: usize) -> bool
         return false;
     }
     let number = head(table, i);
-    if number < low {
-        return true;
-    }
-    words::BASE_NAMES <= number
+    number < low || words::BASE_NAMES <= number
 }
 
 // Whether the list that item `first` begins is one of at most `most` distinct names, each below `low` or above 7. Where it

@@ -1,5 +1,5 @@
 // One item of a table: its three words, and whether they are those of its kind.
-ghost use Rattle.std.specs.Prelude.{◌≡◌, ℕ, ◌+◌, ◌*◌, ◌<◌, length, get_or};
+ghost use Rattle.std.specs.Prelude.{◌≡◌, ℕ, ◌+◌, ◌*◌, ◌<◌, length};
 ghost use Rattle.words.specs.Limits.{places_most};
 ghost use Rattle.words.specs.Lists.{within};
 ghost use Rattle.recipe.specs.Table.{kind_at, is_pair_item, is_item};
@@ -8,19 +8,10 @@ ghost use Rattle.recipe.specs.TreeFrom.{head_at, tail_at};
 ghost use Rattle.recipe.specs.Layout.{is_list_kind};
 
 // Kinds of items.
-pub const EMPTY: u32 = 0;
-
-pub const INTEGER: u32 = 1;
-
-pub const BOOLEAN: u32 = 2;
-
-pub const NAME: u32 = 3;
-
-pub const PAIR: u32 = 4;
-
-pub const DECIMAL: u32 = 5;
+pub use datum::kinds::{BOOLEAN, DECIMAL, EMPTY, INTEGER, NAME, PAIR};
 
 // Item i's three words: its kind; a constant's word, a name's number or a pair's head item; a decimal's places or a pair's tail item.
+#[tactic(auto, unfolding(recipe::specs::Table::kind_at))]
 pub fn kind(table: &[u32], i: usize) -> u32
     requires { 3 * i + 2 < length table.now }
     ensures { result ≡ kind_at table.now i }
@@ -28,36 +19,28 @@ pub fn kind(table: &[u32], i: usize) -> u32
     table[3 * i]
 }
 
-// The word at a place, as an item's number.
-fn word(table: &[u32], at: usize) -> usize
-    requires { at < length table.now }
-    ensures { result ≡ get_or table.now at 0 }
-{
-    table[at] as usize
-}
-
+#[tactic(auto, unfolding(recipe::specs::TreeFrom::head_at))]
 pub fn head(table: &[u32], i: usize) -> usize
     requires { 3 * i + 2 < length table.now }
     ensures { result ≡ head_at table.now i }
 {
-    word(table, 3 * i + 1)
+    table[3 * i + 1] as usize
 }
 
+#[tactic(auto, unfolding(recipe::specs::TreeFrom::tail_at))]
 pub fn tail(table: &[u32], i: usize) -> usize
     requires { 3 * i + 2 < length table.now }
     ensures { result ≡ tail_at table.now i }
 {
-    word(table, 3 * i + 2)
+    table[3 * i + 2] as usize
 }
 
 // The empty list or a pair.
+#[tactic(auto, unfolding(recipe::specs::Layout::is_list_kind))]
 pub fn is_list_kind(k: u32) -> bool
     ensures { result ≡ is_list_kind k }
 {
-    if k == EMPTY {
-        return true;
-    }
-    k == PAIR
+    k == EMPTY || k == PAIR
 }
 
 // A pair's references point to higher items of the n, and its tail is a list.
@@ -67,29 +50,18 @@ pub(crate) fn is_pair(table: &[u32], n: usize, i: usize) -> bool
 {
     let h = head(table, i);
     let t = tail(table, i);
-    if h <= i {
-        return false;
-    }
-    if n <= h {
-        return false;
-    }
-    if t <= i {
-        return false;
-    }
-    if n <= t {
+    if h <= i || n <= h || t <= i || n <= t {
         return false;
     }
     is_list_kind(kind(table, t))
 }
 
 // A decimal has 1 to 4 places.
+#[tactic(auto, unfolding(words::specs::Lists::within))]
 fn are_places(n: usize) -> bool
     ensures { result ≡ within 1 places_most n }
 {
-    if n < 1 {
-        return false;
-    }
-    n <= words::PLACES as usize
+    1 <= n && n <= words::PLACES as usize
 }
 
 // Item i, which is no pair, has the words of its kind, unused ones 0.

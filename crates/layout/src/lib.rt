@@ -38,19 +38,10 @@ pub fn is_layout(table: &[u32]) -> bool
     ensures { result ≡ is_layout table.now }
 {
     let n = table.len() / 3;
-    if table.len() != 3 * n {
+    if table.len() != 3 * n || n < words::LEAST_ITEMS || words::MOST_ITEMS < n {
         return false;
     }
-    if n < words::LEAST_ITEMS {
-        return false;
-    }
-    if words::MOST_ITEMS < n {
-        return false;
-    }
-    if !reference::every_item(table, n) {
-        return false;
-    }
-    begins_two(table, n)
+    reference::every_item(table, n) && begins_two(table, n)
 }
 
 // Ground 8.
@@ -66,10 +57,7 @@ fn has_room(rate: usize, n: usize, fuel: u32, length: usize) -> bool
     ensures { result ≡ leb (rate * (n + fuel)) length }
 {
     let most = length / rate;
-    if most < n {
-        return false;
-    }
-    fuel as usize <= most - n
+    n <= most && fuel as usize <= most - n
 }
 
 // Ground 9: a lent work table for n items, a lent core table for m.

@@ -17,7 +17,7 @@ fn count(counts: &mut [u16], k: usize)
     requires { (k < length counts.old) × (AtMost 65534 counts.old) }
     ensures { Counted counts.old counts.new (k ∷ []) }
 {
-    counts[k] = counts[k] + 1;
+    counts[k] += 1;
 }
 
 // Item i's words are those of its kind, n items in all; a pair's references are counted.
@@ -43,28 +43,20 @@ fn items_fit(table: &[u32], n: usize, counts: &mut [u16]) -> bool
     ensures fit { result ≡ all_of (is_item table.now n) (items 0 table.now) }
     ensures counts { result ≡ true → Referred table.now counts.new }
 {
-    let mut i = 0;
-    while i < n {
+    for i in 0..n {
         if !takes_item(table, n, i, counts) {
             return false;
         }
-        i += 1;
     }
     true
 }
 
-// Every count of the n but the first is 1. No early exit: the loop is vectorised.
+// Every count of the n but the first is 1.
 fn ones(counts: &[u16], n: usize) -> bool
     requires { (0 < n) × (n ≤ length counts.now) }
     ensures { result ≡ are_ones counts.now n }
 {
-    let mut wrong = 0;
-    let mut i = 1;
-    while i < n {
-        wrong |= counts[i] ^ 1;
-        i += 1;
-    }
-    wrong == 0
+    counts[1..n].iter().all(|count| *count == 1)
 }
 
 // Both tests, by a table of zeros with a count for each item.

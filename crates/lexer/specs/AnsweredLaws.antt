@@ -1,5 +1,6 @@
 -- Laws of the token reader: what the covered cursor tells is the definition's answer, and what a new reader gives is the token sequence of the text.
-use Rattle.std.specs.Prelude.{◌≡◌, ℕ, zero, suc, ◌+◌, ◌≤◌, ◌<◌, drop}
+use Rattle.std.specs.Prelude.{◌≡◌, ℕ, zero, suc, ◌+◌, ◌≤◌, ◌<◌, drop, Some, None, Ok}
+use Rattle.std.specs.declared.option.Option as O
 use Rattle.std.proofs.Math.Path.{refl, sym, ap}
 use Rattle.std.proofs.Common.{subst, ◌∙◌, arith}
 use mathlib.Core.List.{List, [], ◌∷◌, map, head_d}
@@ -8,8 +9,9 @@ use Rattle.std.specs.Borrow.{Bor}
 use Rattle.std.proofs.Math.ListN.{length}
 use Rattle.words.specs.Limits.{name_length_most}
 use Rattle.lexer.specs.declared.token_reader.TokenReader.{TokenReader}
-use Rattle.lexer.specs.declared.token.Token as T
-use Rattle.lexer.specs.declared.token.Token.TheVariants.{End, Open, Close, Boolean, Number, Name, Refused}
+use Rattle.lexer.specs.declared.token.Lexeme.{Lexeme}
+use Rattle.lexer.specs.declared.token.Token.TheVariants.{Name}
+use Rattle.words.specs.Parts.{part}
 use Rattle.reading.specs.Token.{Token, nothing, tokens_after, tokens}
 use Rattle.reading.specs.Offset.{start_at, token_at, next_at, before}
 use Rattle.reading.specs.Meaning.{Meaning, name, meaning_of}
@@ -17,7 +19,7 @@ use Rattle.reading.specs.RecipeText.{Means, named}
 use Rattle.reading.specs.Laws.Meanings.{is_refused}
 use Rattle.reading.proofs.Laws.MeaningsLaws.{is-meant}
 use Rattle.reading.proofs.Laws.Offsets.{tokens-from, start-low, next-high, next-later, past_end}
-use Rattle.lexer.specs.Told.{meanings_from, Took, Told}
+use Rattle.lexer.specs.Told.{meanings_from, Took, said, meaning_in, Told}
 use Rattle.lexer.specs.Answered.{meant, past_or, start_or, meaning, meaning_at, Answered, Takes, ended, further}
 
 -- ---- the meaning at an offset
@@ -65,30 +67,21 @@ module _ (text : List ℕ) (at : ℕ) where
       (sym meanings-from ∙ t.means)
       ∙ ap (λ n. some (m, n)) (sym t.ends)
 
-  took-answered : (t : T.Token) (m : Meaning) (next : ℕ) → Took text at m next → meant text t ≡ some (m, next)
-      → start_or (start_at text at) t ≡ start_at text at → Answered text at t
-  took-answered t m next w e s = record { means = e ∙ sym (took-means m next w); starts = s }
-
-  pub told-answered : (t : T.Token) → Told text at t → Answered text at t
+  pub told-answered : (o : O.Option Lexeme) → Told text at o → Answered text at o
   unfolding meaning_at
-  told-answered End w = record {
+  told-answered None w = record {
     means = sym (none-means (next_at text at) (token_at text at) (tokens_after nothing (drop (next_at text at) text)) (sym meanings-from ∙ w));
     starts = refl;
   }
-  told-answered (Open c) w = took-answered (Open c) _ c.at w refl refl
-  told-answered (Close c) w = took-answered (Close c) _ c.at w refl refl
-  told-answered (Boolean b c) w = took-answered (Boolean b c) _ c.at w refl refl
-  told-answered (Number z p c) w = took-answered (Number z p c) _ c.at w refl refl
-  told-answered (Name f c) w = took-answered (Name f c) _ c.at w.3 refl w.0
-  told-answered (Refused g c) w = took-answered (Refused g c) _ c.at w refl refl
+  told-answered (Some l) w = record { means = sym (took-means (meaning_in text l) l.next w.1); starts = w.0 }
 
-  pub past-answered : length text ≤ at → Answered text at End
+  pub past-answered : length text ≤ at → Answered text at None
   unfolding meaning_at
   past-answered h = record { means = rw (past_end text at h); starts = refl }
 
   -- ---- where an answer leads
 
-  module _ (t : T.Token) (a : Answered text at t) where
+  module _ (t : O.Option Lexeme) (a : Answered text at t) where
     -- past the token's start
     answered-later : (m : Meaning) (next : ℕ) → meant text t ≡ some (m, next) → start_at text at < next
     unfolding meaning_at
@@ -103,23 +96,13 @@ module _ (text : List ℕ) (at : ℕ) where
         let k = meant-some (next_at text at) (token_at text at) m next (sym a.means ∙ e) in omega (arith, next-high text at h, k.3)
 
     -- the offset past the answer, whatever it is
-    past-within : (u : T.Token) → t ≡ u → at ≤ length text → past_or at u ≤ length text
-    past-within End e h = h
-    past-within (Open c) e h = answered-within _ c.at (ap (meant text) e) h
-    past-within (Close c) e h = answered-within _ c.at (ap (meant text) e) h
-    past-within (Boolean b c) e h = answered-within _ c.at (ap (meant text) e) h
-    past-within (Number z p c) e h = answered-within _ c.at (ap (meant text) e) h
-    past-within (Name f c) e h = answered-within _ c.at (ap (meant text) e) h
-    past-within (Refused g c) e h = answered-within _ c.at (ap (meant text) e) h
+    past-within : (u : O.Option Lexeme) → t ≡ u → at ≤ length text → past_or at u ≤ length text
+    past-within None e h = h
+    past-within (Some l) e h = answered-within _ l.next (ap (meant text) e) h
 
-    past-later : (u : T.Token) → t ≡ u → (past_or at u ≡ at → ⊥) → start_at text at < past_or at u
-    past-later End e h = absurd (h refl)
-    past-later (Open c) e h = answered-later _ c.at (ap (meant text) e)
-    past-later (Close c) e h = answered-later _ c.at (ap (meant text) e)
-    past-later (Boolean b c) e h = answered-later _ c.at (ap (meant text) e)
-    past-later (Number z p c) e h = answered-later _ c.at (ap (meant text) e)
-    past-later (Name f c) e h = answered-later _ c.at (ap (meant text) e)
-    past-later (Refused g c) e h = answered-later _ c.at (ap (meant text) e)
+    past-later : (u : O.Option Lexeme) → t ≡ u → (past_or at u ≡ at → ⊥) → start_at text at < past_or at u
+    past-later None e h = absurd (h refl)
+    past-later (Some l) e h = answered-later _ l.next (ap (meant text) e)
 
     pub answered-past : at ≤ length text → (past_or at t ≤ length text) × ((past_or at t ≡ at → ⊥) → start_at text at < past_or at t)
     answered-past h = (past-within t refl h, past-later t refl)
@@ -158,18 +141,19 @@ module _ (text : List ℕ) (at : ℕ) where
         }
 
     -- u is the answer as it was taken apart
-    pub answered-told : at ≤ length text → (u : T.Token) → t ≡ u → Told text at u
+    pub answered-told : at ≤ length text → (u : O.Option Lexeme) → t ≡ u → Told text at u
     unfolding meanings_from
-    answered-told h End e = answered-none (ap (meant text) e)
-    answered-told h (Open c) e = answered-took h _ c.at (ap (meant text) e)
-    answered-told h (Close c) e = answered-took h _ c.at (ap (meant text) e)
-    answered-told h (Boolean b c) e = answered-took h _ c.at (ap (meant text) e)
-    answered-told h (Number z p c) e = answered-took h _ c.at (ap (meant text) e)
-    answered-told h (Name f c) e =
-        let m = ap (meant text) e in
-        let s : f ≡ start_at text at = ap (start_or (start_at text at)) (sym e) ∙ a.starts in
-        (s, omega (arith, answered-later _ c.at m), answered-name _ c.at m, answered-took h _ c.at m)
-    answered-told h (Refused g c) e = answered-took h _ c.at (ap (meant text) e)
+    answered-told h None e = answered-none (ap (meant text) e)
+    answered-told h (Some l) e = (ap (start_or (start_at text at)) (sym e) ∙ a.starts, answered-took h _ l.next (ap (meant text) e))
+
+    -- a token has a byte
+    pub answered-range : (l : Lexeme) → t ≡ Some l → l.from < l.next
+    answered-range l e =
+        omega (arith, answered-later _ l.next (ap (meant text) e), ap (start_or (start_at text at)) (sym e) ∙ a.starts)
+
+    -- a name has a length that its slot fits
+    pub answered-short : (l : Lexeme) → t ≡ Some l → l.token ≡ Ok Name → length (part l.from l.next text) ≤ name_length_most
+    answered-short l e n = answered-name (part l.from l.next text) l.next (ap (meant text) e ∙ ap (λ k. some (said (part l.from l.next text) k, l.next)) n)
 
 -- ---- one token after another
 
@@ -189,7 +173,7 @@ reader-takes text r ms e w =
     ∙ ap (λ n. map meaning_of (tokens_after nothing (drop n text.now))) e.1
 
 -- and where every offset has an answer, as `token` promises, the taking comes to an end
-module _ (text : Bor (List ℕ)) (answers : (at : ℕ) → (t : T.Token) × Answered text.now at t) where
+module _ (text : Bor (List ℕ)) (answers : (at : ℕ) → (t : O.Option Lexeme) × Answered text.now at t) where
   abbrev reader_at : ℕ → TokenReader
   reader_at at = record { text = text; at = at }
 

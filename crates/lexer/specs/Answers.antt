@@ -1,19 +1,19 @@
 -- What the code's enums say in document 01's terms.
-use Rattle.std.specs.Prelude.{◌≡◌, Bool, cond, List, ℕ, min, length, take}
+use Rattle.std.specs.Prelude.{◌≡◌, Bool, cond, List, ℕ, min, length, take, Result, Ok, Err}
 use Rattle.std.specs.Int.{w32}
 use Rattle.std.proofs.Common.{of_z}
-use Rattle.lexer.specs.declared.number.Numeral.{Numeral}
-use Rattle.lexer.specs.declared.number.Numeral.TheVariants.{Value, Malformed, OutOfRange}
+use Rattle.words.specs.Code.Ground.{number_of}
+use Rattle.words.specs.declared.ground.Ground.{Ground}
+use Rattle.lexer.specs.declared.number.Number.{Number}
 use Rattle.lexer.specs.declared.number.Digits.{Digits}
 use Rattle.reading.specs.Token.{is_digit}
 use Rattle.reading.specs.Offset.{leading}
 use Rattle.reading.specs.Meaning.{Meaning, constant, refused, are_places, value_from, number, signed}
 
 -- a number's run: its value and places, or ground 3 or 4
-abbrev pub numeral_meaning : Numeral → Meaning
-numeral_meaning (Value z p) = constant (number (of_z w32 z) p)
-numeral_meaning Malformed = refused 3
-numeral_meaning OutOfRange = refused 4
+abbrev pub numeral_meaning : Result Number Ground → Meaning
+numeral_meaning (Ok n) = constant (number (of_z w32 n.value) n.places)
+numeral_meaning (Err g) = refused (number_of g)
 
 -- the digits that a run begins with, how many and what they spell after a number, as far as that is in range
 pub record DigitsAfter (before : ℕ) (run : List ℕ) (r : Digits) : Type 0 where

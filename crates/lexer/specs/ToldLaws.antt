@@ -1,5 +1,5 @@
 -- Laws of taking a token, one for each way through the code.
-use Rattle.std.specs.Prelude.{◌≡◌, refl, true, false, not, ℕ, suc, ◌+◌, ◌-◌, ◌≤◌, ◌<◌, eqb, get_or, take, drop}
+use Rattle.std.specs.Prelude.{◌≡◌, refl, true, false, not, ℕ, suc, ◌+◌, ◌-◌, ◌≤◌, ◌<◌, eqb, get_or, take, drop, Some}
 use Rattle.std.proofs.Common.{sym, subst, ◌∙◌, arith, add-one, drop-cons}
 use Rattle.std.proofs.Math.Path.{ap}
 use Rattle.std.proofs.Math.Bool.{and-true, and-false}
@@ -12,16 +12,14 @@ use Rattle.words.specs.Parts.{part}
 use Rattle.words.specs.TestLaws.{and_left, and_right, within-most}
 use Rattle.words.specs.ListLaws.{all_append, part-more, part-split, length_part}
 use Rattle.words.specs.Text.{bytes}
-use Rattle.datum.specs.Constant.{boolean}
 use Rattle.reading.specs.Token.{foreign, run, nothing, hash, is_digit, is_running, is_separating, class_of, flag_of, alone, completed, begun, next, ended, tokens_after}
-use Rattle.reading.specs.Meaning.{Meaning, begins, ends, constant, refused, meaning_of, is_name}
+use Rattle.reading.specs.Meaning.{Meaning, begins, ends, refused, meaning_of, is_name}
 use Rattle.reading.specs.RecipeText.{EndsRun, at_end, before}
 use Rattle.reading.specs.Offset.{leading, width_of, first_width, start_at, next_at}
 use Rattle.reading.proofs.Laws.Offsets.{leading-append, leading-more, leading-stops, leading-ends}
 use Rattle.reading.specs.Laws.Tokens.{class-running, separator-skipped, run-taken}
-use Rattle.lexer.specs.Told.{meanings_from, Skipped, RunTo, Took, Told, RunTold, FlagTook, FlagTold}
-use Rattle.lexer.specs.declared.token.Token as T
-use Rattle.lexer.specs.declared.token.Token.TheVariants.{End, Open, Close, Boolean, Number, Name, Refused}
+use Rattle.lexer.specs.Told.{meanings_from, Skipped, RunTo, Told, Stands, Lexed}
+use Rattle.lexer.specs.declared.token.Lexeme.{Lexeme}
 
 -- ---- names
 
@@ -91,11 +89,11 @@ module _ (text : List ℕ) (at : ℕ) (h : at < length text) where
   unfolding meanings_from first_width width_of tokens_after completed next alone begun class_of is_running is_digit is_separating within any_of bytes meaning_of
   closing-taken e = (rw (here, e), rw (here, e))
 
-  pub sharp-taken : get_or text at 0 ≡ 35 → meanings_from text at ≡ map meaning_of (tokens_after hash (drop (at + 1) text))
+  sharp-taken : get_or text at 0 ≡ 35 → meanings_from text at ≡ map meaning_of (tokens_after hash (drop (at + 1) text))
   unfolding meanings_from tokens_after completed next alone begun class_of is_running is_digit is_separating within any_of bytes meaning_of
   sharp-taken e = rw (here, e)
 
-  pub sharp-width : get_or text at 0 ≡ 35 → first_width (drop at text) ≡ suc (length (take 1 (drop (at + 1) text)))
+  sharp-width : get_or text at 0 ≡ 35 → first_width (drop at text) ≡ suc (length (take 1 (drop (at + 1) text)))
   unfolding first_width width_of class_of is_running is_digit is_separating within any_of bytes
   sharp-width e = rw (here, e)
 
@@ -107,21 +105,18 @@ module _ (text : List ℕ) (at : ℕ) (h : at < length text) where
       let k : class_of (get_or text at 0) ≡ foreign = foreign-class (get_or text at 0) r s o c p in
       (rw (here, k), rw (here, k))
 
+  -- a token that takes one byte
+  pub byte-stands : (m : Meaning) → (meanings_from text at ≡ m ∷ meanings_from text (at + 1)) × (first_width (drop at text) ≡ 1)
+      → Stands text at m (at + 1)
+  byte-stands m t = record { low = omega arith; high = omega arith; means = t.0; ends = rw t.1 }
+
   -- behind a #
-  flag-took : (m : Meaning) → map meaning_of (tokens_after hash (drop at text)) ≡ m ∷ meanings_from text (at + 1) → FlagTook text at m (at + 1)
-  flag-took m e = record { ends = rw here (omega arith); high = omega arith; means = e }
+  flag_means : map meaning_of (tokens_after hash (drop at text)) ≡ meaning_of (flag_of (get_or text at 0)) ∷ meanings_from text (at + 1)
+  unfolding meanings_from tokens_after completed next
+  flag_means = rw here
 
-  pub true-taken : get_or text at 0 ≡ 116 → FlagTook text at (constant (boolean 1)) (at + 1)
-  unfolding meanings_from tokens_after completed next flag_of meaning_of
-  true-taken e = flag-took (constant (boolean 1)) (rw (here, e))
-
-  pub false-taken : get_or text at 0 ≡ 102 → FlagTook text at (constant (boolean 0)) (at + 1)
-  unfolding meanings_from tokens_after completed next flag_of meaning_of
-  false-taken e = flag-took (constant (boolean 0)) (rw (here, e))
-
-  pub no_flag : (get_or text at 0 ≡ 116 → ⊥) → (get_or text at 0 ≡ 102 → ⊥) → FlagTook text at (refused 3) (at + 1)
-  unfolding meanings_from tokens_after completed next flag_of meaning_of
-  no_flag t f = flag-took (refused 3) (rw (here, ne_eqb _ _ t, ne_eqb _ _ f))
+  flag_width : length (take 1 (drop at text)) ≡ 1
+  flag_width = rw here
 
 -- ---- the end
 
@@ -134,12 +129,34 @@ module _ (text : List ℕ) (at : ℕ) (e : at ≡ length text) where
   unfolding start_at
   end-start = leading-ends is_separating text at e
 
-  pub end-flag : FlagTook text at (refused 3) at
+  end_flag : map meaning_of (tokens_after hash (drop at text)) ≡ refused 3 ∷ meanings_from text at
   unfolding meanings_from tokens_after ended meaning_of
-  end-flag = record { ends = rw (e, drop-length) (omega arith); high = omega arith; means = rw (e, drop-length) }
+  end_flag = rw (e, drop-length)
+
+  end_width : length (take 1 (drop at text)) ≡ 0
+  end_width = rw (e, drop-length)
 
   pub end-stops : EndsRun (drop at text)
   end-stops = rw (e, drop-length) at_end
+
+-- ---- a #
+
+module _ (text : List ℕ) (at : ℕ) (h : at < length text) (e : get_or text at 0 ≡ 35) where
+  pub flag-stands : at + 1 < length text → Stands text at (meaning_of (flag_of (get_or text (at + 1) 0))) (at + 1 + 1)
+  flag-stands k = record {
+    low = omega arith;
+    high = omega arith;
+    means = sharp-taken text at h e ∙ flag_means text (at + 1) k;
+    ends = rw (sharp-width text at h e) (omega (arith, flag_width text (at + 1) k));
+  }
+
+  pub flag-alone : at + 1 ≡ length text → Stands text at (refused 3) (at + 1)
+  flag-alone k = record {
+    low = omega arith;
+    high = omega arith;
+    means = sharp-taken text at h e ∙ end_flag text (at + 1) k;
+    ends = rw (sharp-width text at h e) (omega (arith, end_width text (at + 1) k));
+  }
 
 -- ---- runs
 
@@ -183,44 +200,19 @@ module _ (text : List ℕ) (at to : ℕ) (r : RunTo text at to) where
       ap first_width (part-split at to text r.low)
       ∙ width-run (part at to text) (drop to text) (omega (arith, n)) r.runs r.stops ∙ n
 
+  pub run-stands : at < to → (m : Meaning) → m ≡ meaning_of (run (part at to text)) → Stands text at m to
+  run-stands h m e = record {
+    low = h;
+    high = r.high;
+    means = run-means h ∙ ap (λ k. k ∷ meanings_from text to) (sym e);
+    ends = rw (run-width h) (omega (arith, r.low));
+  }
+
 -- ---- past the separators
 
 module _ (text : List ℕ) (from at : ℕ) (s : Skipped text from at) where
-  pub took-skipped : (m : Meaning) (next : ℕ) → at < next → next ≤ length text → meanings_from text at ≡ m ∷ meanings_from text next
-      → next ≡ at + first_width (drop at text) → Took text from m next
+  pub skipped-told : (l : Lexeme) → Lexed text at l → Told text from (Some l)
   unfolding next_at
-  took-skipped m next l h e w = record { low = omega (arith, s.low); high = h; means = s.same ∙ e; ends = rw s.start w }
-
-  -- a token of one byte
-  pub byte-skipped : (m : Meaning) → at < length text → (meanings_from text at ≡ m ∷ meanings_from text (at + 1)) × (first_width (drop at text) ≡ 1)
-      → Took text from m (at + 1)
-  byte-skipped m h t = took-skipped m (at + 1) (omega arith) (omega arith) t.0 (rw t.1)
-
-  -- the answer for a run that begins there
-  run-took : (to : ℕ) → RunTo text at to → at < to → (m : Meaning) → meaning_of (run (part at to text)) ≡ m → Took text from m to
-  run-took to r l m e =
-      took-skipped m to l r.high (run-means text at to r l ∙ ap (λ k. k ∷ meanings_from text to) e) (rw (run-width text at to r l) (omega arith))
-
-  pub run-told : (to : ℕ) → RunTo text at to → at < to → (t : T.Token) → RunTold text at to t → Told text from t
-  run-told to r l End w = absurd w
-  run-told to r l (Open c) w = absurd w
-  run-told to r l (Close c) w = absurd w
-  run-told to r l (Boolean b c) w = absurd w
-  run-told to r l (Number z p c) w = rw w.0 (run-took to r l _ w.1)
-  run-told to r l (Name f c) w = rw (w.0, w.1) (sym s.start, l, w.2, run-took to r l _ w.3)
-  run-told to r l (Refused g c) w = rw w.0 (run-took to r l _ w.1)
-
-  -- the answer for a # that stands there
-  flag-skipped : at < length text → get_or text at 0 ≡ 35 → (m : Meaning) (next : ℕ) → FlagTook text (at + 1) m next → Took text from m next
-  flag-skipped h e m next w =
-      took-skipped m next (omega (arith, w.ends)) w.high (sharp-taken text at h e ∙ w.means)
-      (rw (sharp-width text at h e) (omega (arith, w.ends)))
-
-  pub flag-told : at < length text → get_or text at 0 ≡ 35 → (t : T.Token) → FlagTold text (at + 1) t → Told text from t
-  flag-told h e End w = absurd w
-  flag-told h e (Open c) w = absurd w
-  flag-told h e (Close c) w = absurd w
-  flag-told h e (Boolean b c) w = flag-skipped h e _ c.at w
-  flag-told h e (Number z p c) w = absurd w
-  flag-told h e (Name f c) w = absurd w
-  flag-told h e (Refused g c) w = flag-skipped h e _ c.at w
+  skipped-told l w =
+      let k = w.1 in
+      (w.0 ∙ sym s.start, record { low = omega (arith, s.low, k.low); high = k.high; means = s.same ∙ k.means; ends = rw s.start k.ends })

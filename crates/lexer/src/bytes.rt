@@ -2,10 +2,11 @@
 ghost use Rattle.std.specs.Prelude.{◌≡◌};
 ghost use Rattle.reading.specs.Token.{is_digit, is_running, is_separating};
 
+#[tactic(auto, unfolding(reading::specs::Token::is_digit, words::specs::Lists::within))]
 pub fn is_digit(b: u8) -> bool
     ensures { result ≡ is_digit b }
 {
-    b'0' <= b && b <= b'9'
+    b.is_ascii_digit()
 }
 
 pub fn is_running(b: u8) -> bool
@@ -22,11 +23,9 @@ pub fn is_running(b: u8) -> bool
     }
 }
 
+#[tactic(auto, unfolding(reading::specs::Token::is_separating, words::specs::Lists::any_of, words::specs::Text::bytes))]
 pub fn is_separating(b: u8) -> bool
     ensures { result ≡ is_separating b }
 {
-    match b {
-        b' ' | b'\t' | b'\n' | b'\r' => true,
-        _ => false,
-    }
+    matches!(b, b' ' | b'\t' | b'\n' | b'\r')
 }

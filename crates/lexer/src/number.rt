@@ -5,23 +5,17 @@ ghost use Rattle.reading.specs.Meaning.{is_negative, unsigned, is_numeral, signe
 ghost use Rattle.lexer.specs.Answers.{numeral_meaning, DigitsAfter, behind_dot};
 
 use crate::bytes::is_digit;
+use words::ground::Ground;
 
-// What a run that starts as a number is.
+// A number by its value without the dot and its places, of which an integer has none.
 #[derive(Clone, Copy)]
-pub enum Numeral {
-    Value(i32, u32),
-    Malformed,
-    OutOfRange,
+pub struct Number {
+    pub value: i32,
+    pub places: u32,
 }
 
 // One more than the largest number without its sign.
 const BEYOND: u64 = 2147483649;
-
-fn wide(b: u8) -> u64
-    ensures { result ≡ b }
-{
-    b as u64
-}
 
 // The digits that a run begins with: how many, and the number that they spell after another, or the one beyond all.
 #[derive(Clone, Copy)]
@@ -36,7 +30,7 @@ fn appended(value: u64, digit: u8) -> u64
     requires digit_value { is_digit digit ≡ true }
     ensures { result ≡ min (10 * value + (digit - 48)) 2147483649 }
 {
-    let next = 10 * value + (wide(digit) - 48);
+    let next = 10 * value + (u64::from(digit) - 48);
     if BEYOND < next {
         return BEYOND;
     }
@@ -49,34 +43,41 @@ fn digits_after(before: u64, run: &[u8]) -> Digits
     ensures { DigitsAfter before run.now result }
 {
     let mut value = before;
-    let mut i = 0;
-    while i < run.len() {
+    for i in 0..run.len() {
         if !is_digit(run[i]) {
             return Digits { count: i, value };
         }
         value = appended(value, run[i]);
-        i += 1;
     }
-    Digits { count: i, value }
+    Digits {
+        count: run.len(),
+        value,
+    }
 }
 
 // A number with its sign; no sum passes the range.
-fn signed(negative: bool, size: u64, places: u32) -> Numeral
+fn signed(negative: bool, size: u64, places: u32) -> Result<Number, Ground>
     ensures { numeral_meaning result ≡ signed negative size places }
 {
     if !negative {
         if 2147483647 < size {
-            return Numeral::OutOfRange;
+            return Err(Ground::NumberOutOfRange);
         }
-        return Numeral::Value(size as i32, places);
+        return Ok(Number {
+            value: size as i32,
+            places,
+        });
     }
     if 2147483648 < size {
-        return Numeral::OutOfRange;
+        return Err(Ground::NumberOutOfRange);
     }
     if size == 0 {
-        return Numeral::Value(0, places);
+        return Ok(Number { value: 0, places });
     }
-    Numeral::Value(-1 - (size - 1) as i32, places)
+    Ok(Number {
+        value: -1 - (size - 1) as i32,
+        places,
+    })
 }
 
 // The run starts with a digit, or with a minus and a digit.
@@ -96,25 +97,25 @@ pub fn is_numeral(word: &[u8]) -> bool
 }
 
 // What stands behind the dot of a number is its places: one to four digits.
-fn decimal_of(negative: bool, whole: u64, places: &[u8]) -> Numeral
+fn decimal_of(negative: bool, whole: u64, places: &[u8]) -> Result<Number, Ground>
     requires { whole ≤ 2147483649 }
     ensures { numeral_meaning result ≡ behind_dot negative whole places.now }
 {
     if places.len() == 0 {
-        return Numeral::Malformed;
+        return Err(Ground::BadToken);
     }
     if (words::PLACES as usize) < places.len() {
-        return Numeral::Malformed;
+        return Err(Ground::BadToken);
     }
     let digits = digits_after(whole, places);
     if digits.count != places.len() {
-        return Numeral::Malformed;
+        return Err(Ground::BadToken);
     }
     signed(negative, digits.value, digits.count as u32)
 }
 
 // The number that a run past its minus is.
-fn unsigned_of(negative: bool, word: &[u8]) -> Numeral
+fn unsigned_of(negative: bool, word: &[u8]) -> Result<Number, Ground>
     ensures { numeral_meaning result ≡ numeral_of negative word.now }
 {
     let whole = digits_after(0, word);
@@ -123,13 +124,13 @@ fn unsigned_of(negative: bool, word: &[u8]) -> Numeral
         return signed(negative, whole.value, 0);
     }
     if word[dot] != b'.' {
-        return Numeral::Malformed;
+        return Err(Ground::BadToken);
     }
     decimal_of(negative, whole.value, &word[dot + 1..])
 }
 
 // The number that a run starting as one is.
-pub fn numeral_of(word: &[u8]) -> Numeral
+pub fn numeral_of(word: &[u8]) -> Result<Number, Ground>
     requires { 1 ≤ length word.now }
     ensures { numeral_meaning result ≡ numeral_of (is_negative word.now) (unsigned word.now) }
 {

@@ -1,28 +1,29 @@
-// Tokens, taken from the text one after another by a cursor.
-ghost use Rattle.std.specs.Prelude.{◌≡◌, ◌≤◌, ◌<◌, length};
-ghost use Rattle.reading.specs.Meaning.{is_name};
-ghost use Rattle.lexer.specs.Told.{Skipped, RunTo, Told, RunTold, FlagTold};
+// Tokens, taken from the text one after another.
+ghost use Rattle.std.specs.Prelude.{◌≡◌, ◌≢◌, ◌+◌, ◌≤◌, ◌<◌, true, false, [], List, ℕ, length, get_or};
+ghost use Rattle.reading.specs.Token.{flag_of, is_separating, run};
+ghost use Rattle.reading.specs.Meaning.{is_name, meaning_of};
+ghost use Rattle.lexer.specs.Told.{Skipped, RunTo, said, Lexed, Told};
 
 use crate::bytes::{is_running, is_separating};
-use crate::number::{Numeral, is_numeral, numeral_of};
+use crate::number::{Number, is_numeral, numeral_of};
+use words::ground::Ground;
 
-// A place in the text.
-#[derive(Clone, Copy)]
-pub struct Cursor {
-    pub at: usize,
-}
-
-// What stands at a cursor, with the cursor past it. A number has its value without the dot and its places, of which an integer has
-// none; a name starts at its first field; what is refused has its ground.
+// What a token is.
 #[derive(Clone, Copy)]
 pub enum Token {
-    End,
-    Open(Cursor),
-    Close(Cursor),
-    Boolean(u32, Cursor),
-    Number(i32, u32, Cursor),
-    Name(usize, Cursor),
-    Refused(u32, Cursor),
+    Open,
+    Close,
+    Boolean(bool),
+    Number(Number),
+    Name,
+}
+
+// A token, or the ground on which it is refused: where it starts, and where the next one is looked for.
+#[derive(Clone, Copy)]
+pub struct Lexeme {
+    pub from: usize,
+    pub token: Result<Token, Ground>,
+    pub next: usize,
 }
 
 // Past the separators.
@@ -30,14 +31,12 @@ pub fn skip(text: &[u8], from: usize) -> usize
     requires { from ≤ length text.now }
     ensures { Skipped text.now from result }
 {
-    let mut at = from;
-    while at < text.len() {
+    for at in from..text.len() {
         if !is_separating(text[at]) {
             return at;
         }
-        at += 1;
     }
-    at
+    text.len()
 }
 
 // The end of the longest run.
@@ -45,14 +44,12 @@ fn run_end(text: &[u8], from: usize) -> usize
     requires { from ≤ length text.now }
     ensures { RunTo text.now from result }
 {
-    let mut at = from;
-    while at < text.len() {
+    for at in from..text.len() {
         if !is_running(text[at]) {
             return at;
         }
-        at += 1;
     }
-    at
+    text.len()
 }
 
 // A run that does not start as a number is a name: 1 to 63 bytes, no single dot.
@@ -72,64 +69,104 @@ fn is_name(word: &[u8]) -> bool
 }
 
 // The token that a run is.
-fn run_token(text: &[u8], from: usize, to: usize) -> Token
-    requires { (from < to) × (to ≤ length text.now) }
-    ensures { RunTold text.now from to result }
+fn run_token(word: &[u8]) -> Result<Token, Ground>
+    requires { 1 ≤ length word.now }
+    ensures { said word.now result ≡ meaning_of (run word.now) }
 {
-    let word = &text[from..to];
-    if !is_numeral(word) {
-        if is_name(word) {
-            return Token::Name(from, Cursor { at: to });
-        }
-        return Token::Refused(3, Cursor { at: to });
+    if is_numeral(word) {
+        return Ok(Token::Number(numeral_of(word)?));
     }
-    match numeral_of(word) {
-        Numeral::Value(z, places) => Token::Number(z, places, Cursor { at: to }),
-        Numeral::Malformed => Token::Refused(3, Cursor { at: to }),
-        Numeral::OutOfRange => Token::Refused(4, Cursor { at: to }),
+    if is_name(word) {
+        return Ok(Token::Name);
     }
+    Err(Ground::BadToken)
 }
 
-// #t or #f, past the #.
-fn flag_at(text: &[u8], at: usize) -> Token
-    requires { at ≤ length text.now }
-    ensures { FlagTold text.now at result }
+// The longest run from a place on; where there is none, the byte there is refused.
+fn run_at(text: &[u8], at: usize) -> Lexeme
+    requires in_text { at < length text.now }
+    requires no_separator { is_separating (get_or text.now at 0) ≡ false }
+    requires alone { (get_or text.now at 0 ≢ 40) × (get_or text.now at 0 ≢ 41) × (get_or text.now at 0 ≢ 35) }
+    ensures { Lexed text.now at result }
 {
-    if at == text.len() {
-        return Token::Refused(3, Cursor { at });
-    }
-    let next = Cursor { at: at + 1 };
-    if text[at] == b't' {
-        return Token::Boolean(1, next);
-    }
-    if text[at] == b'f' {
-        return Token::Boolean(0, next);
-    }
-    Token::Refused(3, next)
-}
-
-// The first token from a cursor on.
-pub fn token_at(text: &[u8], cursor: Cursor) -> Token
-    requires { cursor.at ≤ length text.now }
-    ensures { Told text.now cursor.at result }
-{
-    let at = skip(text, cursor.at);
-    if text.len() <= at {
-        return Token::End;
-    }
-    let b = text[at];
-    if b == b'(' {
-        return Token::Open(Cursor { at: at + 1 });
-    }
-    if b == b')' {
-        return Token::Close(Cursor { at: at + 1 });
-    }
-    if b == b'#' {
-        return flag_at(text, at + 1);
-    }
     let to = run_end(text, at);
     if to == at {
-        return Token::Refused(3, Cursor { at: at + 1 });
+        return Lexeme {
+            from: at,
+            token: Err(Ground::BadToken),
+            next: at + 1,
+        };
     }
-    run_token(text, at, to)
+    Lexeme {
+        from: at,
+        token: run_token(&text[at..to]),
+        next: to,
+    }
+}
+
+// What a byte behind a # makes of it: #t and #f are tokens.
+#[tactic(auto, unfolding(reading::specs::Token::flag_of, reading::specs::Meaning::meaning_of))]
+fn flag_of(b: u8) -> Result<Token, Ground>
+    ensures { (word : List ℕ) → said word result ≡ meaning_of (flag_of b) }
+{
+    match b {
+        b't' => Ok(Token::Boolean(true)),
+        b'f' => Ok(Token::Boolean(false)),
+        _ => Err(Ground::BadToken),
+    }
+}
+
+// A #, with the byte behind it where there is one.
+fn flag_at(text: &[u8], at: usize) -> Lexeme
+    requires { (at < length text.now) × (get_or text.now at 0 ≡ 35) }
+    ensures { Lexed text.now at result }
+{
+    let behind = at + 1;
+    if behind == text.len() {
+        return Lexeme {
+            from: at,
+            token: Err(Ground::BadToken),
+            next: behind,
+        };
+    }
+    Lexeme {
+        from: at,
+        token: flag_of(text[behind]),
+        next: behind + 1,
+    }
+}
+
+// The token at a place where one stands.
+fn lexeme_at(text: &[u8], at: usize) -> Lexeme
+    requires in_text { at < length text.now }
+    requires no_separator { is_separating (get_or text.now at 0) ≡ false }
+    ensures { Lexed text.now at result }
+{
+    let next = at + 1;
+    match text[at] {
+        b'(' => Lexeme {
+            from: at,
+            token: Ok(Token::Open),
+            next,
+        },
+        b')' => Lexeme {
+            from: at,
+            token: Ok(Token::Close),
+            next,
+        },
+        b'#' => flag_at(text, at),
+        _ => run_at(text, at),
+    }
+}
+
+// The first token from a place on.
+pub fn token_at(text: &[u8], from: usize) -> Option<Lexeme>
+    requires { from ≤ length text.now }
+    ensures { Told text.now from result }
+{
+    let at = skip(text, from);
+    if at == text.len() {
+        return None;
+    }
+    Some(lexeme_at(text, at))
 }

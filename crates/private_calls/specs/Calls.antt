@@ -15,8 +15,7 @@ use Rattle.expansion.specs.Run.{stage_of, run}
 use Rattle.expansion.proofs.RunLaws.{begun-stage, shows-begun}
 use Rattle.private_names.specs.Statement.{Choice, is_old_item, renamed, is_reached_at, hypotheses, Answer, answer_of, formal_number, core_with, answer_with, PrivateNames}
 use Rattle.private_names_proof.proofs.Claim.{private-names}
-use Rattle.expander.specs.declared.Expansion.{Expansion}
-use Rattle.expander.specs.Service.{Numbers, numbers_of, ground_of, run_numbers, core_after, work_after, Served}
+use Rattle.expander.specs.Service.{Expansion, Numbers, numbers_of, ground_of, run_numbers, core_after, work_after, Served}
 
 -- ---- two calls
 

@@ -10,8 +10,7 @@ use Rattle.private_names.specs.Statement.{is_item_of, renumber, renamed, hypothe
 use Rattle.private_names.specs.Demand3.{Whenever, second}
 use Rattle.private_names_proof.specs.Said.{Tested, tested}
 use Rattle.private_names_proof.proofs.SaidLaws.{whenever}
-use Rattle.expander.specs.declared.Expansion.{Expansion}
-use Rattle.expander.specs.Service.{numbers_of, Served}
+use Rattle.expander.specs.Service.{Expansion, numbers_of, Served}
 use Rattle.private_calls.specs.Calls.{private-calls}
 
 -- what a call leaves in its core table: the first run's term, with number n where a copy stands

@@ -1,23 +1,16 @@
-// One token after another: each is placed, or turns the text back.
-ghost use Rattle.std.specs.Prelude.{◌≡◌, ◌≤◌, length};
-ghost use Rattle.words.specs.Limits.{items_most, name_length_most};
-ghost use Rattle.reader.specs.Code.Placed.{Sound, NamesSound, NamePut, NumberKind};
-ghost use Rattle.reader.specs.Code.Moved.{moved_by, finish_of, Advanced};
+// What is done with a token: it is placed, or turns the text back.
+ghost use Rattle.std.specs.Prelude.{◌≡◌, ◌≤◌, length, Ok};
+ghost use Rattle.words.specs.Limits.{name_length_most};
+ghost use Rattle.words.specs.Parts.{part};
+ghost use Rattle.lexer.specs.declared.token.Token.TheVariants.{Name};
+ghost use Rattle.lexer.specs.Told.{meaning_in};
+ghost use Rattle.reader.specs.Code.Placed.{Sound, NamesSound, NamePut, NumberKind, Taken};
 
 use crate::names::{bucket_of, enter, find};
-use crate::place::{Place, Step, close_list, ground_at, is_complete, open_list, put_token};
+use crate::place::{Place, close_list, open_list, put_token};
 use datum::kinds;
-use lexer::token::{Cursor, Token};
-use lexer::token_reader::token_from;
-use words::signed::to_word;
-
-// What reading does next: it goes on from a place and a cursor, is done with so many items and names, or turns the text back.
-#[derive(Clone, Copy)]
-pub enum Move {
-    On(Place, Cursor),
-    Done(usize, usize),
-    Refused(u32),
-}
+use lexer::token::{Lexeme, Token};
+use words::ground::Ground;
 
 // A name, by the number it has or the next one.
 fn put_name(
@@ -26,7 +19,7 @@ fn put_name(
     index: &mut [u16],
     place: Place,
     word: &[u8],
-) -> Step
+) -> Result<Place, Ground>
     requires sound { Sound place (length items.old) }
     requires names_sound { NamesSound place names.old index.old }
     requires word_len_bound { length word.now ≤ name_length_most }
@@ -37,9 +30,7 @@ fn put_name(
     if number < place.known {
         return put_token(items, place, kinds::NAME, number as u32, 0, place.known);
     }
-    if number == words::NAMES {
-        return Step::Refused(ground_at(place, number + 1, place.depth));
-    }
+    place.begins(number + 1, place.depth)?;
     enter(names, index, number, word, bucket);
     put_token(items, place, kinds::NAME, number as u32, 0, number + 1)
 }
@@ -49,65 +40,44 @@ fn number_kind(places: u32) -> u32
     ensures { NumberKind places result }
 {
     if places == 0 {
-        return 1;
-    }
-    5
-}
-
-// A step, with the cursor past its token.
-fn moved(step: Step, next: Cursor) -> Move
-    ensures { result ≡ moved_by step next }
-{
-    match step {
-        Step::Went(place) => Move::On(place, next),
-        Step::Refused(ground) => Move::Refused(ground),
+        kinds::INTEGER
+    } else {
+        kinds::DECIMAL
     }
 }
 
-// The end of the text: ground 5 where a list is open or an element missing.
-fn finish(place: Place) -> Move
-    requires { place.next ≤ items_most }
-    ensures { result ≡ finish_of place }
-{
-    if !is_complete(place) {
-        return Move::Refused(5);
-    }
-    Move::Done(place.next + 1, place.known)
-}
-
-// The next token, taken.
-pub fn advance(
+// A token, taken.
+pub fn take(
     text: &[u8],
-    cursor: Cursor,
+    lexeme: Lexeme,
     place: Place,
     items: &mut [u32],
     names: &mut [u8],
     index: &mut [u16],
-) -> Move
-    requires at_in_bounds { cursor.at ≤ length text.now }
+) -> Result<Place, Ground>
+    requires in_text { (lexeme.from ≤ lexeme.next) × (lexeme.next ≤ length text.now) }
+    requires short { lexeme.token ≡ Ok Name → length (part lexeme.from lexeme.next text.now) ≤ name_length_most }
     requires sound { Sound place (length items.old) }
     requires names_sound { NamesSound place names.old index.old }
-    ensures { Advanced text.now cursor.at place items.old items.new names.old names.new index.old index.new result }
+    ensures { Taken (meaning_in text.now lexeme) place items.old items.new names.old names.new index.old index.new result }
 {
-    match token_from(text, cursor.at) {
-        Token::End => finish(place),
-        Token::Refused(ground, _) => Move::Refused(ground),
-        Token::Open(next) => moved(open_list(items, place), next),
-        Token::Close(next) => moved(close_list(items, place), next),
-        Token::Boolean(b, next) => moved(
-            put_token(items, place, kinds::BOOLEAN, b, 0, place.known),
-            next,
-        ),
-        Token::Number(z, places, next) => {
-            let kind = number_kind(places);
-            moved(
-                put_token(items, place, kind, to_word(z), places, place.known),
-                next,
+    match lexeme.token? {
+        Token::Open => open_list(items, place),
+        Token::Close => close_list(items, place),
+        Token::Boolean(b) => {
+            put_token(items, place, kinds::BOOLEAN, u32::from(b), 0, place.known)
+        }
+        Token::Number(n) => {
+            let kind = number_kind(n.places);
+            put_token(
+                items,
+                place,
+                kind,
+                n.value.cast_unsigned(),
+                n.places,
+                place.known,
             )
         }
-        Token::Name(from, next) => {
-            let to = next.at;
-            moved(put_name(items, names, index, place, &text[from..to]), next)
-        }
+        Token::Name => put_name(items, names, index, place, &text[lexeme.from..lexeme.next]),
     }
 }

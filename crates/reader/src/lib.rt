@@ -9,21 +9,21 @@ ghost use Rattle.reader.specs.Code.Stored.{NameTable};
 ghost use Rattle.reader.specs.Code.Reached.{Ended};
 ghost use Rattle.reader.specs.Served.{ServedElements, Served};
 
-use crate::element::{Move, advance};
+use crate::element::take;
 use crate::names::{ENTRIES, enter_base};
 use crate::place::Place;
-use lexer::token::Cursor;
-use words::tables::{zero_bytes, zero_words};
+use lexer::token_reader::token_from;
+use words::ground::Ground;
 
 mod element; // one token after another
 pub mod names; // the name table and its index
 mod place; // where reading stands
 
-// The answer: item and name counts, or the ground.
+// Of a text that is read: how many items and names it has.
 #[derive(Clone, Copy)]
-pub enum Reading {
-    Read { items: usize, names: usize },
-    Refused(u32),
+pub struct Counts {
+    pub items: usize,
+    pub names: usize,
 }
 
 // All tokens of a text that has so many elements, into items that are zero and names that are the eight, with their index.
@@ -33,42 +33,33 @@ fn read_text(
     names: &mut [u8],
     index: &mut [u16],
     wanted: usize,
-) -> Reading
+) -> Result<Counts, Ground>
     requires item_words_least_in_bounds { (item_words_least ≤ length items.old) × (items.old ≡ replicate (length items.old) 0) }
     requires name_table { NameTable base_names names.old index.old }
     ensures { Ended wanted text.now items.new names.new result }
 {
-    let mut cursor = Cursor { at: 0 };
+    let mut at = 0;
     let mut place = Place {
         next: 0,
         pair: 0,
         depth: 0,
         count: 0,
         missing: wanted,
-        known: 8,
+        known: words::BASE_NAMES,
     };
-    loop {
-        match advance(text, cursor, place, items, names, index) {
-            Move::On(p, c) => {
-                place = p;
-                cursor = c;
-            }
-            Move::Done(i, n) => {
-                return Reading::Read { items: i, names: n };
-            }
-            Move::Refused(ground) => {
-                return Reading::Refused(ground);
-            }
-        }
+    while let Some(lexeme) = token_from(text, at) {
+        place = take(text, lexeme, place, items, names, index)?;
+        at = lexeme.next;
     }
+    place.counts()
 }
 
 // Both tables wholly zero.
 fn clear(items: &mut [u32], names: &mut [u8])
     ensures { (items.new ≡ replicate (length items.old) 0) × (names.new ≡ replicate (length names.old) 0) }
 {
-    zero_words(items);
-    zero_bytes(names);
+    items.fill(0);
+    names.fill(0);
 }
 
 // Both tables before the first token, and the index of names: zeros, and names 0 to 7.
@@ -81,31 +72,37 @@ fn begin(items: &mut [u32], names: &mut [u8], index: &mut [u16])
 }
 
 // Reads a text that has so many elements into an item table and a name table.
-pub fn read_elements(text: &[u8], items: &mut [u32], names: &mut [u8], wanted: usize) -> Reading
+pub fn read_elements(
+    text: &[u8],
+    items: &mut [u32],
+    names: &mut [u8],
+    wanted: usize,
+) -> Result<Counts, Ground>
     ensures { ServedElements wanted text.now items.old items.new names.old names.new result }
 {
     if items.len() < words::ITEM_WORDS {
-        return Reading::Refused(1);
+        return Err(Ground::ShortTables);
     }
     if names.len() < words::NAME_BYTES {
-        return Reading::Refused(1);
+        return Err(Ground::ShortTables);
     }
     if words::TEXT_BYTES < text.len() {
-        return Reading::Refused(2);
+        return Err(Ground::LongText);
     }
     let mut index = [0u16; ENTRIES];
     begin(items, names, &mut index);
     match read_text(text, items, names, &mut index, wanted) {
-        Reading::Read { items: i, names: n } => Reading::Read { items: i, names: n },
-        Reading::Refused(ground) => {
+        Ok(counts) => Ok(counts),
+        Err(ground) => {
             clear(items, names);
-            Reading::Refused(ground)
+            Err(ground)
         }
     }
 }
 
 // Reads a recipe text.
-pub fn read(text: &[u8], items: &mut [u32], names: &mut [u8]) -> Reading
+#[tactic(auto, unfolding(reading::specs::Read::read))]
+pub fn read(text: &[u8], items: &mut [u32], names: &mut [u8]) -> Result<Counts, Ground>
     ensures { Served text.now items.old items.new names.old names.new result }
 {
     read_elements(text, items, names, 2)

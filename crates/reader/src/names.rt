@@ -7,8 +7,6 @@ ghost use Rattle.reading.specs.Numbering.{number_of, base_names};
 ghost use Rattle.reader.specs.Code.Index.{bucket_count, index_size, bucket_of, Indexed, linked};
 ghost use Rattle.reader.specs.Code.Stored.{stored, names_in, NameTable};
 
-use words::casts;
-
 // Buckets of the index.
 const BUCKETS: usize = 256;
 
@@ -21,17 +19,9 @@ pub fn spells(names: &[u8], number: usize, word: &[u8]) -> bool
     ensures { result ≡ equal word.now (name_at names.now number) }
 {
     let start = words::SLOT * number;
-    if casts::byte(names[start]) != word.len() {
-        return false;
-    }
-    let mut i = 0;
-    while i < word.len() {
-        if names[start + 1 + i] != word[i] {
-            return false;
-        }
-        i += 1;
-    }
-    true
+    let from = start + 1;
+    let to = from + usize::from(names[start]);
+    word == &names[from..to]
 }
 
 // The bucket of a word.
@@ -39,10 +29,8 @@ pub fn bucket_of(word: &[u8]) -> usize
     ensures { result ≡ bucket_of word.now }
 {
     let mut bucket = 0;
-    let mut i = 0;
-    while i < word.len() {
-        bucket = (9 * bucket + casts::byte(word[i])) % BUCKETS;
-        i += 1;
+    for b in word {
+        bucket = (9 * bucket + usize::from(*b)) % BUCKETS;
     }
     bucket
 }
@@ -51,7 +39,7 @@ fn entry_at(index: &[u16], at: usize) -> usize
     requires { at < length index.now }
     ensures { result ≡ get_or index.now at 0 }
 {
-    index[at] as usize
+    usize::from(index[at])
 }
 
 // The number of the word among the first names, or the next number: along its bucket, from the latest name.
@@ -78,12 +66,9 @@ fn store(names: &mut [u8], number: usize, word: &[u8])
     ensures { names.new ≡ stored names.old number word.now }
 {
     let start = words::SLOT * number;
+    let from = start + 1;
     names[start] = word.len() as u8;
-    let mut i = 0;
-    while i < word.len() {
-        names[start + 1 + i] = word[i];
-        i += 1;
-    }
+    names[from..from + word.len()].copy_from_slice(word);
 }
 
 // A name more: its word in its slot, and its number in the index.
@@ -105,33 +90,18 @@ fn enter_fixed(names: &mut [u8], index: &mut [u16], number: usize, word: &[u8])
     enter(names, index, number, word, bucket_of(word));
 }
 
-// Names 0 to 3, in tables of zeros.
-fn enter_first(names: &mut [u8], index: &mut [u16])
+// Names 0 to 7, in tables of zeros.
+#[tactic(auto, unfolding(reading::specs::Numbering::base_names, words::specs::Text::bytes))]
+pub fn enter_base(names: &mut [u8], index: &mut [u16])
     requires { NameTable [] names.old index.old }
-    ensures { NameTable (take 4 base_names) names.new index.new }
+    ensures { NameTable base_names names.new index.new }
 {
     enter_fixed(names, index, 0, b"quote");
     enter_fixed(names, index, 1, b"if");
     enter_fixed(names, index, 2, b"lambda");
     enter_fixed(names, index, 3, b"let-syntax");
-}
-
-// Names 4 to 7, after those.
-fn enter_others(names: &mut [u8], index: &mut [u16])
-    requires { NameTable (take 4 base_names) names.old index.old }
-    ensures { NameTable base_names names.new index.new }
-{
     enter_fixed(names, index, 4, b"letrec-syntax");
     enter_fixed(names, index, 5, b"syntax-rules");
     enter_fixed(names, index, 6, b"...");
     enter_fixed(names, index, 7, b"_");
-}
-
-// Names 0 to 7, in tables of zeros.
-pub fn enter_base(names: &mut [u8], index: &mut [u16])
-    requires { NameTable [] names.old index.old }
-    ensures { NameTable base_names names.new index.new }
-{
-    enter_first(names, index);
-    enter_others(names, index);
 }

@@ -1,13 +1,17 @@
 -- The promise of running a recipe: its answer is that of `recipe_run`, and every word of the three lent tables is the definition's, for every
 -- item table, fuel, budget and lent tables.
-use Rattle.std.specs.Prelude.{◌≡◌, List, [], ◌∷◌, ℕ, ℤ, length}
+use Rattle.std.specs.Prelude.{◌≡◌, List, [], ◌∷◌, ℕ, ℤ, length, Ok, Err}
+use Rattle.std.specs.Prelude as P
+use Rattle.words.specs.declared.ground.Ground.{Ground}
+use Rattle.words.specs.Code.Ground.{number_of}
 use Rattle.expansion.specs.Run as X
 use Rattle.expander.specs.Service as E
 use Rattle.evaluation.specs.Run.{Result, Outcome, table_after}
 use Rattle.recipe_runs.specs.RecipeRun.{recipe_run}
 use Rattle.runner.specs.Service as R
-use Rattle.recipe_runner.specs.declared.RecipeRunning.{RecipeRunning}
-use Rattle.recipe_runner.specs.declared.RecipeRunning.TheVariants.{Ran, Refused}
+use Rattle.runner.specs.declared.Outcome as code
+use Rattle.recipe_runner.specs.declared.RecipeError.{RecipeError}
+use Rattle.recipe_runner.specs.declared.RecipeError.TheVariants.{Expansion, Run}
 
 -- ground (accepted is 0), and four numbers
 pub record Told : Type 0 where
@@ -22,9 +26,19 @@ of_running n = n.kind ∷ n.first ∷ n.second ∷ n.units ∷ []
 abbrev pub of_expansion : E.Numbers → List ℕ
 of_expansion n = n.steps ∷ n.sum ∷ 0 ∷ 0 ∷ []
 
+-- how a call ends
+abbrev pub RecipeRunning : Type 0
+RecipeRunning = P.Result code.Outcome RecipeError
+
+-- as the run of the term ended
+abbrev pub of_run : P.Result code.Outcome Ground → RecipeRunning
+of_run (Ok o) = Ok o
+of_run (Err g) = Err (Run g)
+
 unfoldable pub told_of : RecipeRunning → Told
-told_of (Ran r) = record { ground_number = (R.numbers_of r).ground_number; numbers = of_running (R.numbers_of r) }
-told_of (Refused g n m) = record { ground_number = g; numbers = n ∷ m ∷ 0 ∷ 0 ∷ [] }
+told_of (Ok o) = record { ground_number = (R.numbers_of (Ok o)).ground_number; numbers = of_running (R.numbers_of (Ok o)) }
+told_of (Err (Run g)) = record { ground_number = (R.numbers_of (Err g)).ground_number; numbers = of_running (R.numbers_of (Err g)) }
+told_of (Err (Expansion x)) = record { ground_number = number_of x.ground; numbers = x.steps ∷ x.sum ∷ 0 ∷ 0 ∷ [] }
 
 unfoldable pub numbers_after : X.Outcome → E.Numbers → R.Numbers → List ℕ
 numbers_after X.accepted e r = of_running r

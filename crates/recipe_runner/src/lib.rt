@@ -2,16 +2,35 @@
 // their promises alone; what a call answers and leaves stands in specs/Service.antt.
 #![tactic(auto)]
 
+ghost use Rattle.std.specs.Prelude.{◌≡◌};
 ghost use Rattle.recipe_runner.specs.Service.{RecipeRan};
+ghost use Rattle.recipe_runner.specs.declared.RecipeError.TheVariants.{Expansion, Run};
 
-use expander::Expansion;
-use runner::Running;
+use expander::Refused;
+use runner::Outcome;
+use words::ground::Ground;
 
-// What running the term gave; or the ground on which expansion refused, with its two counts.
+// Why there is no value: expansion refused, on a ground and with its two counts; or the run of its term did.
 #[derive(Clone, Copy)]
-pub enum RecipeRunning {
-    Ran(Running),
-    Refused { ground: u32, steps: u32, sum: u32 },
+pub enum RecipeError {
+    Expansion(Refused),
+    Run(Ground),
+}
+
+impl From<Refused> for RecipeError {
+    ghost from_gives = { λ x e. e ≡ Expansion x };
+
+    fn from(refused: Refused) -> Self {
+        RecipeError::Expansion(refused)
+    }
+}
+
+impl From<Ground> for RecipeError {
+    ghost from_gives = { λ g e. e ≡ Run g };
+
+    fn from(why: Ground) -> Self {
+        RecipeError::Run(why)
+    }
 }
 
 // Expands an item table's recipe into the core table, with a work table that ends zeroed, and runs its term on a budget.
@@ -22,26 +41,11 @@ pub fn run_recipe(
     core: &mut [u32],
     budget: u32,
     table: &mut [u32],
-) -> RecipeRunning
+) -> Result<Outcome, RecipeError>
     ensures { RecipeRan items.now fuel work.old work.new core.old core.new budget table.old table.new result }
 {
-    match expander::expand(items, fuel, work, core) {
-        Expansion::Accepted {
-            steps: _,
-            sum: _,
-            length: l,
-        } => {
-            let end = l as usize;
-            RecipeRunning::Ran(runner::run(&core[..end], budget, table))
-        }
-        Expansion::Refused {
-            ground: g,
-            steps: n,
-            sum: m,
-        } => RecipeRunning::Refused {
-            ground: g,
-            steps: n,
-            sum: m,
-        },
-    }
+    let expanded = expander::expand(items, fuel, work, core)?;
+    let end = expanded.length as usize;
+    let outcome = runner::run(&core[..end], budget, table)?;
+    Ok(outcome)
 }

@@ -1,5 +1,5 @@
 -- Laws of a binder that is met by the name in hand, one for each way through the code.
-use Rattle.std.specs.Prelude.{◌≡◌, refl, Bool, ◌&&◌, List, ℕ, ◌+◌, ◌-◌, ◌≤◌, ◌<◌, eqb, ltb, length, take}
+use Rattle.std.specs.Prelude.{◌≡◌, refl, Bool, ◌&&◌, List, ℕ, ◌+◌, ◌≤◌, ◌<◌, eqb, ltb, length, take}
 use Rattle.std.proofs.Math.Path.{sym}
 use Rattle.std.proofs.Common.{ap, ap₂, ◌∙◌, arith}
 use Rattle.std.proofs.Math.Bool.{true, false, or-true}
@@ -160,6 +160,11 @@ module _ (work : List ℕ) (w : ℕ) (old : List ℕ) (s number n binding : ℕ)
 
     pub same-all : (new : List ℕ) (r : ℕ) → OwnMarks work w old new (s + n) r → r ≡ n → true ≡ equal (marks_in new (s + n) n) (marks_in new s n) → Told new true
     same-all new r own e h = record { told = λ x o. same-as x o (equal-same work w x (equal_is new r own x o e ∙ sym h)); kept = own.kept }
+
+    -- more than one mark: those of the binder's own name decide
+    pub by-marks : (new : List ℕ) (r : ℕ) → OwnMarks work w old new (s + n) r → 2 ≤ n → r ≡ n → (t : Bool) → t ≡ equal (marks_in new (s + n) n) (marks_in new s n) → Told new t
+    by-marks new r own many e true h = same-all new r own e h
+    by-marks new r own many e false h = other-marks new r own many e h
 
 -- ---- what the binder leaves in hand
 

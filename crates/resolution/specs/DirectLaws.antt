@@ -12,7 +12,7 @@ use Rattle.words.specs.ListLaws.{either}
 use Rattle.arena.specs.ArenaLaws.{word_at-some, wrap_at-none, wrap_at-mark, wrap_at-binder, wrap_at-number, marked-is, marked-binding, binding_key-of}
 use Rattle.resolution.specs.BinderLaws.{own-number, own-binding, own-count, own-newest, few-same, own-all}
 use Rattle.resolution.specs.Names.{Summed}
-use Rattle.resolution.specs.Direct.{SkipsTo, Passes, MarkCell, OneMark, mark_once, count_of, LoneMark, OnlyMark, Bare, Gives, Finds, unknown}
+use Rattle.resolution.specs.Direct.{SkipsTo, Passes, IsMark, OneMark, mark_once, count_of, LoneMark, OnlyMark, Bare, Gives, Finds}
 
 -- ---- one mark or none
 
@@ -59,7 +59,7 @@ module _ (work : List ℕ) (w tag : ℕ) (tag_is : tag ≡ word_at work w TAG) w
   pub mark-passes : tag ≡ 1 → (number : ℕ) → Passes work number w (reference_at work w INNER)
   mark-passes t number x n = ap (λ (y : Name). y.binding) (wrap_at-mark work w (some_word (λ z. omega arith)) (sym tag_is ∙ t) x) ∙ marked-binding (word_at work w STEP) _
 
-  pub mark-cell : tag ≡ 1 → (r : ℕ) → r ≡ word_at work w STEP → (r ≡ 0 → ⊥) → MarkCell work w r
+  pub mark-cell : tag ≡ 1 → (r : ℕ) → r ≡ word_at work w STEP → (r ≡ 0 → ⊥) → r < step_limit → IsMark work w r
   mark-cell t r e h l =
       record {
         some-step = h;
@@ -68,10 +68,6 @@ module _ (work : List ℕ) (w tag : ℕ) (tag_is : tag ≡ word_at work w TAG) w
             ∙ ap (λ (m : ℕ). marked m (wrap_at work (reference_at work w INNER) x)) (sym e)
             ∙ marked-is r _ l;
       }
-
--- past the limit there is nothing to tell
-pub no-mark : (work : List ℕ) (w : ℕ) → MarkCell work w step_limit
-no-mark work w l = absurd (omega arith)
 
 -- ---- wraps
 
@@ -86,42 +82,33 @@ module _ (work : List ℕ) (number w : ℕ) where
   passes-ends at p e x n = p x n ∙ ap (λ (v : ℕ). (wrap_at work v x).binding) e
 
   pub skip-mark : (mark : ℕ) → SkipsTo work number w → OneMark work number w mark mark
-  skip-mark mark s l x n = ap (mark_once mark) (s x n)
+  skip-mark mark s x n = ap (mark_once mark) (s x n)
 
-  pub two-marks : (mark : ℕ) → OneMark work number w mark step_limit
-  two-marks mark l = absurd (omega arith)
-
-  pub first-mark : (mark r : ℕ) → mark ≡ 0 → MarkCell work w r → OneMark work number w mark r
+  pub first-mark : (mark r : ℕ) → mark ≡ 0 → IsMark work w r → OneMark work number w mark r
   unfolding mark_once
-  first-mark mark r e c l x n = rw e ((c l).means x ∙ sym (mark_once-some r _ (c l).some-step))
+  first-mark mark r e c x n = rw e (c.means x ∙ sym (mark_once-some r _ c.some-step))
 
 -- a mark around what is left of a wrap
 abbrev pub Around : List ℕ → (number w at mark : ℕ) → Type 0
-Around work number w at mark = (mark < step_limit) × ((x : Name) → x.number ≡ number → wrap_at work w x ≡ mark_once mark (wrap_at work at x))
+Around work number w at mark = (x : Name) → x.number ≡ number → wrap_at work w x ≡ mark_once mark (wrap_at work at x)
 
 module _ (work : List ℕ) (number w : ℕ) where
   pub around-begins : Around work number w w 0
   unfolding mark_once
-  around-begins = (omega arith, λ x n. refl)
+  around-begins x n = refl
 
-  pub around-on : (at mark r v : ℕ) → Around work number w at mark → OneMark work number at mark r → r < step_limit → v ≡ reference_at work at INNER → Around work number w v r
-  around-on at mark r v a o l e = (l, λ x n. a.1 x n ∙ o l x n ∙ ap (λ (u : ℕ). mark_once r (wrap_at work u x)) (sym e))
+  pub around-on : (at mark r v : ℕ) → Around work number w at mark → OneMark work number at mark r → v ≡ reference_at work at INNER → Around work number w v r
+  around-on at mark r v a o e x n = a x n ∙ o x n ∙ ap (λ (u : ℕ). mark_once r (wrap_at work u x)) (sym e)
 
   pub around-ends : (at mark : ℕ) → Around work number w at mark → at ≡ 0 → LoneMark work number w mark
-  around-ends at mark a e l x n = a.1 x n ∙ ap (λ (u : ℕ). mark_once mark (wrap_at work u x)) e ∙ ap (mark_once mark) (wrap_at-none work x)
-
-  pub no-lone-mark : LoneMark work number w step_limit
-  no-lone-mark l = absurd (omega arith)
+  around-ends at mark a e x n = a x n ∙ ap (λ (u : ℕ). mark_once mark (wrap_at work u x)) e ∙ ap (mark_once mark) (wrap_at-none work x)
 
 -- ---- a name's own wrap and a pending one
 
 module _ (work : List ℕ) (number own w : ℕ) where
-  pub no-only-mark : OnlyMark work number own w step_limit
-  no-only-mark l = absurd (omega arith)
-
   pub only-pending : (r l : ℕ) → LoneMark work number own l → l ≡ 0 → LoneMark work number w r → OnlyMark work number own w r
   unfolding mark_once
-  only-pending r l n z m k x e = ap (wrap_at work w) (n (omega arith) x e ∙ ap (λ (v : ℕ). mark_once v x) z) ∙ m k x e
+  only-pending r l n z m x e = ap (wrap_at work w) (n x e ∙ ap (λ (v : ℕ). mark_once v x) z) ∙ m x e
 
 -- a node's name is bare before any wrap
 node-bare : (work : List ℕ) (node number : ℕ) → number ≡ number_of work node → Bare number (node_name work node)
@@ -129,12 +116,12 @@ unfolding node_name origin_name number_of
 node-bare work node number n = record { number_is = sym n; no-marks = refl; no-binding = refl }
 
 -- so that one mark or none is all of its summary
-pub marked-summed : (work : List ℕ) (node w number own m k : ℕ) → number ≡ number_of work node → own ≡ reference_at work node OWN → OnlyMark work number own w m → m < step_limit → k ≡ count_of m → Summed (name_at work node w) 0 k m
+pub marked-summed : (work : List ℕ) (node w number own m k : ℕ) → number ≡ number_of work node → own ≡ reference_at work node OWN → OnlyMark work number own w m → k ≡ count_of m → Summed (name_at work node w) 0 k m
 unfolding name_at binding_key
-marked-summed work node w number own m k n o f l e =
+marked-summed work node w number own m k n o f e =
     let x = node_name work node in
     let bare = node-bare work node number n in
-    let means : name_at work node w ≡ mark_once m x = ap (λ (v : ℕ). wrap_at work w (wrap_at work v x)) (sym o) ∙ f l x bare.number_is in
+    let means : name_at work node w ≡ mark_once m x = ap (λ (v : ℕ). wrap_at work w (wrap_at work v x)) (sym o) ∙ f x bare.number_is in
     rw means
     (record {
       binding-is = sym (ap binding_key (once-binding number m x bare));
@@ -181,36 +168,33 @@ module _ (work : List ℕ) (number w mark : ℕ) where
 
 -- ---- what is found
 
-pub finds-name : (work : List ℕ) (node w number own r : ℕ) → number ≡ number_of work node → own ≡ reference_at work node OWN → Finds work number own w r → (r ≡ unknown → ⊥) → r ≡ binding_key (name_at work node w).binding
+pub finds-name : (work : List ℕ) (node w number own r : ℕ) → number ≡ number_of work node → own ≡ reference_at work node OWN → Finds work number own w r → r ≡ binding_key (name_at work node w).binding
 unfolding name_at
-finds-name work node w number own r n o f h =
-    f h (node_name work node) (node-bare work node number n) ∙ ap (λ (v : ℕ). binding_key (wrap_at work w (wrap_at work v (node_name work node))).binding) o
+finds-name work node w number own r n o f =
+    f (node_name work node) (node-bare work node number n) ∙ ap (λ (v : ℕ). binding_key (wrap_at work w (wrap_at work v (node_name work node))).binding) o
 
 module _ (work : List ℕ) (number own w : ℕ) where
-  pub finds-nothing : Finds work number own w unknown
-  finds-nothing h = absurd (h refl)
-
-  pub finds-binder : (tag inner mark r : ℕ) → tag ≡ word_at work w TAG → tag ≡ 3 → inner ≡ reference_at work w INNER → OnlyMark work number own inner mark → mark < step_limit → Gives work number w mark r → Finds work number own w r
-  finds-binder tag inner mark r e t i m k g u x b =
+  pub finds-binder : (tag inner mark r : ℕ) → tag ≡ word_at work w TAG → tag ≡ 3 → inner ≡ reference_at work w INNER → OnlyMark work number own inner mark → Gives work number w mark r → Finds work number own w r
+  finds-binder tag inner mark r e t i m g x b =
       let means : wrap_at work w (wrap_at work own x) ≡ rebound work (wrap_at work) w (mark_once mark x) =
       wrap_at-binder work w (some_word work w tag e (λ q. omega arith)) (sym e ∙ t) (wrap_at work own x)
       ∙ ap (λ (v : ℕ). rebound work (wrap_at work) w (wrap_at work v (wrap_at work own x))) (sym i)
-      ∙ ap (rebound work (wrap_at work) w) (m k x b.number_is) in
+      ∙ ap (rebound work (wrap_at work) w) (m x b.number_is) in
       g x b ∙ sym (ap (λ (y : Name). binding_key y.binding) means)
 
   module _ (outer : ℕ) (passes : Passes work number w outer) where
     pub finds-outer : (r : ℕ) → Finds work number own outer r → Finds work number own w r
-    finds-outer r f u x b = f u x b ∙ ap binding_key (sym (passes (wrap_at work own x) (wrap_at-number work own x ∙ b.number_is)))
+    finds-outer r f x b = f x b ∙ ap binding_key (sym (passes (wrap_at work own x) (wrap_at-number work own x ∙ b.number_is)))
 
     outer-none : outer ≡ 0 → (x : Name) → Bare number x → (wrap_at work w (wrap_at work own x)).binding ≡ (wrap_at work own x).binding
     outer-none e x b = passes (wrap_at work own x) (wrap_at-number work own x ∙ b.number_is) ∙ ap (λ (v : ℕ). (wrap_at work v (wrap_at work own x)).binding) e ∙ ap (λ (y : Name). y.binding) (wrap_at-none work _)
 
     pub finds-inner : (inner r : ℕ) → outer ≡ 0 → Passes work number own inner → Finds work number 0 inner r → Finds work number own w r
-    finds-inner inner r e p f u x b =
-        f u x b ∙ ap (λ (y : Name). binding_key (wrap_at work inner y).binding) (wrap_at-none work x)
+    finds-inner inner r e p f x b =
+        f x b ∙ ap (λ (y : Name). binding_key (wrap_at work inner y).binding) (wrap_at-none work x)
         ∙ ap binding_key (sym (outer-none e x b ∙ p x b.number_is))
 
     pub finds-none : (inner : ℕ) → outer ≡ 0 → Passes work number own inner → inner ≡ 0 → Finds work number own w 0
     unfolding binding_key
-    finds-none inner e p z u x b =
+    finds-none inner e p z x b =
         sym (ap binding_key (outer-none e x b ∙ p x b.number_is ∙ ap (λ (v : ℕ). (wrap_at work v x).binding) z ∙ ap (λ (y : Name). y.binding) (wrap_at-none work x) ∙ b.no-binding))

@@ -1,58 +1,20 @@
 -- Laws of a name in hand, one for each way through the code that walks a wrap.
-use Rattle.std.specs.Prelude.{◌≡◌, refl, Bool, true, false, List, ℕ, zero, suc, ◌+◌, ◌-◌, ◌≤◌, ◌<◌, length}
+use Rattle.std.specs.Prelude.{◌≡◌, refl, List, ℕ, zero, suc, ◌+◌, ◌≤◌, ◌<◌, length, Option, Some, None, MatchOption}
 use Rattle.std.proofs.Math.Path.{sym, ap}
-use Rattle.std.proofs.Common.{subst, ◌∙◌, arith, le-ltb}
+use Rattle.std.proofs.Common.{◌∙◌, arith, le-ltb}
 use Rattle.recipe.specs.Name.{Name, toggle, mark_name}
 use Rattle.arena.specs.Offsets.{TAG, INNER, STEP, OUTER}
 use Rattle.arena.specs.Arena.{word_at, reference_at, step_limit, marked, rebound, wrap_at}
 use Rattle.arena.specs.ArenaLaws.{reference_at-falls, marked-is, rebound-marks, wrap_at-none, wrap_at-mark, wrap_at-join, wrap_at-binder, wrap_at-other, word_at-some}
-use Rattle.resolution.specs.Marks.{marks_in, Descends, none, Toggled, Fits, Tells, is_same, is-other, is-full, Hand, MarksAfter}
-use Rattle.resolution.specs.declared.marks.Compared.{Compared}
-use Rattle.resolution.specs.declared.marks.Compared.TheVariants.{Same, Other, Full}
+use Rattle.resolution.specs.Marks.{marks_in, Descends, none, Toggled, Hand, MarksAfter}
 use Rattle.resolution.specs.MarkLaws.{marks_in-length, descends-length, descends-toggle}
 
--- ---- answered counts
+-- ---- answers that may be missing, for want of room
 
-module _ {P : Type 0} (t : List ℕ) (most r : ℕ) where
-  pub fits-within : r ≤ length t → P → Fits t most r P
-  fits-within h p = record { within = λ l. p; full = λ l. absurd (omega arith) }
-
-  -- the table is full
-  pub fits_not : length t < r → length t ≤ most → Fits t most r P
-  fits_not h l = record { within = λ i. absurd (omega arith); full = λ i. l }
-
--- a count past the table is handed on
-pub fits_on : {P Q : Type 0} {t : List ℕ} {most r : ℕ} → length t < r → Fits t most r P → Fits t most r Q
-fits_on h f = record { within = λ l. absurd (omega arith); full = f.full }
-
-pub fits-then : {P Q : Type 0} {t : List ℕ} {most r : ℕ} → Fits t most r P → (P → Q) → Fits t most r Q
-fits-then f g = record { within = λ l. g (f.within l); full = f.full }
-
--- a bound of the table is one too where it is wider
-pub fits_wider : {P : Type 0} (t : List ℕ) (most more r : ℕ) → most ≤ more → Fits t most r P → Fits t more r P
-fits_wider t most more r h f = record { within = f.within; full = λ l. omega (arith, f.full l) }
-
--- ---- answered comparisons
-
-module _ {t : List ℕ} {most : ℕ} {P : Bool → Type 0} where
-  same-is : Tells t most P Same → P true
-  same-is (is_same p) = p
-
-  other-is : Tells t most P Other → P false
-  other-is (is-other p) = p
-
-  full_is : Tells t most P Full → length t ≤ most
-  full_is (is-full l) = l
-
-  module _ {r : Compared} (h : Tells t most P r) where
-    pub told_same : r ≡ Same → P true
-    told_same e = same-is (subst (Tells t most P) e h)
-
-    pub told-other : r ≡ Other → P false
-    told-other e = other-is (subst (Tells t most P) e h)
-
-    pub told-full : r ≡ Full → length t ≤ most
-    told-full e = full_is (subst (Tells t most P) e h)
+-- what follows from what is answered
+pub answer-then : {X : Type 0} {Q Q' : X → Type 0} (P : Type 0) (r : Option X) → MatchOption r P Q → ((x : X) → Q x → Q' x) → MatchOption r P Q'
+answer-then P None h f = h
+answer-then P (Some x) h f = f x h
 
 -- ---- room
 

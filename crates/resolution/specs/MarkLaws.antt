@@ -1,12 +1,18 @@
 -- Laws of marks in hand, and of descending lists.
-use Rattle.std.specs.Prelude.{◌≡◌, refl, true, false, List, ◌∷◌, ℕ, zero, suc, ◌+◌, ◌-◌, ◌≤◌, ◌<◌, eqb, ltb, length, get_or, take, set}
+use Rattle.std.specs.Prelude.{◌≡◌, refl, Bool, List, ◌∷◌, ℕ, zero, suc, ◌+◌, ◌-◌, ◌≤◌, ◌<◌, eqb, ltb, length, get_or, take, drop, reverse, set}
 use Rattle.std.proofs.Common.{sym, ap, ap₂, ◌∙◌, arith, add-one, get_or-take, get_or-set_same}
-use Rattle.std.proofs.lemmas.List.{take-set-le}
+use Rattle.std.proofs.Math.Seq.{take-suc}
+use Rattle.std.proofs.lemmas.Bool.Decides.{Decides-eqb}
+use Rattle.std.proofs.lemmas.List.{take-set-le, length-drop, get_or-drop, reverse-append, reverse-reverse}
+use Rattle.std.proofs.lemmas.Slice.Eq.{slice_eq-Decides}
+use Rattle.std.specs.List.{between}
+use Rattle.std.specs.Str.{bytes_eq}
 use borrow.Author.Tests.{lt-ltb, le-ltb, eq-eqb, ne_eqb, ltb-true, ltb-false, eqb-false}
 use Rattle.words.specs.Lists.{equal}
 use Rattle.recipe.specs.Name.{toggle}
 use Rattle.arena.specs.Arena.{newest}
-use Rattle.words.specs.ListLaws.{either}
+use Rattle.words.specs.ListLaws.{either, equal-refl, equal-true}
+use Rattle.words.specs.TestLaws.{iff-eq}
 use Rattle.arena.specs.ArenaLaws.{take_less}
 use Rattle.resolution.specs.Marks.{marks_in, Descends, none, more, Toggled}
 
@@ -106,21 +112,26 @@ descends-toggle {b} m h (more {m = x} {ms = xs} p d) =
     (λ u. rw (t, u) (more h (more (ltb-true x m u) d)))
     (λ u. rw (t, u) (let ne : m ≡ x → ⊥ = eqb-false m x t in let le : m ≤ x = ltb-false x m u in let lt : m < x = omega arith in more p (descends-toggle m lt d))))
 
--- ---- equal
+-- ---- parts of the table
 
-module _ (t : List ℕ) (a b n : ℕ) (nz : n ≡ 0 → ⊥) where
-  pub equal-differ : (get_or t (a + (n - 1)) 0 ≡ get_or t (b + (n - 1)) 0 → ⊥) → equal (marks_in t a n) (marks_in t b n) ≡ false
-  unfolding equal
-  equal-differ d = rw (marks_in-last t a n nz, marks_in-last t b n nz, ne_eqb _ _ d)
+-- the marks in hand are those of a part of the table, which has the oldest first
+marks_in-part : (t : List ℕ) (s n : ℕ) → s + n ≤ length t → marks_in t s n ≡ reverse (take n (drop s t))
+unfolding marks_in
+marks_in-part t s zero h = refl
+marks_in-part t s (suc n) h =
+    let l : n < length (drop s t) = omega (arith, length-drop s t) in
+    rw (take-suc (drop s t) n 0 l, reverse-append, get_or-drop) (ap (λ (ms : List ℕ). get_or t (s + n) 0 ∷ ms) (marks_in-part t s n (omega arith)))
 
-  pub equal_next : get_or t (a + (n - 1)) 0 ≡ get_or t (b + (n - 1)) 0 → equal (marks_in t a n) (marks_in t b n) ≡ equal (marks_in t a (n - 1)) (marks_in t b (n - 1))
-  unfolding equal
-  equal_next e = rw (marks_in-last t a n nz, marks_in-last t b n nz, eq-eqb _ _ e)
-
-pub equal-none : (t : List ℕ) (a b n : ℕ) → n ≡ 0 → equal (marks_in t a n) (marks_in t b n) ≡ true
-unfolding equal marks_in
-equal-none t a b zero e = refl
-equal-none t a b (suc n) e = absurd (omega arith)
+-- a comparison of two parts is one of the marks in them
+pub equal-parts : (t : List ℕ) (a b n : ℕ) → a + n ≤ length t → b + n ≤ length t → (r : Bool) → r ≡ bytes_eq (between a (a + n) t) (between b (b + n) t) → r ≡ equal (marks_in t a n) (marks_in t b n)
+equal-parts t a b n g h r e =
+    let p : a + n - a ≡ n = omega arith in
+    let q : b + n - b ≡ n = omega arith in
+    let d = slice_eq-Decides Decides-eqb (take n (drop a t)) (take n (drop b t)) r (rw (p, q) at e) in
+    rw (marks_in-part t a n g, marks_in-part t b n h)
+    (iff-eq r (equal (reverse (take n (drop a t))) (reverse (take n (drop b t))))
+    (λ u. rw (d.0 u) (equal-refl (reverse (take n (drop b t)))))
+    (λ u. d.1 (sym (reverse-reverse (take n (drop a t))) ∙ ap reverse (equal-true _ _ u) ∙ reverse-reverse (take n (drop b t)))))
 
 pub newest-none : (t : List ℕ) (s n : ℕ) → n ≡ 0 → newest (marks_in t s n) ≡ 0
 unfolding newest marks_in

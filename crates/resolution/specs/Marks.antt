@@ -1,9 +1,7 @@
 -- Marks in hand: a part of a table that holds a name's marks, the oldest first, so that the newest come and go at its end.
-use Rattle.std.specs.Prelude.{◌≡◌, Bool, true, false, List, [], ◌∷◌, ℕ, zero, suc, ◌+◌, ◌≤◌, ◌<◌, length, get_or, take}
+use Rattle.std.specs.Prelude.{◌≡◌, Bool, List, [], ◌∷◌, ℕ, zero, suc, ◌+◌, ◌≤◌, ◌<◌, length, get_or, take}
 use Rattle.recipe.specs.Name.{Name, binding_key, toggle}
 use Rattle.arena.specs.Arena.{step_limit, own_marks, is_own, wrap_at}
-use Rattle.resolution.specs.declared.marks.Compared.{Compared}
-use Rattle.resolution.specs.declared.marks.Compared.TheVariants.{Same, Other, Full}
 
 -- the marks in hand, as the definition's descending list: `count` of them from `start`
 unfoldable pub marks_in : List ℕ → (start count : ℕ) → List ℕ
@@ -20,20 +18,6 @@ pub record Toggled (m start count : ℕ) (old new : List ℕ) (r : ℕ) : Type 0
   pub marks-are : marks_in new start r ≡ toggle m (marks_in old start count)
   pub kept : take start new ≡ take start old
   pub room : r ≤ count + 1
-
--- ---- tables that are too small
-
--- an answered count: P where it is within the table; past the table where the marks did not fit, which is so only of a table of
--- at most `most` words
-pub record Fits (table : List ℕ) (most r : ℕ) (P : Type 0) : Type 0 where
-  pub within : r ≤ length table → P
-  pub full : length table < r → length table ≤ most
-
--- an answered comparison, in the same way
-pub data Tells (table : List ℕ) (most : ℕ) (P : Bool → Type 0) : Compared → Type 0 where
-  is_same : P true → Tells table most P Same
-  is-other : P false → Tells table most P Other
-  is-full : length table ≤ most → Tells table most P Full
 
 -- ---- a name in hand
 

@@ -1,5 +1,6 @@
 -- Laws of names in the arena, in the code's shape.
-use Rattle.std.specs.Prelude.{◌≡◌, refl, Bool, ◌&&◌, List, ℕ, ◌+◌, ◌-◌, ◌/◌, ◌%◌, ◌≤◌, ◌<◌, get_or}
+use Rattle.std.specs.declared.option.Option as C
+use Rattle.std.specs.Prelude.{◌≡◌, refl, Bool, Some, None, List, ℕ, ◌+◌, ◌-◌, ◌/◌, ◌%◌, ◌≤◌, ◌<◌, get_or}
 use Rattle.std.proofs.Math.Path.{sym, ap}
 use Rattle.std.proofs.Common.{ap₂, subst, ◌∙◌, arith}
 use Rattle.std.proofs.Math.Bool.{true, false, and-true, and-false}
@@ -23,9 +24,8 @@ use Rattle.resolution.specs.BinderLaws.{equal-lengths}
 use Rattle.arena.specs.declared.cells.Binder.{Binder}
 use Rattle.arena.specs.Cells.{Described, Bound, Binds}
 use Rattle.resolution.specs.Names.{Resolved, Summed, means_of, found_of, operation_at, unbound_in, lookup_in, Agrees}
+use Rattle.resolution.specs.declared.names.Meaning.{Meaning}
 use Rattle.resolution.specs.declared.names.Meaning.TheVariants.{Variable, Macro, Form, Operation}
-use Rattle.resolution.specs.declared.names.Looked.{Looked}
-use Rattle.resolution.specs.declared.names.Looked.TheVariants.{Finds, Nothing}
 
 -- ---- resolving
 
@@ -125,35 +125,35 @@ module _ (work : List ℕ) (a v b w : ℕ) where
 -- ---- lookups
 
 module _ (places : List ℕ) (n : ℕ) where
-  pub unbound-form : n < 8 → found_of (Finds (Form n)) ≡ unbound_in places n
+  pub unbound-form : n < 8 → found_of (Some (Form n)) ≡ unbound_in places n
   unfolding found_of means_of unbound_in
   unbound-form h = rw (lt-ltb n 8 h)
 
-  pub unbound-out : 8 ≤ n → length places ≤ n → found_of Nothing ≡ unbound_in places n
+  pub unbound-out : 8 ≤ n → length places ≤ n → found_of None ≡ unbound_in places n
   unfolding found_of means_of unbound_in operation_at
   unbound-out h l = rw (le-ltb n 8 h, get_or-eq_default places 0 l)
 
-  pub unbound-none : 8 ≤ n → get_or places n 0 ≡ 0 → found_of Nothing ≡ unbound_in places n
+  pub unbound-none : 8 ≤ n → get_or places n 0 ≡ 0 → found_of None ≡ unbound_in places n
   unfolding found_of means_of unbound_in operation_at
   unbound-none h e = rw (le-ltb n 8 h, e)
 
-  pub unbound-some : 8 ≤ n → (get_or places n 0 ≡ 0 → ⊥) → found_of (Finds (Operation (get_or places n 0 - 1))) ≡ unbound_in places n
+  pub unbound-some : 8 ≤ n → (p : ℕ) → p ≡ get_or places n 0 → (p ≡ 0 → ⊥) → found_of (Some (Operation (p - 1))) ≡ unbound_in places n
   unfolding found_of means_of unbound_in operation_at
-  unbound-some h e = rw (le-ltb n 8 h, ne_eqb _ _ e)
+  unbound-some h p is e = rw (le-ltb n 8 h, ← is, ne_eqb _ _ e)
 
 module _ (places : List ℕ) (x : Name) (b : ℕ) (b-is : b ≡ binding_key x.binding) where
   binding-is : x.binding ≡ binding_of b
   binding-is = sym (binding_of-key x.binding) ∙ ap binding_of (sym b-is)
 
-  pub lookup-none : b ≡ 0 → (n : ℕ) → n ≡ x.number → (r : Looked) → found_of r ≡ unbound_in places n → found_of r ≡ lookup_in places x
+  pub lookup-none : b ≡ 0 → (n : ℕ) → n ≡ x.number → (r : C.Option Meaning) → found_of r ≡ unbound_in places n → found_of r ≡ lookup_in places x
   unfolding lookup_in or_unbound binding_of
   lookup-none e n h r p = rw (binding-is, e, ← h) p
 
-  pub lookup-variable : (b ≡ 0 → ⊥) → b % 2 ≡ 1 → found_of (Finds (Variable (b / 2))) ≡ lookup_in places x
+  pub lookup-variable : (b ≡ 0 → ⊥) → b % 2 ≡ 1 → found_of (Some (Variable (b / 2))) ≡ lookup_in places x
   unfolding lookup_in or_unbound binding_of found_of means_of
   lookup-variable z e = rw (binding-is, ne_eqb _ _ z, eq-eqb _ _ e)
 
-  pub lookup-macro : (b ≡ 0 → ⊥) → (b % 2 ≡ 1 → ⊥) → found_of (Finds (Macro (b / 2 - 1))) ≡ lookup_in places x
+  pub lookup-macro : (b ≡ 0 → ⊥) → (b % 2 ≡ 1 → ⊥) → found_of (Some (Macro (b / 2 - 1))) ≡ lookup_in places x
   unfolding lookup_in or_unbound binding_of found_of means_of
   lookup-macro z e = rw (binding-is, ne_eqb _ _ z, ne_eqb _ _ e)
 

@@ -1,5 +1,5 @@
 -- Names in the arena: what is in hand when one is resolved, and what a lookup finds.
-use Rattle.std.specs.Prelude.{◌≡◌, Bool, cond, List, ℕ, ◌-◌, ◌≤◌, eqb, ltb, length, get_or, take}
+use Rattle.std.specs.Prelude.{◌≡◌, Bool, Some, None, cond, List, ℕ, ◌-◌, ◌≤◌, eqb, ltb, length, get_or, take}
 use Rattle.words.specs.Limits.{base_name_count}
 use Rattle.recipe.specs.Name.{variable, macro, Name, binding_key}
 use Rattle.expansion.specs.Lookup.{Found, bound, form, operation, nothing, form_of, or_unbound, agree}
@@ -7,8 +7,7 @@ use Rattle.arena.specs.Arena.{step_limit, newest, number_of, name_at}
 use Rattle.resolution.specs.Marks.{Hand, Holds}
 use Rattle.resolution.specs.declared.names.Meaning.{Meaning}
 use Rattle.resolution.specs.declared.names.Meaning.TheVariants.{Variable, Macro, Form, Operation}
-use Rattle.resolution.specs.declared.names.Looked.{Looked}
-use Rattle.resolution.specs.declared.names.Looked.TheVariants.{Finds, Nothing}
+use Rattle.std.specs.declared.option.Option.{Option}
 
 -- the name of a node under a wrap is in hand
 pub record Resolved (work : List ℕ) (node w : ℕ) (old new : List ℕ) (start count binding : ℕ) : Type 0 where
@@ -32,9 +31,9 @@ means_of (Macro n) = bound (macro n)
 means_of (Form k) = form (form_of k)
 means_of (Operation p) = operation p
 
-unfoldable pub found_of : Looked → Found
-found_of (Finds m) = means_of m
-found_of Nothing = nothing
+unfoldable pub found_of : Option Meaning → Found
+found_of (Some m) = means_of m
+found_of None = nothing
 
 -- operations by number: a table that holds each one's place, counted from 1; 0 is no operation
 unfoldable pub operation_at : ℕ → Found

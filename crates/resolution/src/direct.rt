@@ -1,35 +1,28 @@
 // Bindings found from the outside in, without marks in hand: where a name of the use or of a template has no more than one mark inside
 // the binder that it meets first, and no wraps are joined there. Most lookups are such; the others walk what waits (wraps.rt).
+// A mark of 0 is none and a key of 0 is no binding, as in the words of a binder's cell; a reference of 0 is no wrap.
 
-ghost use Rattle.std.specs.Prelude.{◌≡◌, true};
+ghost use Rattle.std.specs.Prelude.{◌≡◌, true, IfSome};
 ghost use Rattle.arena.specs.Offsets.{INNER};
 ghost use Rattle.arena.specs.Arena.{reference_at};
-ghost use Rattle.resolution.specs.Direct.{SkipsTo, Passes, MarkCell, OneMark, LoneMark, OnlyMark, count_of, Gives, Finds};
+ghost use Rattle.resolution.specs.Direct.{SkipsTo, Passes, IsMark, OneMark, LoneMark, OnlyMark, count_of, Gives, Finds};
 
 use crate::marks;
 use arena::cells;
-
-// Answered where the binding is not found so.
-pub const UNKNOWN: u32 = 4294967295;
 
 // Whether a cell is a binder of another number.
 fn is_other_binder(work: &[u32], number: u32, at: u32) -> bool
     ensures { result ≡ true → SkipsTo work.now number at }
 {
-    if cells::word(work, at, cells::TAG) != cells::BINDER {
-        return false;
-    }
-    cells::word(work, at, cells::BOUND_NUMBER) != number
+    cells::word(work, at, cells::TAG) == cells::BINDER
+        && cells::word(work, at, cells::BOUND_NUMBER) != number
 }
 
 // Whether a cell leaves the binding of a name of this number as the wrap inside it does: a mark, or a binder of another number.
 fn is_passed(work: &[u32], number: u32, at: u32) -> bool
     ensures { result ≡ true → Passes work.now number at (reference_at work.now at INNER) }
 {
-    if cells::word(work, at, cells::TAG) == cells::MARK {
-        return true;
-    }
-    is_other_binder(work, number, at)
+    cells::word(work, at, cells::TAG) == cells::MARK || is_other_binder(work, number, at)
 }
 
 // The outermost cell of wrap w that may change the binding of a name of this number, 0 where there is none.
@@ -46,70 +39,65 @@ fn passed(work: &[u32], number: u32, w: u32) -> u32
     0
 }
 
-// The step of a mark's cell, past the limit where it is none.
-fn mark_at(work: &[u32], at: u32) -> u32
-    ensures { MarkCell work.now at result }
+// The step of a mark's cell.
+fn mark_at(work: &[u32], at: u32) -> Option<u32>
+    ensures { IfSome result (IsMark work.now at) }
 {
     if cells::word(work, at, cells::TAG) != cells::MARK {
-        return marks::STEP_LIMIT;
+        return None;
     }
     let step = cells::word(work, at, cells::STEP);
-    if step == 0 {
-        return marks::STEP_LIMIT;
+    if step == 0 || marks::STEP_LIMIT <= step {
+        return None;
     }
-    step
+    Some(step)
 }
 
-// The one mark of a cell and of those around it, where these have `mark`, or 0 for none; past the limit where there are two, or the
+// The one mark of a cell and of those around it, where these have `mark`, or 0 for none. There is no answer where there are two, or the
 // cell is neither a mark nor a binder of another number.
-fn one_mark(work: &[u32], number: u32, at: u32, mark: u32) -> u32
-    ensures { OneMark work.now number at mark result }
+fn one_mark(work: &[u32], number: u32, at: u32, mark: u32) -> Option<u32>
+    ensures { IfSome result (OneMark work.now number at mark) }
 {
     if is_other_binder(work, number, at) {
-        return mark;
+        return Some(mark);
     }
     if mark != 0 {
-        return marks::STEP_LIMIT;
+        return None;
     }
     mark_at(work, at)
 }
 
-// The one mark of wrap w, 0 where it has none; past the limit where there are more, or cells that are neither marks nor binders of
+// The one mark of wrap w, 0 where it has none. There is no answer where there are more, or cells that are neither marks nor binders of
 // other numbers.
-fn lone_mark(work: &[u32], number: u32, w: u32) -> u32
-    ensures { LoneMark work.now number w result }
+fn lone_mark(work: &[u32], number: u32, w: u32) -> Option<u32>
+    ensures { IfSome result (LoneMark work.now number w) }
 {
     let mut at = w;
     let mut mark = 0;
     while at != 0 {
-        mark = one_mark(work, number, at, mark);
-        if marks::STEP_LIMIT <= mark {
-            return marks::STEP_LIMIT;
-        }
+        mark = one_mark(work, number, at, mark)?;
         at = cells::reference(work, at, cells::INNER);
     }
-    mark
+    Some(mark)
 }
 
-// The one mark of a name of this number under its own wrap and a pending one, 0 where it has none; past the limit where it may have
+// The one mark of a name of this number under its own wrap and a pending one, 0 where it has none. There is no answer where it may have
 // more, or a binding.
-pub fn only_mark(work: &[u32], number: u32, own: u32, w: u32) -> u32
-    ensures { OnlyMark work.now number own w result }
+pub fn only_mark(work: &[u32], number: u32, own: u32, w: u32) -> Option<u32>
+    ensures { IfSome result (OnlyMark work.now number own w) }
 {
-    if lone_mark(work, number, own) != 0 {
-        return marks::STEP_LIMIT;
+    if lone_mark(work, number, own)? != 0 {
+        return None;
     }
     lone_mark(work, number, w)
 }
 
 // How many marks there are where this is the only one.
+#[tactic(auto, unfolding(crate::specs::Direct::count_of))]
 pub fn count_of(mark: u32) -> u32
     ensures { result ≡ count_of mark }
 {
-    if mark == 0 {
-        return 0;
-    }
-    1
+    u32::from(mark != 0)
 }
 
 // The key that binder `at` gives a name of this number that has one mark or none, and no binding.
@@ -132,27 +120,20 @@ fn given_key(work: &[u32], number: u32, at: u32, mark: u32) -> u32
 }
 
 // The key of the binding that a wrap gives a name of this number whose own wrap is `own`, where the wrap's outermost cell is a binder.
-fn binding_by(work: &[u32], number: u32, own: u32, at: u32) -> u32
-    ensures { Finds work.now number own at result }
+fn binding_by(work: &[u32], number: u32, own: u32, at: u32) -> Option<u32>
+    ensures { IfSome result (Finds work.now number own at) }
 {
     if cells::word(work, at, cells::TAG) != cells::BINDER {
-        return UNKNOWN;
+        return None;
     }
-    let mark = only_mark(
-        &work[0..],
-        number,
-        own,
-        cells::reference(work, at, cells::INNER),
-    );
-    if marks::STEP_LIMIT <= mark {
-        return UNKNOWN;
-    }
-    given_key(work, number, at, mark)
+    let inner = cells::reference(work, at, cells::INNER);
+    let mark = only_mark(&work[0..], number, own, inner)?;
+    Some(given_key(work, number, at, mark))
 }
 
 // The key of the binding of a name of this number under its own wrap and a pending one, where it is found so.
-pub fn binding(work: &[u32], number: u32, own: u32, w: u32) -> u32
-    ensures { Finds work.now number own w result }
+pub fn binding(work: &[u32], number: u32, own: u32, w: u32) -> Option<u32>
+    ensures { IfSome result (Finds work.now number own w) }
 {
     let outer = passed(work, number, w);
     if outer != 0 {
@@ -162,5 +143,5 @@ pub fn binding(work: &[u32], number: u32, own: u32, w: u32) -> u32
     if inner != 0 {
         return binding_by(work, number, 0, inner);
     }
-    0
+    Some(0)
 }

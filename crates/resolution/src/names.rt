@@ -3,37 +3,22 @@
 // more than that has room for, into larger ones. Slices that are handed on to a walk that is seldom made are handed on as parts, so
 // that they are put into memory there alone.
 
-ghost use Rattle.std.specs.Prelude.{◌≡◌, ◌+◌, ◌*◌, ◌≤◌, ◌<◌, length};
+ghost use Rattle.std.specs.Prelude.{◌≡◌, ◌+◌, ◌*◌, ◌≤◌, ◌<◌, length, MatchOption};
 ghost use Rattle.std.proofs.Math.Option.{some};
 ghost use Rattle.recipe.specs.Name.{variable, macro, same, binding_key};
 ghost use Rattle.recipe.specs.Tree.{is_ordinary_name};
 ghost use Rattle.arena.specs.Arena.{step_limit, name_at, number_of};
 ghost use Rattle.arena.specs.Cells.{Room, Binds};
 ghost use Rattle.arena.specs.Lists.{Tests};
-ghost use Rattle.resolution.specs.Marks.{Fits, Tells};
 ghost use Rattle.resolution.specs.Names.{Resolved, Summed, found_of, lookup_in, unbound_in, Agrees};
 
-use crate::marks::Compared;
 use crate::wraps::InHand;
 use crate::{direct, marks, wraps};
 use arena::cells::Binder;
 use arena::{cells, origins};
-use datum::base_names;
 
 // The numbers of the names that begin base forms, and of `...` and `_`.
-pub const QUOTE: u32 = base_names::QUOTE;
-
-pub const IF: u32 = base_names::IF;
-
-pub const LAMBDA: u32 = base_names::LAMBDA;
-
-pub const LET_SYNTAX: u32 = base_names::LET_SYNTAX;
-
-pub const LETREC_SYNTAX: u32 = base_names::LETREC_SYNTAX;
-
-pub const ELLIPSIS: u32 = base_names::ELLIPSIS;
-
-pub const WILDCARD: u32 = base_names::WILDCARD;
+pub use datum::base_names::{ELLIPSIS, IF, LAMBDA, LET_SYNTAX, LETREC_SYNTAX, QUOTE, WILDCARD};
 
 const BASE_NAMES: u32 = words::BASE_NAMES as u32;
 
@@ -54,14 +39,8 @@ pub enum Meaning {
     Operation(u32),
 }
 
-// What a lookup finds.
-#[derive(Clone, Copy)]
-pub enum Looked {
-    Finds(Meaning),
-    Nothing,
-}
-
 // The key of a variable's binding; variables are fewer than items and fuel together.
+#[tactic(auto, unfolding(recipe::specs::Name::binding_key))]
 pub fn variable_key(n: u32) -> u32
     requires { n < 2147483647 }
     ensures { result ≡ binding_key (some (variable n)) }
@@ -70,6 +49,7 @@ pub fn variable_key(n: u32) -> u32
 }
 
 // The key of a macro's binding.
+#[tactic(auto, unfolding(recipe::specs::Name::binding_key))]
 pub fn macro_key(n: u32) -> u32
     requires { n < 2147483647 }
     ensures { result ≡ binding_key (some (macro n)) }
@@ -85,22 +65,18 @@ pub fn number_of(work: &[u32], node: u32) -> u32
 }
 
 // A name node under a pending wrap: its marks from `start`, their count, and its binding's key.
-fn resolve(work: &[u32], table: &mut [u32], start: usize, node: u32, w: u32) -> InHand
+fn resolve(work: &[u32], table: &mut [u32], start: usize, node: u32, w: u32) -> Option<InHand>
     requires { start ≤ length table.old }
-    ensures { Fits table.new (start + step_limit + step_limit) result.count (Resolved work.now node w table.old table.new start result.count result.binding) }
+    ensures { MatchOption result (length table.new ≤ start + step_limit + step_limit) (λ r. Resolved work.now node w table.old table.new start r.count r.binding) }
 {
     let number = number_of(work, node);
     let own = cells::reference(work, node, cells::OWN);
-    let s = wraps::walked(work, table, start, 0, number, 0, own);
-    let n = s.count;
-    let b = s.binding;
-    if table.len() < n {
-        return InHand {
-            count: n,
-            binding: b,
-        };
-    }
-    wraps::walk(work, table, start, n, number, b, w)
+    let plain = InHand {
+        count: 0,
+        binding: 0,
+    };
+    let held = wraps::walked(work, table, start, number, plain, own)?;
+    wraps::walk(work, table, start, number, held, w)
 }
 
 // Whether a node is a name that may be bound: other than `...` and `_`, which are known by number alone.
@@ -111,10 +87,7 @@ pub fn is_ordinary(work: &[u32], node: u32) -> bool
         return false;
     }
     let number = number_of(work, node);
-    if number == ELLIPSIS {
-        return false;
-    }
-    number != WILDCARD
+    number != ELLIPSIS && number != WILDCARD
 }
 
 // A name as a binder keeps it: its binding's key, how many marks it has, and the newest.
@@ -126,24 +99,15 @@ pub struct Summary {
 }
 
 // A name's summary, where the table has room for its marks.
-fn summary_in(work: &[u32], table: &mut [u32], node: u32, w: u32) -> Summary
-    ensures { Fits table.new (2 * step_limit) result.count (Summed (name_at work.now node w) result.binding result.count result.newest) }
+fn summary_in(work: &[u32], table: &mut [u32], node: u32, w: u32) -> Option<Summary>
+    ensures { MatchOption result (length table.new ≤ 2 * step_limit) (λ s. Summed (name_at work.now node w) s.binding s.count s.newest) }
 {
-    let x = resolve(work, table, 0, node, w);
-    let count = x.count;
-    if table.len() < count {
-        return Summary {
-            binding: 0,
-            count: count,
-            newest: 0,
-        };
-    }
-    let newest = marks::newest_of(table, 0, count);
-    Summary {
-        binding: x.binding,
-        count: count,
-        newest: newest,
-    }
+    let held = resolve(work, table, 0, node, w)?;
+    Some(Summary {
+        binding: held.binding,
+        count: held.count,
+        newest: marks::newest_of(table, 0, held.count),
+    })
 }
 
 // A name's summary, in the table or, where its marks do not fit, in a larger one. It calls itself with that, and what calls
@@ -151,8 +115,7 @@ fn summary_in(work: &[u32], table: &mut [u32], node: u32, w: u32) -> Summary
 fn summary_grown(work: &[u32], table: &mut [u32], node: u32, w: u32) -> Summary
     ensures { Summed (name_at work.now node w) result.binding result.count result.newest }
 {
-    let s = summary_in(work, table, node, w);
-    if s.count <= table.len() {
+    if let Some(s) = summary_in(work, table, node, w) {
         return s;
     }
     let mut larger = [0u32; LARGE_WORDS];
@@ -164,8 +127,7 @@ fn summary_walked(work: &[u32], node: u32, w: u32) -> Summary
     ensures { Summed (name_at work.now node w) result.binding result.count result.newest }
 {
     let mut few = [0u32; FEW_WORDS];
-    let s = summary_in(work, &mut few, node, w);
-    if s.count <= FEW_WORDS {
+    if let Some(s) = summary_in(work, &mut few, node, w) {
         return s;
     }
     let mut more = [0u32; MORE_WORDS];
@@ -178,12 +140,11 @@ fn summary_of(work: &[u32], node: u32, w: u32) -> Summary
 {
     let number = number_of(work, node);
     let own = cells::reference(work, node, cells::OWN);
-    let mark = direct::only_mark(work, number, own, w);
-    if mark < marks::STEP_LIMIT {
+    if let Some(newest) = direct::only_mark(work, number, own, w) {
         return Summary {
             binding: 0,
-            count: direct::count_of(mark) as usize,
-            newest: mark,
+            count: direct::count_of(newest) as usize,
+            newest,
         };
     }
     summary_walked(&work[0..], node, w)
@@ -195,54 +156,39 @@ pub fn binding_of(work: &[u32], node: u32, w: u32) -> u32
 {
     let number = number_of(work, node);
     let own = cells::reference(work, node, cells::OWN);
-    let key = direct::binding(work, number, own, w);
-    if key != direct::UNKNOWN {
+    if let Some(key) = direct::binding(work, number, own, w) {
         return key;
     }
-    let s = summary_walked(&work[0..], node, w);
-    s.binding
+    summary_walked(&work[0..], node, w).binding
 }
 
 // Whether two names are the same, where the table has room for the marks of both: number, marks and binding together.
-fn compare(work: &[u32], table: &mut [u32], a: u32, v: u32, b: u32, w: u32) -> Compared
-    ensures { Tells table.new (3 * step_limit) (λ t. t ≡ same (name_at work.now a v) (name_at work.now b w)) result }
+fn compare(work: &[u32], table: &mut [u32], a: u32, v: u32, b: u32, w: u32) -> Option<bool>
+    ensures { MatchOption result (length table.new ≤ 3 * step_limit) (λ t. t ≡ same (name_at work.now a v) (name_at work.now b w)) }
 {
     if number_of(work, a) != number_of(work, b) {
-        return Compared::Other;
+        return Some(false);
     }
-    let x = resolve(work, table, 0, a, v);
-    let count = x.count;
-    if table.len() < count {
-        return Compared::Full;
-    }
-    let y = resolve(work, table, count, b, w);
-    if table.len() < y.count {
-        return Compared::Full;
-    }
+    let x = resolve(work, table, 0, a, v)?;
+    let y = resolve(work, table, x.count, b, w)?;
     if x.binding != y.binding {
-        return Compared::Other;
+        return Some(false);
     }
-    if count != y.count {
-        return Compared::Other;
+    if x.count != y.count {
+        return Some(false);
     }
-    if marks::equal_marks(table, 0, count, count) {
-        return Compared::Same;
-    }
-    Compared::Other
+    Some(marks::equal_marks(table, 0, x.count, x.count))
 }
 
 // Whether two names are the same, in the table or, where their marks do not fit, in a larger one, as `summary_grown`.
 fn same_grown(work: &[u32], table: &mut [u32], a: u32, v: u32, b: u32, w: u32) -> bool
     ensures { result ≡ same (name_at work.now a v) (name_at work.now b w) }
 {
-    match compare(work, table, a, v, b, w) {
-        Compared::Same => true,
-        Compared::Other => false,
-        Compared::Full => {
-            let mut larger = [0u32; LARGE_WORDS];
-            same_grown(work, &mut larger, a, v, b, w)
-        }
+    if let Some(same) = compare(work, table, a, v, b, w) {
+        return same;
     }
+    let mut larger = [0u32; LARGE_WORDS];
+    same_grown(work, &mut larger, a, v, b, w)
 }
 
 // Whether two names are the same, by walking what waits on them.
@@ -250,14 +196,11 @@ fn same_walked(work: &[u32], a: u32, v: u32, b: u32, w: u32) -> bool
     ensures { result ≡ same (name_at work.now a v) (name_at work.now b w) }
 {
     let mut few = [0u32; FEW_WORDS];
-    match compare(work, &mut few, a, v, b, w) {
-        Compared::Same => true,
-        Compared::Other => false,
-        Compared::Full => {
-            let mut more = [0u32; MORE_WORDS];
-            same_grown(work, &mut more, a, v, b, w)
-        }
+    if let Some(same) = compare(work, &mut few, a, v, b, w) {
+        return same;
     }
+    let mut more = [0u32; MORE_WORDS];
+    same_grown(work, &mut more, a, v, b, w)
 }
 
 // Whether two names are the same. Their numbers tell most apart.
@@ -279,49 +222,44 @@ pub fn bind(work: &mut [u32], top: u32, node: u32, w: u32, key: u32, parent: u32
     let s = summary_of(work, node, w);
     let own = cells::reference(work, node, cells::OWN);
     let binder = Binder {
-        number: number,
+        number,
         binding: s.binding,
         count: s.count as u32,
         newest: s.newest,
-        own: own,
+        own,
         pending: w,
-        key: key,
-        parent: parent,
+        key,
+        parent,
     };
     cells::put_binder(work, top, binder)
 }
 
 // What a name without a binding means: a base form, an operation by the table of their places, or nothing.
-fn unbound(operations: &[u16], number: u32) -> Looked
+fn unbound(operations: &[u16], number: u32) -> Option<Meaning>
     ensures { found_of result ≡ unbound_in operations.now number }
 {
     if number < BASE_NAMES {
-        return Looked::Finds(Meaning::Form(number));
+        return Some(Meaning::Form(number));
     }
-    let i = number as usize;
-    if operations.len() <= i {
-        return Looked::Nothing;
-    }
-    let place = operations[i] as u32;
+    let place = *operations.get(number as usize)?;
     if place == 0 {
-        return Looked::Nothing;
+        return None;
     }
-    Looked::Finds(Meaning::Operation(place - 1))
+    Some(Meaning::Operation(u32::from(place) - 1))
 }
 
 // A lookup finds the binding; without one, a base form, an operation, or nothing.
-pub fn lookup(work: &[u32], operations: &[u16], node: u32, w: u32) -> Looked
+pub fn lookup(work: &[u32], operations: &[u16], node: u32, w: u32) -> Option<Meaning>
     ensures { found_of result ≡ lookup_in operations.now (name_at work.now node w) }
 {
     let b = binding_of(work, node, w);
     if b == 0 {
-        let number = number_of(work, node);
-        return unbound(operations, number);
+        return unbound(operations, number_of(work, node));
     }
     if b % 2 == 1 {
-        return Looked::Finds(Meaning::Variable(b / 2));
+        return Some(Meaning::Variable(b / 2));
     }
-    Looked::Finds(Meaning::Macro(b / 2 - 1))
+    Some(Meaning::Macro(b / 2 - 1))
 }
 
 // Whether a literal, by its number and its binding's key, agrees with a name.
@@ -329,11 +267,5 @@ pub fn agrees(work: &[u32], number: u32, binding: u32, node: u32, w: u32) -> boo
     ensures { Agrees number binding (name_at work.now node w) result }
 {
     let b = binding_of(work, node, w);
-    if b != binding {
-        return false;
-    }
-    if b != 0 {
-        return true;
-    }
-    number == number_of(work, node)
+    b == binding && (b != 0 || number == number_of(work, node))
 }

@@ -1,44 +1,37 @@
 // Walking a wrap: what waits on a name, carried out on the name in hand, from the inside out.
 // The marks in hand are lent a table of their own, so that the arena is only read.
 
-ghost use Rattle.std.specs.Prelude.{◌+◌, ◌≤◌, length};
+ghost use Rattle.std.specs.Prelude.{◌+◌, ◌≤◌, length, MatchOption};
 ghost use Rattle.arena.specs.Arena.{wrap_at, rebound, step_limit};
-ghost use Rattle.resolution.specs.Marks.{Hand, MarksAfter, OwnMarks, NameAfter, Fits, Tells, OwnIs};
+ghost use Rattle.resolution.specs.Marks.{Hand, MarksAfter, OwnMarks, NameAfter, OwnIs};
 
 use crate::marks;
-use crate::marks::Compared;
 use arena::cells;
 
 // The marks of a name after wrap w, where there is one; answers their count. The walk is spared where no wrap is left.
 #[cycle(marks_after_marks_left)]
-fn marks_left(work: &[u32], table: &mut [u32], start: usize, count: usize, w: u32) -> usize
+fn marks_left(work: &[u32], table: &mut [u32], start: usize, count: usize, w: u32) -> Option<usize>
     requires { Hand table.old start count }
-    ensures { Fits table.new (start + step_limit) result (MarksAfter (wrap_at work.now w) table.old table.new start count result) }
+    ensures { MatchOption result (length table.new ≤ start + step_limit) (MarksAfter (wrap_at work.now w) table.old table.new start count) }
 {
     if w == 0 {
-        return count;
+        return Some(count);
     }
     marks_after(work, table, start, count, w)
 }
 
 // The marks of a name after wrap w; answers their count.
 #[cycle(marks_after_marks_left)]
-fn marks_after(work: &[u32], table: &mut [u32], start: usize, count: usize, w: u32) -> usize
+fn marks_after(work: &[u32], table: &mut [u32], start: usize, count: usize, w: u32) -> Option<usize>
     requires { Hand table.old start count }
-    ensures { Fits table.new (start + step_limit) result (MarksAfter (wrap_at work.now w) table.old table.new start count result) }
+    ensures { MatchOption result (length table.new ≤ start + step_limit) (MarksAfter (wrap_at work.now w) table.old table.new start count) }
 {
     let tag = cells::word(work, w, cells::TAG);
-    if tag == 0 {
-        return count;
-    }
-    if cells::BINDER < tag {
-        return count;
+    if tag == 0 || cells::BINDER < tag {
+        return Some(count);
     }
     let inner = cells::reference(work, w, cells::INNER);
-    let n = marks_left(work, table, start, count, inner);
-    if table.len() < n {
-        return n;
-    }
+    let n = marks_left(work, table, start, count, inner)?;
     if tag == cells::MARK {
         let m = cells::word(work, w, cells::STEP);
         return marks::mark(table, start, n, m);
@@ -47,65 +40,18 @@ fn marks_after(work: &[u32], table: &mut [u32], start: usize, count: usize, w: u
         let outer = cells::reference(work, w, cells::OUTER);
         return marks_left(work, table, start, n, outer);
     }
-    n
+    Some(n)
 }
 
 // The marks of a binder's own name, from `start`; answers their count.
-fn own_marks(work: &[u32], table: &mut [u32], start: usize, w: u32) -> usize
+fn own_marks(work: &[u32], table: &mut [u32], start: usize, w: u32) -> Option<usize>
     requires { start ≤ length table.old }
-    ensures { Fits table.new (start + step_limit) result (OwnMarks work.now w table.old table.new start result) }
+    ensures { MatchOption result (length table.new ≤ start + step_limit) (OwnMarks work.now w table.old table.new start) }
 {
     let own = cells::reference(work, w, cells::BOUND_OWN);
-    let n = marks_after(work, table, start, 0, own);
-    if table.len() < n {
-        return n;
-    }
+    let n = marks_after(work, table, start, 0, own)?;
     let pending = cells::reference(work, w, cells::BOUND_PENDING);
     marks_after(work, table, start, n, pending)
-}
-
-// Whether the name in hand is the same as the own name of binder w, judged with the marks of its time. Number, binding, count
-// and newest mark tell most names apart, and settle it where there is at most one mark; else the wraps of the binder's own
-// name are walked.
-fn is_own(
-    work: &[u32],
-    table: &mut [u32],
-    start: usize,
-    count: usize,
-    number: u32,
-    binding: u32,
-    w: u32,
-) -> Compared
-    requires { Hand table.old start count }
-    ensures { Tells table.new (start + step_limit + step_limit) (OwnIs work.now w table.old table.new start number count binding) result }
-{
-    if cells::word(work, w, cells::BOUND_NUMBER) != number {
-        return Compared::Other;
-    }
-    if cells::word(work, w, cells::BOUND_KEY) != binding {
-        return Compared::Other;
-    }
-    if cells::word(work, w, cells::BOUND_COUNT) as usize != count {
-        return Compared::Other;
-    }
-    if cells::word(work, w, cells::BOUND_NEWEST) != marks::newest_of(table, start, count) {
-        return Compared::Other;
-    }
-    if count < 2 {
-        return Compared::Same;
-    }
-    let behind = start + count;
-    let own = own_marks(work, table, behind, w);
-    if table.len() < own {
-        return Compared::Full;
-    }
-    if own != count {
-        return Compared::Other;
-    }
-    if marks::equal_marks(table, behind, start, count) {
-        return Compared::Same;
-    }
-    Compared::Other
 }
 
 // The name in hand: how many marks it has, and its binding's key.
@@ -115,36 +61,61 @@ pub struct InHand {
     pub binding: u32,
 }
 
+// Whether the name in hand is the same as the own name of binder w, judged with the marks of its time. Number, binding, count
+// and newest mark tell most names apart, and settle it where there is at most one mark; else the wraps of the binder's own
+// name are walked.
+fn is_own(
+    work: &[u32],
+    table: &mut [u32],
+    start: usize,
+    number: u32,
+    held: InHand,
+    w: u32,
+) -> Option<bool>
+    requires { Hand table.old start held.count }
+    ensures { MatchOption result (length table.new ≤ start + step_limit + step_limit) (OwnIs work.now w table.old table.new start number held.count held.binding) }
+{
+    if cells::word(work, w, cells::BOUND_NUMBER) != number {
+        return Some(false);
+    }
+    if cells::word(work, w, cells::BOUND_KEY) != held.binding {
+        return Some(false);
+    }
+    if cells::word(work, w, cells::BOUND_COUNT) as usize != held.count {
+        return Some(false);
+    }
+    if cells::word(work, w, cells::BOUND_NEWEST) != marks::newest_of(table, start, held.count) {
+        return Some(false);
+    }
+    if held.count < 2 {
+        return Some(true);
+    }
+    let behind = start + held.count;
+    let own = own_marks(work, table, behind, w)?;
+    if own != held.count {
+        return Some(false);
+    }
+    Some(marks::equal_marks(table, behind, start, held.count))
+}
+
 // The name in hand after binder w: the binder's own name gets the new binding.
 fn rebind(
     work: &[u32],
     table: &mut [u32],
     start: usize,
-    count: usize,
     number: u32,
-    binding: u32,
+    held: InHand,
     w: u32,
-) -> InHand
-    requires { Hand table.old start count }
-    ensures { Fits table.new (start + step_limit + step_limit) result.count (NameAfter (rebound work.now (wrap_at work.now) w) table.old table.new start number count binding result.count result.binding) }
+) -> Option<InHand>
+    requires { Hand table.old start held.count }
+    ensures { MatchOption result (length table.new ≤ start + step_limit + step_limit) (λ r. NameAfter (rebound work.now (wrap_at work.now) w) table.old table.new start number held.count held.binding r.count r.binding) }
 {
-    match is_own(work, table, start, count, number, binding, w) {
-        Compared::Same => {
-            let key = cells::word(work, w, cells::KEY);
-            InHand {
-                count: count,
-                binding: key,
-            }
-        }
-        Compared::Other => InHand {
-            count: count,
-            binding: binding,
-        },
-        Compared::Full => InHand {
-            count: table.len() + 1,
-            binding: binding,
-        },
+    let same = is_own(work, table, start, number, held, w)?;
+    if same {
+        let binding = cells::word(work, w, cells::KEY);
+        return Some(InHand { binding, ..held });
     }
+    Some(held)
 }
 
 // The name in hand after wrap w, where there is one. Most wraps are a cell or two: the walk is spared where none is left.
@@ -153,21 +124,17 @@ pub fn walked(
     work: &[u32],
     table: &mut [u32],
     start: usize,
-    count: usize,
     number: u32,
-    binding: u32,
+    held: InHand,
     w: u32,
-) -> InHand
-    requires { Hand table.old start count }
-    ensures { Fits table.new (start + step_limit + step_limit) result.count (NameAfter (wrap_at work.now w) table.old table.new start number count binding result.count result.binding) }
+) -> Option<InHand>
+    requires { Hand table.old start held.count }
+    ensures { MatchOption result (length table.new ≤ start + step_limit + step_limit) (λ r. NameAfter (wrap_at work.now w) table.old table.new start number held.count held.binding r.count r.binding) }
 {
     if w == 0 {
-        return InHand {
-            count: count,
-            binding: binding,
-        };
+        return Some(held);
     }
-    walk(work, table, start, count, number, binding, w)
+    walk(work, table, start, number, held, w)
 }
 
 // The name in hand after wrap w: a mark toggles, a binder gives its binding to the same name, a join is one wrap after
@@ -177,48 +144,27 @@ pub fn walk(
     work: &[u32],
     table: &mut [u32],
     start: usize,
-    count: usize,
     number: u32,
-    binding: u32,
+    held: InHand,
     w: u32,
-) -> InHand
-    requires { Hand table.old start count }
-    ensures { Fits table.new (start + step_limit + step_limit) result.count (NameAfter (wrap_at work.now w) table.old table.new start number count binding result.count result.binding) }
+) -> Option<InHand>
+    requires { Hand table.old start held.count }
+    ensures { MatchOption result (length table.new ≤ start + step_limit + step_limit) (λ r. NameAfter (wrap_at work.now w) table.old table.new start number held.count held.binding r.count r.binding) }
 {
     let tag = cells::word(work, w, cells::TAG);
-    if tag == 0 {
-        return InHand {
-            count: count,
-            binding: binding,
-        };
-    }
-    if cells::BINDER < tag {
-        return InHand {
-            count: count,
-            binding: binding,
-        };
+    if tag == 0 || cells::BINDER < tag {
+        return Some(held);
     }
     let inner = cells::reference(work, w, cells::INNER);
-    let s = walked(work, table, start, count, number, binding, inner);
-    let n = s.count;
-    let b = s.binding;
-    if table.len() < n {
-        return InHand {
-            count: n,
-            binding: b,
-        };
-    }
+    let s = walked(work, table, start, number, held, inner)?;
     if tag == cells::MARK {
         let m = cells::word(work, w, cells::STEP);
-        let k = marks::mark(table, start, n, m);
-        return InHand {
-            count: k,
-            binding: b,
-        };
+        let count = marks::mark(table, start, s.count, m)?;
+        return Some(InHand { count, ..s });
     }
     if tag == cells::JOIN {
         let outer = cells::reference(work, w, cells::OUTER);
-        return walked(work, table, start, n, number, b, outer);
+        return walked(work, table, start, number, s, outer);
     }
-    rebind(work, table, start, n, number, b, w)
+    rebind(work, table, start, number, s, w)
 }

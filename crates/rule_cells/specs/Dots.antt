@@ -1,11 +1,9 @@
--- The ellipsis of rules among trees in the arena: told by one word, and its laws, one for each way through the code.
-use Rattle.std.specs.Prelude.{◌≡◌, Bool, true, ◌&&◌, ◌||◌, cond, List, ℕ, ◌≤◌, eqb, take}
+-- The ellipsis of rules among trees in the arena, and its laws, one for each way through the code.
+use Rattle.std.specs.Prelude.{◌≡◌, Bool, true, ◌&&◌, List, ℕ, ◌≤◌, eqb, take}
 use Rattle.std.proofs.Math.Path.{refl, sym}
-use Rattle.std.proofs.Common.{ap, ap₂, ◌∙◌}
+use Rattle.std.proofs.Common.{◌∙◌}
 use Rattle.std.proofs.Math.Bool.{false}
-use borrow.Author.Tests.{ne_eqb}
 use Rattle.words.specs.Lists.{any_of}
-use Rattle.words.specs.ListLaws.{either}
 use Rattle.recipe.specs.Name.{Name, same, is_ellipsis}
 use Rattle.recipe.specs.Tree.{Tree, on_pair, on_name, elements, tail}
 use Rattle.expansion.specs.Rules.{no_ellipsis, dots_next}
@@ -15,33 +13,49 @@ use Rattle.arena.specs.NodeLaws.{tree_at-name, tree_at-pair, name_at-number}
 use Rattle.arena.specs.Lists.{Means}
 use Rattle.arena.specs.ListLaws.{no_name, no-pair, no-elements}
 use Rattle.rule_cells.specs.MadeLaws.{name-kept}
+use Rattle.rule_cells.specs.declared.dots.Dots.{Dots}
+use Rattle.rule_cells.specs.declared.dots.Dots.TheVariants.{Default, Never, Chosen}
+use native.Mathlib.Omega.{arith}
 
--- 0 is `...`, known by number; 1, which refers to no node, is no name; any other is the node of the chosen name, known by sameness
-unfoldable pub dots_at : (work : List ℕ) (dots w : ℕ) → Name → Bool
-dots_at work dots w = cond (eqb dots 0) is_ellipsis (cond (eqb dots 1) no_ellipsis (same (name_at work dots w)))
+-- `...`, known by number; no name; or the chosen name, by its node, known by sameness
+unfoldable pub dots_at : (work : List ℕ) (dots : Dots) (w : ℕ) → Name → Bool
+dots_at work Default w = is_ellipsis
+dots_at work Never w = no_ellipsis
+dots_at work (Chosen node) w = same (name_at work node w)
+
+-- a chosen name's node stands below b
+abbrev pub DotsBelow : (dots : Dots) (b : ℕ) → Type 0
+DotsBelow Default b = Unit {0}
+DotsBelow Never b = Unit {0}
+DotsBelow (Chosen node) b = node ≤ b
+
+pub dots-higher : (dots : Dots) (a b : ℕ) → a ≤ b → DotsBelow dots a → DotsBelow dots b
+dots-higher Default a b h l = tt
+dots-higher Never a b h l = tt
+dots-higher (Chosen node) a b h l = omega arith
 
 -- the tree is the ellipsis
-abbrev pub is_dots : (work : List ℕ) (dots w : ℕ) → Tree → Bool
+abbrev pub is_dots : (work : List ℕ) (dots : Dots) (w : ℕ) → Tree → Bool
 is_dots work dots w = on_name (dots_at work dots w) false
 
 -- the ellipsis stands among the elements of a list
-abbrev pub dots_among : (work : List ℕ) (dots w : ℕ) → Tree → Bool
+abbrev pub dots_among : (work : List ℕ) (dots : Dots) (w : ℕ) → Tree → Bool
 dots_among work dots w t = any_of (is_dots work dots w) (elements t)
 
-module _ (work : List ℕ) (dots w : ℕ) where
-  pub dots-default : (x : Name) → dots ≡ 0 → dots_at work dots w x ≡ is_ellipsis x
+module _ (work : List ℕ) (dots : Dots) (w : ℕ) where
+  pub dots-default : (x : Name) → dots ≡ Default → dots_at work dots w x ≡ is_ellipsis x
   unfolding dots_at
   dots-default x e = rw e refl
 
-  pub dots-never : (x : Name) → dots ≡ 1 → dots_at work dots w x ≡ false
+  pub dots-never : (x : Name) → dots ≡ Never → dots_at work dots w x ≡ false
   unfolding dots_at no_ellipsis
   dots-never x e = rw e refl
 
-  pub dots-chosen : (x : Name) → (dots ≡ 0 → ⊥) → (dots ≡ 1 → ⊥) → dots_at work dots w x ≡ same (name_at work dots w) x
+  pub dots-chosen : (x : Name) (node : ℕ) → dots ≡ Chosen node → dots_at work dots w x ≡ same (name_at work node w) x
   unfolding dots_at
-  dots-chosen x n m = rw (ne_eqb dots 0 n, ne_eqb dots 1 m) refl
+  dots-chosen x node e = rw e refl
 
-  pub dots-by-number : (node n : ℕ) → dots ≡ 0 → n ≡ number_of work node → eqb n 6 ≡ dots_at work dots w (name_at work node w)
+  pub dots-by-number : (node n : ℕ) → dots ≡ Default → n ≡ number_of work node → eqb n 6 ≡ dots_at work dots w (name_at work node w)
   unfolding is_ellipsis
   dots-by-number node n e f = sym (dots-default (name_at work node w) e ∙ rw (name_at-number work node w, ← f) refl)
 
@@ -83,6 +97,8 @@ module _ (work : List ℕ) (dots w : ℕ) where
   crowded-by rest after followed b e m h = rw (e, ← m.is w) h
 
 -- new cells change no name
-pub dots-kept : (old new : List ℕ) (top : ℕ) → take top new ≡ take top old → (dots w : ℕ) → dots ≤ top → w ≤ top → dots_at new dots w ≡ dots_at old dots w
+pub dots-kept : (old new : List ℕ) (top : ℕ) → take top new ≡ take top old → (dots : Dots) (w : ℕ) → DotsBelow dots top → w ≤ top → dots_at new dots w ≡ dots_at old dots w
 unfolding dots_at
-dots-kept old new top kept dots w l m = rw (name-kept old new top kept dots w l m) refl
+dots-kept old new top kept Default w l m = refl
+dots-kept old new top kept Never w l m = refl
+dots-kept old new top kept (Chosen node) w l m = rw (name-kept old new top kept node w l m) refl

@@ -17,7 +17,9 @@ use Rattle.arena.specs.Arena.{word_at, reference_at, name_at, tree_at, number_of
 use Rattle.arena.specs.NodeLaws.{tree_at-name, tree_at-pair, name_at-number}
 use Rattle.arena.specs.Lists.{Means, Counts, Tests}
 use Rattle.arena.specs.ListLaws.{no_name, no-elements}
-use Rattle.rule_cells.specs.Dots.{dots_at}
+use Rattle.rule_cells.specs.Dots.{dots_at, DotsBelow}
+use Rattle.rule_cells.specs.declared.dots.Dots.{Dots}
+use Rattle.rule_cells.specs.declared.dots.Dots.TheVariants as told
 
 -- every element of a list may be a literal
 unfoldable pub literals_all : (dots : Name → Bool) → Tree → Bool
@@ -35,14 +37,14 @@ chosen_good = on_name is_ordinary true
 unfoldable pub rules_body : Tree → Bool
 rules_body t = literals_good (ellipsis_of t) (literal_list t) && within 1 rules_most (length (elements (rule_list t)))
 
--- the word that tells the ellipsis of a form
-pub record Chosen (work : List ℕ) (node dots : ℕ) : Type 0 where
+-- what the ellipsis of a form is
+pub record Chosen (work : List ℕ) (node : ℕ) (dots : Dots) : Type 0 where
   pub is : (w : ℕ) → dots_at work dots w ≡ ellipsis_of (tree_at work node w)
-  pub low : dots ≤ node
+  pub low : DotsBelow dots node
 
 -- ---- literals
 
-module _ (work : List ℕ) (dots w node : ℕ) where
+module _ (work : List ℕ) (dots : Dots) (w node : ℕ) where
   abbrev ds : Name → Bool
   ds = dots_at work dots w
 
@@ -96,24 +98,14 @@ module _ (work : List ℕ) (node : ℕ) where
   unfolding chosen_good is_ordinary_name on_name
   chosen-name b e h w = h w ∙ rw (tree_at-name work node w e) refl
 
--- the reference of a name is past 1
-name-far : (work : List ℕ) (node : ℕ) → word_at work node KIND ≡ 3 → (node ≡ 0 → ⊥) × (node ≡ 1 → ⊥)
-unfolding word_at within
-name-far work node e = (
-  λ z. let q : word_at work 0 KIND ≡ 3 = ap (λ (n : ℕ). word_at work n KIND) (sym z) ∙ e in omega (arith, q),
-  λ z. let q : word_at work 1 KIND ≡ 3 = ap (λ (n : ℕ). word_at work n KIND) (sym z) ∙ e in omega (arith, q),
-)
-
 module _ (work : List ℕ) (node second : ℕ) (s : Means work node second (element 1)) where
-  pub ellipsis-chosen : word_at work second KIND ≡ 3 → Chosen work node second
+  pub ellipsis-chosen : word_at work second KIND ≡ 3 → Chosen work node (told.Chosen second)
   unfolding ellipsis_of on_name dots_at
-  ellipsis-chosen e =
-      let far = name-far work second e in
-      record { is = λ w. rw (← s.is w, tree_at-name work second w e, ne_eqb second 0 far.0, ne_eqb second 1 far.1) refl; low = s.low }
+  ellipsis-chosen e = record { is = λ w. rw (← s.is w, tree_at-name work second w e) refl; low = s.low }
 
-  pub ellipsis-default : (word_at work second KIND ≡ 3 → ⊥) → Chosen work node 0
+  pub ellipsis-default : (word_at work second KIND ≡ 3 → ⊥) → Chosen work node told.Default
   unfolding ellipsis_of dots_at
-  ellipsis-default n = record { is = λ w. rw (← s.is w, no_name work second w same is_ellipsis n) refl; low = omega arith }
+  ellipsis-default n = record { is = λ w. rw (← s.is w, no_name work second w same is_ellipsis n) refl; low = tt }
 
 module _ (work : List ℕ) (node rest second : ℕ) (a : Means work node rest tail) (s : Means work rest second (element 0)) where
   second_is : (w : ℕ) → element 1 (tree_at work node w) ≡ tree_at work second w
@@ -176,7 +168,7 @@ module _ (work : List ℕ) (node w first : ℕ) (p : Means work node first (elem
     pub form-body : (b : Bool) → Tests chosen_good work second true → b ≡ rules_body (tree_at work node w) → b ≡ is_rules_form (tree_at work node w)
     form-body b g k = k ∙ sym (form-is (tree_at work node w) ∙ rw (← p.is w, ← h, ← s.is w, ← g w) refl)
 
-module _ (work : List ℕ) (node w dots after literals : ℕ) (c : Chosen work node dots) (a : Means work node after after_chosen) (l : Means work after literals (element 0)) where
+module _ (work : List ℕ) (node w : ℕ) (dots : Dots) (after literals : ℕ) (c : Chosen work node dots) (a : Means work node after after_chosen) (l : Means work after literals (element 0)) where
   body_is : rules_body (tree_at work node w) ≡ (literals_good (dots_at work dots w) (tree_at work literals w) && within 1 rules_most (length (elements (rule_list (tree_at work node w)))))
   unfolding rules_body
   body_is = let e : literal_list (tree_at work node w) ≡ tree_at work literals w = sym (l.is w ∙ ap (element 0) (a.is w)) in rw (← c.is w, e) refl

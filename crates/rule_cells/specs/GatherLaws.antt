@@ -1,5 +1,6 @@
 -- Laws of gathering a pattern's variables.
-use Rattle.std.specs.Prelude.{◌≡◌, Bool, true, false, List, [], ◌∷◌, ◌++◌, ℕ, suc, ◌+◌, ◌≤◌}
+use Rattle.std.specs.Prelude.{◌≡◌, Bool, true, false, List, [], ◌∷◌, ◌++◌, ℕ, suc, ◌+◌, ◌≤◌, Some, None}
+use Rattle.std.specs.declared.option.Option as code
 use Rattle.std.proofs.Math.Path.{refl}
 use Rattle.std.proofs.Common.{sym, ap, subst, ◌∙◌, append_assoc, append-nil, arith}
 use borrow.Author.Tests.{ne_eqb}
@@ -11,8 +12,8 @@ use Rattle.arena.specs.Offsets.{KIND, HEAD, TAIL}
 use Rattle.arena.specs.Arena.{word_at, reference_at, name_at, tree_at}
 use Rattle.words.specs.ListLaws.{either}
 use Rattle.arena.specs.NodeLaws.{tree_at-name, tree_at-pair}
-use Rattle.arena.specs.ListLaws.{tree-cases, no_name, pair-falls}
-use Rattle.rule_cells.specs.Variables.{variables_from, Kept, Count, Bad, kept_of, Held, Stored, Gathered, Gathering, Deeper}
+use Rattle.arena.specs.ListLaws.{tree-cases, pair-falls}
+use Rattle.rule_cells.specs.Variables.{variables_from, Held, Stored, Gathered, Gathering, Deeper}
 
 -- ---- which names are variables
 
@@ -49,51 +50,35 @@ deeper-most dots rest d r h =
     (λ t. let e : r ≡ suc d = rw t at h in omega arith)
     (λ t. let e : r ≡ d = rw t at h in omega arith)
 
--- ---- the word of what is gathered
-
-pub kept-bad : (n : ℕ) → n ≡ 4294967295 → kept_of n ≡ Bad
-unfolding kept_of
-kept-bad n e = rw e refl
-
-pub kept-count : (n : ℕ) → (n ≡ 4294967295 → ⊥) → kept_of n ≡ Count n
-unfolding kept_of
-kept-count n h = rw (ne_eqb _ _ h) refl
-
--- a count is at most 16
-pub gathered-count : (more : List (Name × ℕ)) (work : List ℕ) (w node n : ℕ) (old new : List ℕ) (m : ℕ) → Gathered more work w node n old new (Count m) → Gathered more work w node n old new (kept_of m)
-gathered-count more work w node n old new m s =
-    let small : m ≡ 4294967295 → ⊥ = λ z. omega (arith, s.held.most) in
-    subst (λ (k : Kept). Gathered more work w node n old new k) (sym (kept-count m small)) s
-
 -- ---- what is gathered
 
 module _ (work : List ℕ) (w node n : ℕ) (old : List ℕ) where
-  gathered-is : (more more' : List (Name × ℕ)) (new : List ℕ) (r : Kept) → more ≡ more' → Gathered more work w node n old new r → Gathered more' work w node n old new r
+  gathered-is : (more more' : List (Name × ℕ)) (new : List ℕ) (r : code.Option ℕ) → more ≡ more' → Gathered more work w node n old new r → Gathered more' work w node n old new r
   gathered-is more more' new r e g = subst (λ (m : List (Name × ℕ)). Gathered m work w node n old new r) e g
 
-  pub gathered-stored : (more : List (Name × ℕ)) (new : List ℕ) (r : Kept) (m : ℕ) → r ≡ Count m → Gathered more work w node n old new r → Stored more work w node n old new m
-  gathered-stored more new r m e g = subst (λ (k : Kept). Gathered more work w node n old new k) e g
+  pub gathered-stored : (more : List (Name × ℕ)) (new : List ℕ) (r : code.Option ℕ) (m : ℕ) → r ≡ Some m → Gathered more work w node n old new r → Stored more work w node n old new m
+  gathered-stored more new r m e g = subst (λ (k : code.Option ℕ). Gathered more work w node n old new k) e g
 
-  gathered_none : Held work w old n → Gathered [] work w node n old old (Count n)
+  gathered_none : Held work w old n → Gathered [] work w node n old old (Some n)
   gathered_none h = record { list = sym (append-nil (variables_from work w old 0 n)); held = h; under = λ b l u. u }
 
   module _ (dots : Name → Bool) (literals : List Name) (d : ℕ) where
     -- a name that is no variable
-    pub gathered-no : (x : Name) → is_variable dots literals x ≡ false → Held work w old n → Gathered (variables dots literals d (name x)) work w node n old old (Count n)
-    gathered-no x e h = gathered-is [] _ old (Count n) (sym (variables-none dots literals x d e)) (gathered_none h)
+    pub gathered-no : (x : Name) → is_variable dots literals x ≡ false → Held work w old n → Gathered (variables dots literals d (name x)) work w node n old old (Some n)
+    gathered-no x e h = gathered-is [] _ old (Some n) (sym (variables-none dots literals x d e)) (gathered_none h)
 
-    pub gathered-one : (x : Name) (new : List ℕ) (r : Kept) → is_variable dots literals x ≡ true → Gathered ((x, d) ∷ []) work w node n old new r → Gathered (variables dots literals d (name x)) work w node n old new r
+    pub gathered-one : (x : Name) (new : List ℕ) (r : code.Option ℕ) → is_variable dots literals x ≡ true → Gathered ((x, d) ∷ []) work w node n old new r → Gathered (variables dots literals d (name x)) work w node n old new r
     gathered-one x new r e g = gathered-is _ _ new r (sym (variables-one dots literals x d e)) g
 
-    pub gathered-name : (new : List ℕ) (r : Kept) → word_at work node KIND ≡ 3 → Gathered (variables dots literals d (name (name_at work node w))) work w node n old new r → Gathered (variables dots literals d (tree_at work node w)) work w node n old new r
+    pub gathered-name : (new : List ℕ) (r : code.Option ℕ) → word_at work node KIND ≡ 3 → Gathered (variables dots literals d (name (name_at work node w))) work w node n old new r → Gathered (variables dots literals d (tree_at work node w)) work w node n old new r
     gathered-name new r e g = gathered-is _ _ new r (ap (variables dots literals d) (sym (tree_at-name work node w e))) g
 
     variables-other : (word_at work node KIND ≡ 3 → ⊥) → (word_at work node KIND ≡ 4 → ⊥) → variables dots literals d (tree_at work node w) ≡ []
     unfolding variables
     variables-other m k = tree-cases work node w (λ t. variables dots literals d t ≡ []) (λ e. refl) (λ e. absurd (m e)) (λ e. absurd (k e)) (λ p q s. refl)
 
-    pub gathered-other : (word_at work node KIND ≡ 3 → ⊥) → (word_at work node KIND ≡ 4 → ⊥) → Held work w old n → Gathered (variables dots literals d (tree_at work node w)) work w node n old old (Count n)
-    gathered-other m k h = gathered-is [] _ old (Count n) (sym (variables-other m k)) (gathered_none h)
+    pub gathered-other : (word_at work node KIND ≡ 3 → ⊥) → (word_at work node KIND ≡ 4 → ⊥) → Held work w old n → Gathered (variables dots literals d (tree_at work node w)) work w node n old old (Some n)
+    gathered-other m k h = gathered-is [] _ old (Some n) (sym (variables-other m k)) (gathered_none h)
 
     pub gathering-begins : Held work w old n → Gathering dots literals d work w node n old node n old
     gathering-begins h = record { low = omega arith; held = h; all = λ last r k. k }
@@ -110,27 +95,27 @@ module _ (work : List ℕ) (w node n : ℕ) (old : List ℕ) where
       unfolding variables
       variables-pair = rw (tree_at-pair work node w e, ← f, ← g, ← deeper) refl
 
-      pub gathered-bad : (new : List ℕ) (r : Kept) → r ≡ Bad → Gathered first work w head n old new r → Gathered (variables dots literals d (tree_at work node w)) work w node n old new Bad
+      pub gathered-bad : (new : List ℕ) (r : code.Option ℕ) → r ≡ None → Gathered first work w head n old new r → Gathered (variables dots literals d (tree_at work node w)) work w node n old new None
       gathered-bad new r b g =
-          let h : Gathered first work w head n old new Bad = subst (λ (k : Kept). Gathered first work w head n old new k) b g in
-          gathered-is (first ++ later) _ new Bad variables-pair
+          let h : Gathered first work w head n old new None = subst (λ (k : code.Option ℕ). Gathered first work w head n old new k) b g in
+          gathered-is (first ++ later) _ new None variables-pair
           (λ more. ap (λ (l : List (Name × ℕ)). are_variables (variables_from work w old 0 n ++ l)) (append_assoc first later more) ∙ h (later ++ more))
 
-      both : (mid new : List ℕ) (m : ℕ) (r : Kept) → Stored first work w head n old mid m → Gathered later work w rest m mid new r → Gathered (first ++ later) work w node n old new r
-      both mid new m (Count k) a b =
+      both : (mid new : List ℕ) (m : ℕ) (r : code.Option ℕ) → Stored first work w head n old mid m → Gathered later work w rest m mid new r → Gathered (first ++ later) work w node n old new r
+      both mid new m (Some k) a b =
           record {
             list = b.list ∙ ap (λ (l : List (Name × ℕ)). l ++ later) a.list ∙ append_assoc (variables_from work w old 0 n) first later;
             held = b.held;
             under = λ c l u. b.under c (omega (arith, pair-falls work node 1 e)) (a.under c (omega (arith, pair-falls work node 2 e)) u);
           }
-      both mid new m Bad a b =
+      both mid new m None a b =
           λ more.
           ap (λ (l : List (Name × ℕ)). are_variables (variables_from work w old 0 n ++ l)) (append_assoc first later more)
           ∙ ap are_variables (sym (append_assoc (variables_from work w old 0 n) first (later ++ more)))
           ∙ ap (λ (l : List (Name × ℕ)). are_variables (l ++ (later ++ more))) (sym a.list)
           ∙ b more
 
-      gathered-pair : (mid new : List ℕ) (m : ℕ) (r : Kept) → Stored first work w head n old mid m → Gathered later work w rest m mid new r → Gathered (variables dots literals d (tree_at work node w)) work w node n old new r
+      gathered-pair : (mid new : List ℕ) (m : ℕ) (r : code.Option ℕ) → Stored first work w head n old mid m → Gathered later work w rest m mid new r → Gathered (variables dots literals d (tree_at work node w)) work w node n old new r
       gathered-pair mid new m r a b = gathered-is (first ++ later) _ new r variables-pair (both mid new m r a b)
 
       pub gathering-more : (list b : ℕ) (start new : List ℕ) (m : ℕ) → Stored first work w head n old new m → Gathering dots literals d work w list b start node n old → Gathering dots literals d work w list b start rest m new

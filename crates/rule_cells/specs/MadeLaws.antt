@@ -1,6 +1,8 @@
 -- Laws of new rule cells.
-use Rattle.std.specs.Prelude.{◌≡◌, refl, Bool, true, false, List, ◌∷◌, ℕ, ◌+◌, ◌-◌, ◌≤◌, ◌<◌, length, get_or, take, set}
-use Rattle.std.proofs.Common.{ap, ap₂, ◌∙◌, arith, length-set, get_or-set_same, get_or-set_other}
+use Rattle.std.proofs.lemmas.List.Edits.{sets-eq}
+use Rattle.std.proofs.Common.{add-one}
+use Rattle.std.specs.Prelude.{◌≡◌, refl, Bool, true, false, List, [], ◌∷◌, ◌++◌, ℕ, suc, ◌+◌, ◌-◌, ◌≤◌, ◌<◌, length, get_or, take, drop, set}
+use Rattle.std.proofs.Common.{ap, ap₂, subst, ◌∙◌, arith, length-set, get_or-set_same, get_or-set_other}
 use Rattle.std.proofs.lemmas.List.{take-set-le}
 use Rattle.recipe.specs.Name.{binding_key}
 use Rattle.expansion.specs.Rules.{variable_p, literal_p, wildcard_p, pair_p, ellipsis_p, variable_t, insert_t, pair_t, ellipsis_t}
@@ -62,6 +64,14 @@ module _ (t : List ℕ) (top a b c d e : ℕ) (fits : top + 5 ≤ length t) wher
         second = stored-word 2 (top + 3) d (omega arith) (omega arith) (above-four (top + 3) d (omega arith) (get_or-set_same three (top + 3) d 0 (simp length-set (omega arith))));
         first = stored-word 1 (top + 4) e (omega arith) (omega arith) (get_or-set_same four (top + 4) e 0 (simp length-set (omega arith)));
       }
+
+  pub five-put : (new : List ℕ) → new ≡ take top t ++ (a ∷ b ∷ c ∷ d ∷ e ∷ []) ++ drop (top + 5) t → Five a b c d e t new top (top + 5)
+  five-put new is =
+      let two : top + 2 ≡ suc (suc top) = omega arith in
+      let three : top + 3 ≡ suc (suc (suc top)) = omega arith in
+      let four : top + 4 ≡ suc (suc (suc (suc top))) = omega arith in
+      let same : stored t top a b c d e ≡ new = rw (add-one top, two, three, four, is) (sets-eq (a ∷ b ∷ c ∷ d ∷ e ∷ []) t top fits) in
+      subst (λ (l : List ℕ). Five a b c d e t l top (top + 5)) same five-stored
 
 -- ---- what stood below the top means what it meant
 

@@ -1,5 +1,6 @@
 -- What parsing asks and leaves: cells above the old top, children first, at most five words for each item of the tree.
-use Rattle.std.specs.Prelude.{◌≡◌, Bool, true, cond, List, ℕ, ◌+◌, ◌*◌, ◌≤◌, length, take}
+use Rattle.std.specs.Prelude.{◌≡◌, Bool, true, cond, List, ℕ, ◌+◌, ◌*◌, ◌≤◌, length, take, Some, None}
+use Rattle.std.specs.declared.option.Option as code
 use Rattle.std.proofs.Math.Option.{none, some}
 use Rattle.recipe.specs.Name.{Name}
 use Rattle.recipe.specs.Tree.{Tree, size, elements, tail}
@@ -7,12 +8,10 @@ use Rattle.expansion.specs.Rules.{Place, as_rest, as_taken, variables, pattern_o
 use Rattle.arena.specs.Arena.{tree_at}
 use Rattle.arena.specs.Cells.{Room}
 use Rattle.rule_cells.specs.Cells.{pattern_at, template_at}
-use Rattle.rule_cells.specs.declared.patterns.Parsed.{Parsed}
-use Rattle.rule_cells.specs.declared.patterns.Parsed.TheVariants.{Good, Bad}
-use Rattle.words.specs.declared.packed.Built.{Built}
-use Rattle.words.specs.declared.packed.Built.TheVariants.{At, None}
+use Rattle.rule_cells.specs.declared.patterns.ParsedPattern.{ParsedPattern}
+use Rattle.rule_cells.specs.declared.rules.Parsed.{Parsed}
 
--- a tree below the top, with room for its cells and a word to spare, so that no top is the largest word (`words::packed`)
+-- a tree below the top, with room for its cells and a word to spare
 pub record Asks (work : List ℕ) (node w top : ℕ) : Type 0 where
   pub node-below : node ≤ top
   pub wrap-below : w ≤ top
@@ -37,10 +36,10 @@ pub record PatternMade (dots : Name → Bool) (literals : List Name) (k : ℕ) (
   pub counts : next ≡ k + length (variables dots literals 0 t)
   pub grows : Grows t old new top at upper
 
--- bad exactly where the definition has no pattern
-abbrev pub PatternLeft : (dots : Name → Bool) (literals : List Name) (k : ℕ) (taken : Bool) (t : Tree) (old new : List ℕ) (top : ℕ) → Parsed → Type 0
-PatternLeft dots literals k taken t old new top (Good at upper next) = PatternMade dots literals k taken t old new top at upper next
-PatternLeft dots literals k taken t old new top Bad = (pattern_of dots literals k taken t ≡ none) × (take top new ≡ take top old)
+-- none exactly where the definition has no pattern
+abbrev pub PatternLeft : (dots : Name → Bool) (literals : List Name) (k : ℕ) (taken : Bool) (t : Tree) (old new : List ℕ) (top : ℕ) → code.Option ParsedPattern → Type 0
+PatternLeft dots literals k taken t old new top (Some p) = PatternMade dots literals k taken t old new top p.at p.top p.next
+PatternLeft dots literals k taken t old new top None = (pattern_of dots literals k taken t ≡ none) × (take top new ≡ take top old)
 
 -- ---- templates
 
@@ -52,7 +51,7 @@ pub record TemplateMade (dots : Name → Bool) (vs : List (Name × ℕ)) (d : �
   pub means : template_of dots vs d place t ≡ some (template_at new at)
   pub grows : Grows t old new top at upper
 
--- bad exactly where the definition has no template
-abbrev pub TemplateLeft : (dots : Name → Bool) (vs : List (Name × ℕ)) (d : ℕ) (place : Place) (t : Tree) (old new : List ℕ) (top : ℕ) → Built → Type 0
-TemplateLeft dots vs d place t old new top (At at upper) = TemplateMade dots vs d place t old new top at upper
+-- none exactly where the definition has no template
+abbrev pub TemplateLeft : (dots : Name → Bool) (vs : List (Name × ℕ)) (d : ℕ) (place : Place) (t : Tree) (old new : List ℕ) (top : ℕ) → code.Option Parsed → Type 0
+TemplateLeft dots vs d place t old new top (Some p) = TemplateMade dots vs d place t old new top p.at p.top
 TemplateLeft dots vs d place t old new top None = (template_of dots vs d place t ≡ none) × (take top new ≡ take top old)

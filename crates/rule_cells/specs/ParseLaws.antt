@@ -12,15 +12,6 @@ use Rattle.arena.specs.Cells.{Room}
 use Rattle.arena.specs.CellLaws.{tree-kept}
 use Rattle.arena.specs.ListLaws.{pair-falls}
 use Rattle.rule_cells.specs.Parse.{Asks, Grows}
-use Rattle.words.specs.Code.Packed.{packed, built_of, built-holds}
-use Rattle.words.specs.declared.packed.Built.{Built}
-use Rattle.words.specs.declared.packed.Built.TheVariants.{At}
-
--- the word of a reference and a new top, where no such top is the largest word
-pub packs-at : (P : Built → Type 0) (most p at upper : ℕ) → most < 4294967295 → p ≡ packed at upper → upper ≤ most → P (At at upper) → P (built_of p)
-packs-at P most p at upper l e h x =
-    let small : upper < 4294967295 = omega arith in
-    built-holds P p at upper e small x
 
 -- ---- what grows
 
@@ -42,13 +33,6 @@ kept-both h old mid new top a upper g e = take_less new mid top upper g.up e ∙
 -- ---- what is asked of the parts of a pair
 
 module _ (work : List ℕ) (node w top : ℕ) (asks : Asks work node w top) where
-  -- no top of its cells is the largest word
-  pub packs : top + 5 * size (tree_at work node w) < 4294967295
-  packs = omega (arith, asks.room.small)
-
-  pub leaf-packs : top + 5 < 4294967295
-  leaf-packs = omega (arith, packs, size-positive (tree_at work node w))
-
   -- room for a leaf's cell
   pub room-leaf : Room work top 5
   room-leaf = let l = size-positive (tree_at work node w) in record { fits = omega (arith, asks.room.fits); small = omega (arith, asks.room.small) }

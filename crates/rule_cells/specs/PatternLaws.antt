@@ -1,5 +1,5 @@
 -- Laws of parsing a pattern, one for each way through the code.
-use Rattle.std.specs.Prelude.{◌≡◌, Bool, not, ◌&&◌, cond, List}
+use Rattle.std.specs.Prelude.{◌≡◌, Bool, not, ◌&&◌, cond, List, Some, None}
 use Rattle.std.proofs.Math.Path.{refl, sym, ap, ap₂, subst}
 use Rattle.std.proofs.Common.{◌∙◌}
 use Rattle.std.proofs.Math.Bool.{true, false}
@@ -26,12 +26,12 @@ use Rattle.arena.specs.ListLaws.{tree-cases}
 use Rattle.rule_cells.specs.Cells.{pattern_at, pattern_from}
 use Rattle.rule_cells.specs.Made.{Made, MadeLiteral}
 use Rattle.rule_cells.specs.MadeLaws.{pattern-kept}
-use Rattle.rule_cells.specs.Dots.{dots_at, dots_among, dots-kept}
+use Rattle.rule_cells.specs.Dots.{dots_at, dots_among, DotsBelow, dots-higher, dots-kept}
 use Rattle.rule_cells.specs.Parse.{Asks, Behind, PatternMade, PatternLeft}
 use Rattle.rule_cells.specs.ParseLaws.{grows-nothing, grows-leaf, kept-both, tree_is, size_is, rest-kept, grows-pair}
 use Rattle.rule_cells.specs.declared.rules_form.Form.{Form}
-use Rattle.rule_cells.specs.declared.patterns.Parsed.{Parsed}
-use Rattle.rule_cells.specs.declared.patterns.Parsed.TheVariants.{Good, Bad}
+use Rattle.rule_cells.specs.declared.patterns.ParsedPattern.{ParsedPattern}
+use Rattle.std.specs.declared.option.Option as code
 
 -- the empty pattern is reference 0
 pub pattern_at-none : (work : List ℕ) → pattern_at work 0 ≡ empty_p
@@ -67,14 +67,14 @@ module _ (dots : Name → Bool) (literals : List Name) (k : ℕ) (x : Name) wher
 
   -- what is left after each
   module _ (old : List ℕ) (top : ℕ) where
-    pub left-dots : dots x ≡ true → PatternLeft dots literals k false (name x) old old top Bad
+    pub left-dots : dots x ≡ true → PatternLeft dots literals k false (name x) old old top None
     left-dots e = (name-dots e, refl)
 
-    pub left-wildcard : (new : List ℕ) (r : ℕ) → dots x ≡ false → x.number ≡ 7 → is_variable dots literals x ≡ false → Made pattern_at wildcard_p old new top r → PatternLeft dots literals k false (name x) old new top (Good r r k)
+    pub left-wildcard : (new : List ℕ) (r : ℕ) → dots x ≡ false → x.number ≡ 7 → is_variable dots literals x ≡ false → Made pattern_at wildcard_p old new top r → PatternLeft dots literals k false (name x) old new top (Some (record { at = r; top = r; next = k }))
     left-wildcard new r n m v c =
         record { means = name-wildcard n m v ∙ ap some (sym c.means); counts = count_none v; grows = grows-leaf (name x) old new top r c.end c.kept }
 
-    pub left-literal : (node w number key : ℕ) (new : List ℕ) (r : ℕ) → x ≡ name_at old node w → dots x ≡ false → (x.number ≡ 7 → ⊥) → is_variable dots literals x ≡ false → number ≡ x.number → key ≡ binding_key x.binding → MadeLiteral node w number key old new top r → PatternLeft dots literals k false (name x) old new top (Good r r k)
+    pub left-literal : (node w number key : ℕ) (new : List ℕ) (r : ℕ) → x ≡ name_at old node w → dots x ≡ false → (x.number ≡ 7 → ⊥) → is_variable dots literals x ≡ false → number ≡ x.number → key ≡ binding_key x.binding → MadeLiteral node w number key old new top r → PatternLeft dots literals k false (name x) old new top (Some (record { at = r; top = r; next = k }))
     left-literal node w number key new r is n m v e f c =
         record {
           means = name-literal n m v ∙ ap some (ap literal_p is ∙ sym (c.means (e ∙ ap (λ (y : Name). y.number) is) (f ∙ ap (λ (y : Name). binding_key y.binding) is)));
@@ -82,32 +82,32 @@ module _ (dots : Name → Bool) (literals : List Name) (k : ℕ) (x : Name) wher
           grows = grows-leaf (name x) old new top r c.end c.kept;
         }
 
-    pub left-variable : (new : List ℕ) (r : ℕ) → dots x ≡ false → is_variable dots literals x ≡ true → Made pattern_at (variable_p k) old new top r → PatternLeft dots literals k false (name x) old new top (Good r r (k + 1))
+    pub left-variable : (new : List ℕ) (r : ℕ) → dots x ≡ false → is_variable dots literals x ≡ true → Made pattern_at (variable_p k) old new top r → PatternLeft dots literals k false (name x) old new top (Some (record { at = r; top = r; next = k + 1 }))
     left-variable new r n v c =
         record { means = name-variable n v ∙ ap some (sym c.means); counts = count-one v; grows = grows-leaf (name x) old new top r c.end c.kept }
 
 -- ---- leaves
 
 module _ (dots : Name → Bool) (literals : List Name) (k : ℕ) (old : List ℕ) (node w top : ℕ) where
-  pub left-name : (new : List ℕ) (r : Parsed) → word_at old node KIND ≡ 3 → PatternLeft dots literals k false (name (name_at old node w)) old new top r → PatternLeft dots literals k false (tree_at old node w) old new top r
+  pub left-name : (new : List ℕ) (r : code.Option ParsedPattern) → word_at old node KIND ≡ 3 → PatternLeft dots literals k false (name (name_at old node w)) old new top r → PatternLeft dots literals k false (tree_at old node w) old new top r
   left-name new r e g = subst (λ (t : Tree). PatternLeft dots literals k false t old new top r) (sym (tree_at-name old node w e)) g
 
-  empty_left : PatternLeft dots literals k false empty old old top (Good 0 top k)
+  empty_left : PatternLeft dots literals k false empty old old top (Some (record { at = 0; top = top; next = k }))
   unfolding pattern_of variables
   empty_left = record { means = ap some (sym (pattern_at-none old)); counts = omega arith; grows = grows-nothing empty old top }
 
-  pub left-empty : word_at old node KIND ≡ 0 → PatternLeft dots literals k false (tree_at old node w) old old top (Good 0 top k)
-  left-empty e = subst (λ (t : Tree). PatternLeft dots literals k false t old old top (Good 0 top k)) (sym (tree_at-empty old node w e)) empty_left
+  pub left-empty : word_at old node KIND ≡ 0 → PatternLeft dots literals k false (tree_at old node w) old old top (Some (record { at = 0; top = top; next = k }))
+  left-empty e = subst (λ (t : Tree). PatternLeft dots literals k false t old old top (Some (record { at = 0; top = top; next = k }))) (sym (tree_at-empty old node w e)) empty_left
 
-  constant-left : (a : Constant) (new : List ℕ) (r : ℕ) → Made pattern_at (constant_p a) old new top r → PatternLeft dots literals k false (constant a) old new top (Good r r k)
+  constant-left : (a : Constant) (new : List ℕ) (r : ℕ) → Made pattern_at (constant_p a) old new top r → PatternLeft dots literals k false (constant a) old new top (Some (record { at = r; top = r; next = k }))
   unfolding pattern_of variables
   constant-left a new r c = record { means = ap some (sym c.means); counts = omega arith; grows = grows-leaf (constant a) old new top r c.end c.kept }
 
-  pub left-constant : (kind first second : ℕ) (new : List ℕ) (r : ℕ) → kind ≡ word_at old node KIND → first ≡ word_at old node FIRST → second ≡ word_at old node SECOND → (word_at old node KIND ≡ 0 → ⊥) → (word_at old node KIND ≡ 3 → ⊥) → (word_at old node KIND ≡ 4 → ⊥) → Made pattern_at (constant_p (record { kind = kind; first = first; second = second })) old new top r → PatternLeft dots literals k false (tree_at old node w) old new top (Good r r k)
+  pub left-constant : (kind first second : ℕ) (new : List ℕ) (r : ℕ) → kind ≡ word_at old node KIND → first ≡ word_at old node FIRST → second ≡ word_at old node SECOND → (word_at old node KIND ≡ 0 → ⊥) → (word_at old node KIND ≡ 3 → ⊥) → (word_at old node KIND ≡ 4 → ⊥) → Made pattern_at (constant_p (record { kind = kind; first = first; second = second })) old new top r → PatternLeft dots literals k false (tree_at old node w) old new top (Some (record { at = r; top = r; next = k }))
   unfolding constant_at
   left-constant kind first second new r e f g n0 n3 n4 c =
       let is : constant (record { kind = kind; first = first; second = second }) ≡ tree_at old node w = rw (e, f, g) (sym (tree_at-constant old node w n0 n3 n4)) in
-      subst (λ (t : Tree). PatternLeft dots literals k false t old new top (Good r r k)) is (constant-left (record { kind = kind; first = first; second = second }) new r c)
+      subst (λ (t : Tree). PatternLeft dots literals k false t old new top (Some (record { at = r; top = r; next = k }))) is (constant-left (record { kind = kind; first = first; second = second }) new r c)
 
 -- ---- the variables of a pattern, counted
 
@@ -203,14 +203,14 @@ module _ (dots : Name → Bool) (literals : List Name) (k : ℕ) (h s : Tree) wh
 -- one tree's pattern is another's, no larger and with as many variables
 module _ (dots : Name → Bool) (literals : List Name) (k : ℕ) (taken : Bool) (t s : Tree) (old new : List ℕ) (top : ℕ) (same : pattern_of dots literals k false s ≡ pattern_of dots literals k taken t)
     (counted : length (variables dots literals 0 s) ≡ length (variables dots literals 0 t)) (smaller : size s ≤ size t) where
-  left_as : (r : Parsed) → PatternLeft dots literals k false s old new top r → PatternLeft dots literals k taken t old new top r
-  left_as (Good at upper next) m =
+  left_as : (r : code.Option ParsedPattern) → PatternLeft dots literals k false s old new top r → PatternLeft dots literals k taken t old new top r
+  left_as (Some p) m =
       record {
         means = sym same ∙ m.means;
         counts = omega (arith, m.counts, counted);
         grows = record { at_most = m.grows.at_most; up = m.grows.up; words = omega (arith, m.grows.words); kept = m.grows.kept };
       }
-  left_as Bad m = (sym same ∙ m.0, m.1)
+  left_as None m = (sym same ∙ m.0, m.1)
 
 -- a leaf may begin after the ellipsis or not
 leaf-taken : (dots : Name → Bool) (literals : List Name) (k : ℕ) (taken : Bool) (old : List ℕ) (node w : ℕ) → (word_at old node KIND ≡ 4 → ⊥) → pattern_of dots literals k false (tree_at old node w) ≡ pattern_of dots literals k taken (tree_at old node w)
@@ -218,7 +218,7 @@ unfolding pattern_of
 leaf-taken dots literals k taken old node w n =
     tree-cases old node w (λ t. pattern_of dots literals k false t ≡ pattern_of dots literals k taken t) (λ e. refl) (λ e. refl) (λ e. absurd (n e)) (λ p q r. refl)
 
-pub left-leaf : (dots : Name → Bool) (literals : List Name) (k : ℕ) (taken : Bool) (old : List ℕ) (node w top : ℕ) (new : List ℕ) (r : Parsed) → (word_at old node KIND ≡ 4 → ⊥)
+pub left-leaf : (dots : Name → Bool) (literals : List Name) (k : ℕ) (taken : Bool) (old : List ℕ) (node w top : ℕ) (new : List ℕ) (r : code.Option ParsedPattern) → (word_at old node KIND ≡ 4 → ⊥)
     → PatternLeft dots literals k false (tree_at old node w) old new top r → PatternLeft dots literals k taken (tree_at old node w) old new top r
 left-leaf dots literals k taken old node w top new r n m = left_as dots literals k taken _ _ old new top (leaf-taken dots literals k taken old node w n) refl (omega arith) r m
 
@@ -232,13 +232,13 @@ behind-none work rest followed e w f = absurd (false≢true (sym e ∙ f))
 -- a pair of a list of patterns or rules at hand, opened
 pub record PairHere (old : List ℕ) (form : Form) (node top head rest : ℕ) : Type 0 where
   pub asks : Asks old node form.wrap top
-  pub dots-below : form.dots ≤ top
+  pub dots-below : DotsBelow form.dots top
   pub literals-below : form.literals ≤ top
   pub is-pair : word_at old node KIND ≡ 4
   pub head-is : head ≡ reference_at old node HEAD
   pub rest-is : rest ≡ reference_at old node TAIL
 
-pub pair-here : (old : List ℕ) (form : Form) (node top : ℕ) {head rest : ℕ} → Asks old node form.wrap top → form.dots ≤ top → form.literals ≤ top
+pub pair-here : (old : List ℕ) (form : Form) (node top : ℕ) {head rest : ℕ} → Asks old node form.wrap top → DotsBelow form.dots top → form.literals ≤ top
     → word_at old node KIND ≡ 4 → head ≡ reference_at old node HEAD → rest ≡ reference_at old node TAIL → PairHere old form node top head rest
 pair-here old form node top asks dots literals e f g =
     record { asks = asks; dots-below = dots; literals-below = literals; is-pair = e; head-is = f; rest-is = g }
@@ -269,7 +269,7 @@ module _ {old : List ℕ} {form : Form} {node top head rest : ℕ} (here : PairH
   pub small-tail : k + size (tree_at old node form.wrap) < 2 ^ 32 → k + size s < 2 ^ 32
   small-tail l = omega (arith, whole-size)
 
-  pub left-taken : (taken : Bool) (new : List ℕ) (r : Parsed) → taken ≡ true → (taken ≡ true → dots_next ds (tree_at old node form.wrap) ≡ true) → PatternLeft ds listed k false s old new top r → PatternLeft ds listed k taken (tree_at old node form.wrap) old new top r
+  pub left-taken : (taken : Bool) (new : List ℕ) (r : code.Option ParsedPattern) → taken ≡ true → (taken ≡ true → dots_next ds (tree_at old node form.wrap) ≡ true) → PatternLeft ds listed k false s old new top r → PatternLeft ds listed k taken (tree_at old node form.wrap) old new top r
   unfolding dots_next on_pair
   left-taken taken new r q d m =
       let begins : on_name ds false h ≡ true = rw whole_is at (d q) in
@@ -280,16 +280,16 @@ module _ {old : List ℕ} {form : Form} {node top head rest : ℕ} (here : PairH
     whole : pattern_of ds listed k taken (tree_at old node form.wrap) ≡ pattern_of ds listed k false (pair h s)
     whole = rw (untaken, whole_is) refl
 
-    pub left-crowded : true ≡ (followed && dots_among old form.dots form.wrap (tail s)) → PatternLeft ds listed k taken (tree_at old node form.wrap) old old top Bad
+    pub left-crowded : true ≡ (followed && dots_among old form.dots form.wrap (tail s)) → PatternLeft ds listed k taken (tree_at old node form.wrap) old old top None
     left-crowded c = (whole ∙ pair-crowded ds listed k h s (c ∙ ap (λ (b : Bool). b && dots_among old form.dots form.wrap (tail s)) next), refl)
 
-    pub left-bad : (mid : List ℕ) (r : Parsed) → r ≡ Bad → PatternLeft ds listed k false h old mid top r → PatternLeft ds listed k taken (tree_at old node form.wrap) old mid top Bad
+    pub left-bad : (mid : List ℕ) (r : code.Option ParsedPattern) → r ≡ None → PatternLeft ds listed k false h old mid top r → PatternLeft ds listed k taken (tree_at old node form.wrap) old mid top None
     left-bad mid r b p =
-        let q : PatternLeft ds listed k false h old mid top Bad = subst (λ (z : Parsed). PatternLeft ds listed k false h old mid top z) b p in
+        let q : PatternLeft ds listed k false h old mid top None = subst (λ (z : code.Option ParsedPattern). PatternLeft ds listed k false h old mid top z) b p in
         (whole ∙ pair-bad ds listed k h s q.0, q.1)
 
-    pub made-head : (mid : List ℕ) (r : Parsed) (a t n : ℕ) → r ≡ Good a t n → PatternLeft ds listed k false h old mid top r → PatternMade ds listed k false h old mid top a t n
-    made-head mid r a t n b p = subst (λ (z : Parsed). PatternLeft ds listed k false h old mid top z) b p
+    pub made-head : (mid : List ℕ) (r : code.Option ParsedPattern) (p : ParsedPattern) → r ≡ Some p → PatternLeft ds listed k false h old mid top r → PatternMade ds listed k false h old mid top p.at p.top p.next
+    made-head mid r p b m = subst (λ (z : code.Option ParsedPattern). PatternLeft ds listed k false h old mid top z) b m
 
     module _ {mid : List ℕ} {a t n : ℕ} (same_length : length mid ≡ length old) (made : PatternMade ds listed k false h old mid top a t n) where
       abbrev again : Tree
@@ -316,8 +316,8 @@ module _ {old : List ℕ} {form : Form} {node top head rest : ℕ} (here : PairH
       pub literals-still : form.literals ≤ t
       literals-still = omega (arith, here.literals-below, made.grows.up)
 
-      pub dots-still : form.dots ≤ t
-      dots-still = omega (arith, here.dots-below, made.grows.up)
+      pub dots-still : DotsBelow form.dots t
+      dots-still = dots-higher form.dots top t made.grows.up here.dots-below
 
       pub begins-still : followed ≡ true → dots_next ds-again again ≡ true
       begins-still q = rw (same-dots, s-is) (sym next ∙ q)
@@ -325,16 +325,16 @@ module _ {old : List ℕ} {form : Form} {node top head rest : ℕ} (here : PairH
       rest-means : pattern_of ds-again listed-again n followed again ≡ later_of ds listed k h s
       rest-means = rw (same-dots, same-listed, s-is, made.counts, next) refl
 
-      pub left-bad-rest : (new : List ℕ) (r : Parsed) → r ≡ Bad → PatternLeft ds-again listed-again n followed again mid new t r → PatternLeft ds listed k taken (tree_at old node form.wrap) old new top Bad
+      pub left-bad-rest : (new : List ℕ) (r : code.Option ParsedPattern) → r ≡ None → PatternLeft ds-again listed-again n followed again mid new t r → PatternLeft ds listed k taken (tree_at old node form.wrap) old new top None
       left-bad-rest new r b p =
-          let q : PatternLeft ds-again listed-again n followed again mid new t Bad = subst (λ (z : Parsed). PatternLeft ds-again listed-again n followed again mid new t z) b p in
+          let q : PatternLeft ds-again listed-again n followed again mid new t None = subst (λ (z : code.Option ParsedPattern). PatternLeft ds-again listed-again n followed again mid new t z) b p in
           (whole ∙ pair-bad-rest ds listed k h s (pattern_at mid a) made.means (sym rest-means ∙ q.0), kept-both h old mid new top a t made.grows q.1)
 
-      pub made-rest : (last : List ℕ) (r : Parsed) (b u m : ℕ) → r ≡ Good b u m → PatternLeft ds-again listed-again n followed again mid last t r → PatternMade ds-again listed-again n followed again mid last t b u m
-      made-rest last r b u m q p = subst (λ (z : Parsed). PatternLeft ds-again listed-again n followed again mid last t z) q p
+      pub made-rest : (last : List ℕ) (r : code.Option ParsedPattern) (p : ParsedPattern) → r ≡ Some p → PatternLeft ds-again listed-again n followed again mid last t r → PatternMade ds-again listed-again n followed again mid last t p.at p.top p.next
+      made-rest last r p q m = subst (λ (z : code.Option ParsedPattern). PatternLeft ds-again listed-again n followed again mid last t z) q m
 
       pub left-list : (last new : List ℕ) (b u m r c : ℕ) → false ≡ (followed && dots_among old form.dots form.wrap (tail s)) → (followed ≡ true → c ≡ length (elements (tail s))) → PatternMade ds-again listed-again n followed again mid last t b u m
-          → Made pattern_at (cond followed (ellipsis_p (pattern_at last a) c (pattern_at last b)) (pair_p (pattern_at last a) (pattern_at last b))) last new u r → PatternLeft ds listed k taken (tree_at old node form.wrap) old new top (Good r r m)
+          → Made pattern_at (cond followed (ellipsis_p (pattern_at last a) c (pattern_at last b)) (pair_p (pattern_at last a) (pattern_at last b))) last new u r → PatternLeft ds listed k taken (tree_at old node form.wrap) old new top (Some (record { at = r; top = r; next = m }))
       left-list last new b u m r c lone counted second made-it =
           record {
             means =

@@ -1,5 +1,5 @@
 -- Laws of parsing rules, one for each way through the code.
-use Rattle.std.specs.Prelude.{◌≡◌, Bool, true, false, List, [], ◌∷◌, ℕ, ◌+◌, ◌*◌, ◌^◌, ◌≤◌, ◌<◌, length, take}
+use Rattle.std.specs.Prelude.{◌≡◌, Bool, true, false, List, [], ◌∷◌, ℕ, ◌+◌, ◌*◌, ◌^◌, ◌≤◌, ◌<◌, length, take, Some, None}
 use Rattle.std.proofs.Math.Path.{refl, ap, subst}
 use Rattle.std.proofs.Common.{sym, ap₂, ◌∙◌, append-nil, arith}
 use Rattle.std.proofs.Math.Option.{Option, none, some}
@@ -16,17 +16,15 @@ use Rattle.arena.specs.CellLaws.{tree-kept}
 use Rattle.rule_cells.specs.Cells.{pattern_at, template_at, rules_at}
 use Rattle.rule_cells.specs.Made.{Made}
 use Rattle.rule_cells.specs.MadeLaws.{pattern-kept, rules-kept}
-use Rattle.rule_cells.specs.Dots.{dots_at, dots-kept}
-use Rattle.rule_cells.specs.Variables as kept-is
-use Rattle.rule_cells.specs.Variables.{variables_from, Kept, Held, Under, Stored, Gathered}
+use Rattle.rule_cells.specs.Dots.{dots_at, DotsBelow, dots-higher, dots-kept}
+use Rattle.rule_cells.specs.Variables.{variables_from, Held, Under, Stored, Gathered}
 use Rattle.rule_cells.specs.declared.rules_form.Form.{Form}
-use Rattle.words.specs.declared.packed.Built.{Built}
-use Rattle.words.specs.declared.packed.Built.TheVariants.{At, None}
+use Rattle.rule_cells.specs.declared.rules.Parsed.{Parsed}
+use Rattle.std.specs.declared.option.Option as code
 use Rattle.rule_cells.specs.Parse.{Asks, PatternMade, PatternLeft, TemplateMade, TemplateLeft}
 use Rattle.rule_cells.specs.TemplateLaws.{variables-kept}
 use Rattle.rule_cells.specs.RuleParse.{parts_of, PartsAsk, RuleLeft}
-use Rattle.rule_cells.specs.declared.patterns.Parsed.{Parsed}
-use Rattle.rule_cells.specs.declared.patterns.Parsed.TheVariants as parsed
+use Rattle.rule_cells.specs.declared.patterns.ParsedPattern.{ParsedPattern}
 
 -- ---- a rule's parts
 
@@ -74,9 +72,6 @@ module _ {old : List ℕ} {form : Form} {p q next top : ℕ} (ask : PartsAsk old
   abbrev o : Option Rule
   o = parts_of ds listed pt qt
 
-  pub packs-rule : top + 5 * s < 4294967295
-  packs-rule = omega (arith, ask.room.small)
-
   pub small-p : 0 + p < 2 ^ 32
   small-p = omega (arith, ask.p-below, ask.room.small)
 
@@ -91,24 +86,24 @@ module _ {old : List ℕ} {form : Form} {p q next top : ℕ} (ask : PartsAsk old
   pub small_size : 0 + size pt < 2 ^ 32
   small_size = omega (arith, ask.room.small)
 
-  pub left-variables : (vars new : List ℕ) (r : Kept) → r ≡ kept-is.Bad → Gathered (variables ds listed 0 pt) old form.wrap p 0 vars new r → RuleLeft o s old old next top None
+  pub left-variables : (vars new : List ℕ) (r : code.Option ℕ) → r ≡ None → Gathered (variables ds listed 0 pt) old form.wrap p 0 vars new r → RuleLeft o s old old next top None
   unfolding variables_from
   left-variables vars new r b g =
-      let h : Gathered (variables ds listed 0 pt) old form.wrap p 0 vars new kept-is.Bad = subst (λ (z : Kept). Gathered (variables ds listed 0 pt) old form.wrap p 0 vars new z) b g in
+      let h : Gathered (variables ds listed 0 pt) old form.wrap p 0 vars new None = subst (λ (z : code.Option ℕ). Gathered (variables ds listed 0 pt) old form.wrap p 0 vars new z) b g in
       (parts-variables ds listed pt qt (ap are_variables (sym (append-nil (variables ds listed 0 pt))) ∙ h []), refl)
 
-  pub left-pattern : (mid : List ℕ) (r : Parsed) → r ≡ parsed.Bad → PatternLeft ds listed 0 false pt old mid top r → RuleLeft o s old mid next top None
+  pub left-pattern : (mid : List ℕ) (r : code.Option ParsedPattern) → r ≡ None → PatternLeft ds listed 0 false pt old mid top r → RuleLeft o s old mid next top None
   left-pattern mid r b g =
-      let h : PatternLeft ds listed 0 false pt old mid top parsed.Bad = subst (λ (z : Parsed). PatternLeft ds listed 0 false pt old mid top z) b g in
+      let h : PatternLeft ds listed 0 false pt old mid top None = subst (λ (z : code.Option ParsedPattern). PatternLeft ds listed 0 false pt old mid top z) b g in
       (parts-pattern ds listed pt qt h.0, h.1)
 
-  pub made-pattern : (mid : List ℕ) (r : Parsed) (a t m : ℕ) → r ≡ parsed.Good a t m → PatternLeft ds listed 0 false pt old mid top r → PatternMade ds listed 0 false pt old mid top a t m
-  made-pattern mid r a t m b g = subst (λ (z : Parsed). PatternLeft ds listed 0 false pt old mid top z) b g
+  pub made-pattern : (mid : List ℕ) (r : code.Option ParsedPattern) (x : ParsedPattern) → r ≡ Some x → PatternLeft ds listed 0 false pt old mid top r → PatternMade ds listed 0 false pt old mid top x.at x.top x.next
+  made-pattern mid r x b g = subst (λ (z : code.Option ParsedPattern). PatternLeft ds listed 0 false pt old mid top z) b g
 
   -- after the variables and the pattern
   module _ {none_yet vars : List ℕ} {n : ℕ} (stored : Stored (variables ds listed 0 pt) old form.wrap p 0 none_yet vars n) {mid : List ℕ} {a t m : ℕ} (same_length : length mid ≡ length old) (made : PatternMade ds listed 0 false pt old mid top a t m) where
-    pub dots-still : form.dots ≤ t
-    dots-still = omega (arith, ask.dots-below, made.grows.up)
+    pub dots-still : DotsBelow form.dots t
+    dots-still = dots-higher form.dots top t made.grows.up ask.dots-below
 
     pub under_top : Under vars n t
     under_top = stored.under t (omega (arith, ask.p-below, made.grows.up)) (λ i l. absurd (omega arith))
@@ -144,13 +139,13 @@ module _ {old : List ℕ} {form : Form} {p q next top : ℕ} (ask : PartsAsk old
     template-is : template_of (dots_at mid form.dots form.wrap) (variables_from mid form.wrap vars 0 n) 0 as_element (tree_at mid q form.wrap) ≡ template_of ds (variables ds listed 0 pt) 0 as_element qt
     template-is = rw (dots-kept old mid top made.grows.kept form.dots form.wrap ask.dots-below ask.wrap-below, variables-are, q-is) refl
 
-    pub left-template : (new : List ℕ) (r : Built) → r ≡ None → TemplateLeft (dots_at mid form.dots form.wrap) (variables_from mid form.wrap vars 0 n) 0 as_element (tree_at mid q form.wrap) mid new t r → RuleLeft o s old new next top None
+    pub left-template : (new : List ℕ) (r : code.Option Parsed) → r ≡ None → TemplateLeft (dots_at mid form.dots form.wrap) (variables_from mid form.wrap vars 0 n) 0 as_element (tree_at mid q form.wrap) mid new t r → RuleLeft o s old new next top None
     left-template new r b g =
-        let h : TemplateLeft (dots_at mid form.dots form.wrap) (variables_from mid form.wrap vars 0 n) 0 as_element (tree_at mid q form.wrap) mid new t None = subst (λ (z : Built). TemplateLeft (dots_at mid form.dots form.wrap) (variables_from mid form.wrap vars 0 n) 0 as_element (tree_at mid q form.wrap) mid new t z) b g in
+        let h : TemplateLeft (dots_at mid form.dots form.wrap) (variables_from mid form.wrap vars 0 n) 0 as_element (tree_at mid q form.wrap) mid new t None = subst (λ (z : code.Option Parsed). TemplateLeft (dots_at mid form.dots form.wrap) (variables_from mid form.wrap vars 0 n) 0 as_element (tree_at mid q form.wrap) mid new t z) b g in
         (parts-template ds listed pt qt (pattern_at mid a) made.means (sym template-is ∙ h.0), take_less new mid top t made.grows.up h.1 ∙ made.grows.kept)
 
-    pub made-template : (last : List ℕ) (r : Built) (b u : ℕ) → r ≡ At b u → TemplateLeft (dots_at mid form.dots form.wrap) (variables_from mid form.wrap vars 0 n) 0 as_element (tree_at mid q form.wrap) mid last t r → TemplateMade (dots_at mid form.dots form.wrap) (variables_from mid form.wrap vars 0 n) 0 as_element (tree_at mid q form.wrap) mid last t b u
-    made-template last r b u e g = subst (λ (z : Built). TemplateLeft (dots_at mid form.dots form.wrap) (variables_from mid form.wrap vars 0 n) 0 as_element (tree_at mid q form.wrap) mid last t z) e g
+    pub made-template : (last : List ℕ) (r : code.Option Parsed) (y : Parsed) → r ≡ Some y → TemplateLeft (dots_at mid form.dots form.wrap) (variables_from mid form.wrap vars 0 n) 0 as_element (tree_at mid q form.wrap) mid last t r → TemplateMade (dots_at mid form.dots form.wrap) (variables_from mid form.wrap vars 0 n) 0 as_element (tree_at mid q form.wrap) mid last t y.at y.top
+    made-template last r y e g = subst (λ (z : code.Option Parsed). TemplateLeft (dots_at mid form.dots form.wrap) (variables_from mid form.wrap vars 0 n) 0 as_element (tree_at mid q form.wrap) mid last t z) e g
 
     module _ {last : List ℕ} {b u : ℕ} (same-last : length last ≡ length mid) (second : TemplateMade (dots_at mid form.dots form.wrap) (variables_from mid form.wrap vars 0 n) 0 as_element (tree_at mid q form.wrap) mid last t b u) where
       words-two : u ≤ t + 5 * size qt
@@ -163,7 +158,7 @@ module _ {old : List ℕ} {form : Form} {p q next top : ℕ} (ask : PartsAsk old
       kept-two : take top last ≡ take top old
       kept-two = take_less last mid top t made.grows.up second.grows.kept ∙ made.grows.kept
 
-      pub left-rule : (new : List ℕ) (r : ℕ) → Made rules_at (record { pattern = pattern_at last a; template = template_at last b } ∷ rules_at last next) last new u r → RuleLeft o s old new next top (At r r)
+      pub left-rule : (new : List ℕ) (r : ℕ) → Made rules_at (record { pattern = pattern_at last a; template = template_at last b } ∷ rules_at last next) last new u r → RuleLeft o s old new next top (Some (record { at = r; top = r }))
       left-rule new r c =
           record {
             rule = record { pattern = pattern_at mid a; template = template_at last b };

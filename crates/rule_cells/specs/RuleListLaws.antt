@@ -1,5 +1,5 @@
 -- Laws of a rule's shape and of lists of rules.
-use Rattle.std.specs.Prelude.{◌≡◌, Bool, true, ◌&&◌, List, ◌∷◌, ℕ, suc, ◌+◌, ◌*◌, ◌≤◌, eqb, length}
+use Rattle.std.specs.Prelude.{Some, None, ◌≡◌, Bool, true, ◌&&◌, List, ◌∷◌, ℕ, suc, ◌+◌, ◌*◌, ◌≤◌, eqb, length}
 use Rattle.std.proofs.Math.Path.{refl, ap, ap₂}
 use Rattle.std.proofs.Common.{sym, subst, ◌∙◌, arith, eqb-true}
 use Rattle.std.proofs.Math.Bool.{false, not}
@@ -10,8 +10,8 @@ use Rattle.recipe.specs.Name.{Name}
 use Rattle.recipe.specs.Tree.{Tree, empty, constant, name, pair, size, names, on_name, on_pair, is_name, is_list, is_list_of, elements, element, tail}
 use Rattle.recipe.specs.TreeLaws.{element-tail}
 use Rattle.expansion.specs.Rules.{after_chosen, literal_list, ellipsis_of, rule_pattern, matched_part, rule_template, rule_list, Rule, rule_of, is_rules_form, rules_of}
-use Rattle.arena.specs.Offsets.{KIND, HEAD, TAIL}
-use Rattle.arena.specs.Arena.{word_at, reference_at, name_at, tree_at}
+use Rattle.arena.specs.Offsets.{KIND}
+use Rattle.arena.specs.Arena.{word_at, name_at, tree_at}
 use Rattle.words.specs.ListLaws.{either}
 use Rattle.arena.specs.ArenaLaws.{take_less}
 use Rattle.arena.specs.NodeLaws.{tree_at-name}
@@ -20,19 +20,20 @@ use Rattle.arena.specs.Lists.{Means}
 use Rattle.arena.specs.ListLaws.{no_name, no-elements}
 use Rattle.rule_cells.specs.CellLaws.{rules_at-none}
 use Rattle.rule_cells.specs.Scopes.{dots_of, literals_of}
-use Rattle.rule_cells.specs.Dots.{dots_at, dots-kept}
+use Rattle.rule_cells.specs.Dots.{dots_at, DotsBelow, dots-higher, dots-kept}
 use Rattle.rule_cells.specs.Forms.{Chosen}
 use Rattle.rule_cells.specs.declared.rules_form.Form.{Form}
-use Rattle.words.specs.declared.packed.Built.{Built}
-use Rattle.words.specs.declared.packed.Built.TheVariants.{At, None}
+use Rattle.rule_cells.specs.declared.rules.Parsed.{Parsed}
+use Rattle.std.specs.declared.option.Option as code
 use Rattle.rule_cells.specs.Parse.{Asks}
 use Rattle.rule_cells.specs.ParseLaws.{tree_is, size_is, head-below}
 use Rattle.rule_cells.specs.PatternLaws.{PairHere}
 use Rattle.rule_cells.specs.RuleParse.{rule_shape, parts_of, PartsAsk, RuleLeft, RulesMade, RulesLeft}
+use Rattle.rule_cells.specs.declared.dots.Dots.{Dots}
 
 -- ---- a rule's shape
 
-module _ (work : List ℕ) (dots node w : ℕ) where
+module _ (work : List ℕ) (dots : Dots) (node w : ℕ) where
   pub shape-no : false ≡ is_list_of 2 (tree_at work node w) → false ≡ rule_shape (dots_at work dots w) (tree_at work node w)
   unfolding rule_shape
   shape-no e = rw (← e) refl
@@ -93,12 +94,12 @@ shape_size dots t e =
     let l : (is_list t && eqb (length (elements t)) 2) ≡ true = and_left (is_list_of 2 t) first (sym e) in
     list-size t (eqb-true (length (elements t)) 2 (and_right (is_list t) (eqb (length (elements t)) 2) l))
 
-rule-as : (o o' : Option Rule) (s s' : ℕ) (old new : List ℕ) (next top : ℕ) (r : Built) → o ≡ o' → s ≤ s' → RuleLeft o s old new next top r → RuleLeft o' s' old new next top r
-rule-as o o' s s' old new next top (At at upper) e l m =
+rule-as : (o o' : Option Rule) (s s' : ℕ) (old new : List ℕ) (next top : ℕ) (r : code.Option Parsed) → o ≡ o' → s ≤ s' → RuleLeft o s old new next top r → RuleLeft o' s' old new next top r
+rule-as o o' s s' old new next top (Some p) e l m =
     record { rule = m.rule; is = sym e ∙ m.is; means = m.means; at_most = m.at_most; up = m.up; words = omega (arith, m.words); kept = m.kept }
 rule-as o o' s s' old new next top None e l m = (sym e ∙ m.0, m.1)
 
-module _ (old : List ℕ) (form : Form) (node next top : ℕ) (asks : Asks old node form.wrap top) (dots-below : form.dots ≤ top) (literals-below : form.literals ≤ top) (next-below : next ≤ top) where
+module _ (old : List ℕ) (form : Form) (node next top : ℕ) (asks : Asks old node form.wrap top) (dots-below : DotsBelow form.dots top) (literals-below : form.literals ≤ top) (next-below : next ≤ top) where
   abbrev ds : Name → Bool
   ds = dots_at old form.dots form.wrap
 
@@ -133,7 +134,7 @@ module _ (old : List ℕ) (form : Form) (node next top : ℕ) (asks : Asks old n
           room = record { fits = omega (arith, asks.room.fits, fits); small = omega (arith, asks.room.small, fits) };
         }
 
-    pub left-parts : (new : List ℕ) (r : Built) → RuleLeft (parts_of ds listed (tree_at old p form.wrap) (tree_at old q form.wrap)) (size (tree_at old p form.wrap) + size (tree_at old q form.wrap) + 1) old new next top r → RuleLeft (rule_of ds listed t) (size t) old new next top r
+    pub left-parts : (new : List ℕ) (r : code.Option Parsed) → RuleLeft (parts_of ds listed (tree_at old p form.wrap) (tree_at old q form.wrap)) (size (tree_at old p form.wrap) + size (tree_at old q form.wrap) + 1) old new next top r → RuleLeft (rule_of ds listed t) (size t) old new next top r
     left-parts new r m = rule-as _ _ _ _ old new next top r (rw (p-is, q-is) (rule-is ds listed t shape)) fits m
 
 -- ---- lists of rules
@@ -146,7 +147,7 @@ traverse-bad f (some x) ys e = rw e refl
 abbrev answer : List ℕ → Form → Tree → Option (List Rule)
 answer old form t = traverse (rule_of (dots_of old form) (literals_of old form)) (elements t)
 
-pub left_end : (old : List ℕ) (form : Form) (node top : ℕ) → (word_at old node KIND ≡ 4 → ⊥) → RulesLeft (answer old form (tree_at old node form.wrap)) (size (tree_at old node form.wrap)) old old top (At 0 top)
+pub left_end : (old : List ℕ) (form : Form) (node top : ℕ) → (word_at old node KIND ≡ 4 → ⊥) → RulesLeft (answer old form (tree_at old node form.wrap)) (size (tree_at old node form.wrap)) old old top (Some (record { at = 0; top = top }))
 unfolding traverse
 left_end old form node top n =
     record {
@@ -168,13 +169,13 @@ module _ {old : List ℕ} {form : Form} {node top head rest : ℕ} (here : PairH
   unfolding traverse elements
   answer-is = ap (answer old form) (tree_is old node form.wrap top here.asks head rest here.is-pair here.head-is here.rest-is)
 
-  pub left-later : (mid : List ℕ) (r : Built) → r ≡ None → RulesLeft (answer old form s) (size s) old mid top r → RulesLeft (answer old form (tree_at old node form.wrap)) (size (tree_at old node form.wrap)) old mid top None
+  pub left-later : (mid : List ℕ) (r : code.Option Parsed) → r ≡ None → RulesLeft (answer old form s) (size s) old mid top r → RulesLeft (answer old form (tree_at old node form.wrap)) (size (tree_at old node form.wrap)) old mid top None
   left-later mid r b p =
-      let q : RulesLeft (answer old form s) (size s) old mid top None = subst (λ (z : Built). RulesLeft (answer old form s) (size s) old mid top z) b p in
+      let q : RulesLeft (answer old form s) (size s) old mid top None = subst (λ (z : code.Option Parsed). RulesLeft (answer old form s) (size s) old mid top z) b p in
       (answer-is ∙ traverse-bad (rule_of (dots_of old form) (literals_of old form)) (rule_of (dots_of old form) (literals_of old form) h) (answer old form s) q.0, q.1)
 
-  pub made-later : (mid : List ℕ) (r : Built) (next upper : ℕ) → r ≡ At next upper → RulesLeft (answer old form s) (size s) old mid top r → RulesMade (answer old form s) (size s) old mid top next upper
-  made-later mid r next upper b p = subst (λ (z : Built). RulesLeft (answer old form s) (size s) old mid top z) b p
+  pub made-later : (mid : List ℕ) (r : code.Option Parsed) (p : Parsed) → r ≡ Some p → RulesLeft (answer old form s) (size s) old mid top r → RulesMade (answer old form s) (size s) old mid top p.at p.top
+  made-later mid r p b m = subst (λ (z : code.Option Parsed). RulesLeft (answer old form s) (size s) old mid top z) b m
 
   -- after the later rules
   module _ {mid : List ℕ} {next upper : ℕ} (same_length : length mid ≡ length old) (made : RulesMade (answer old form s) (size s) old mid top next upper) where
@@ -201,8 +202,8 @@ module _ {old : List ℕ} {form : Form} {node top head rest : ℕ} (here : PairH
     told_is : dots_at mid form.dots form.wrap ≡ dots_of old form
     told_is = dots-kept old mid top made.kept form.dots form.wrap here.dots-below here.asks.wrap-below
 
-    pub dots-still : form.dots ≤ upper
-    dots-still = omega (arith, here.dots-below, made.up)
+    pub dots-still : DotsBelow form.dots upper
+    dots-still = dots-higher form.dots top upper made.up here.dots-below
 
     pub literals-still : form.literals ≤ upper
     literals-still = omega (arith, here.literals-below, made.up)
@@ -213,10 +214,10 @@ module _ {old : List ℕ} {form : Form} {node top head rest : ℕ} (here : PairH
     one-is : one ≡ rule_of (dots_of old form) (literals_of old form) h
     one-is = rw (told_is, listed-is, head-is) refl
 
-    pub left_both : (new : List ℕ) (r : Built) → RuleLeft one (size (tree_at mid head form.wrap)) mid new next upper r → RulesLeft (answer old form (tree_at old node form.wrap)) (size (tree_at old node form.wrap)) old new top r
+    pub left_both : (new : List ℕ) (r : code.Option Parsed) → RuleLeft one (size (tree_at mid head form.wrap)) mid new next upper r → RulesLeft (answer old form (tree_at old node form.wrap)) (size (tree_at old node form.wrap)) old new top r
     unfolding map_both map_some
-    left_both new (At at higher) m =
-        let words : higher ≤ upper + 5 * size h = rw head-is at m.words in
+    left_both new (Some p) m =
+        let words : p.top ≤ upper + 5 * size h = rw head-is at m.words in
         record {
           means = answer-is ∙ ap₂ (map_both ◌∷◌) (sym one-is ∙ m.is) made.means ∙ ap some (sym m.means);
           at_most = m.at_most;
@@ -237,15 +238,15 @@ rules-are : (t : Tree) → true ≡ is_rules_form t → traverse (rule_of (ellip
 unfolding rules_of only_if
 rules-are t e = rw (← e) refl
 
-rules-as : (o o' : Option (List Rule)) (s s' : ℕ) (old new : List ℕ) (top : ℕ) (r : Built) → o ≡ o' → s ≤ s' → RulesLeft o s old new top r → RulesLeft o' s' old new top r
-rules-as o o' s s' old new top (At at upper) e l m = record { means = sym e ∙ m.means; at_most = m.at_most; up = m.up; words = omega (arith, m.words); kept = m.kept }
+rules-as : (o o' : Option (List Rule)) (s s' : ℕ) (old new : List ℕ) (top : ℕ) (r : code.Option Parsed) → o ≡ o' → s ≤ s' → RulesLeft o s old new top r → RulesLeft o' s' old new top r
+rules-as o o' s s' old new top (Some p) e l m = record { means = sym e ∙ m.means; at_most = m.at_most; up = m.up; words = omega (arith, m.words); kept = m.kept }
 rules-as o o' s s' old new top None e l m = (sym e ∙ m.0, m.1)
 
 module _ (old : List ℕ) (node w top : ℕ) (asks : Asks old node w top) where
   pub left-no-form : false ≡ is_rules_form (tree_at old node w) → RulesLeft (rules_of (tree_at old node w)) (size (tree_at old node w)) old old top None
   left-no-form e = (rules-none (tree_at old node w) e, refl)
 
-  module _ {dots after literals list : ℕ} (c : Chosen old node dots) (a : Means old node after after_chosen) (b : Means old after literals (element 0)) (d : Means old after list tail) where
+  module _ {dots : Dots} {after literals list : ℕ} (c : Chosen old node dots) (a : Means old node after after_chosen) (b : Means old after literals (element 0)) (d : Means old after list tail) where
     literals-are : tree_at old literals w ≡ literal_list (tree_at old node w)
     literals-are = b.is w ∙ ap (element 0) (a.is w)
 
@@ -269,12 +270,12 @@ module _ (old : List ℕ) (node w top : ℕ) (asks : Asks old node w top) where
           room = record { fits = omega (arith, asks.room.fits, smaller); small = omega (arith, asks.room.small, smaller) };
         }
 
-    pub dots-under : dots ≤ top
-    dots-under = omega (arith, c.low, asks.node-below)
+    pub dots-under : DotsBelow dots top
+    dots-under = dots-higher dots node top asks.node-below c.low
 
     pub literals-under : literals ≤ top
     literals-under = omega (arith, a.low, b.low, asks.node-below)
 
-    pub left-form : (new : List ℕ) (r : Built) → true ≡ is_rules_form (tree_at old node w)
+    pub left-form : (new : List ℕ) (r : code.Option Parsed) → true ≡ is_rules_form (tree_at old node w)
         → RulesLeft (traverse (rule_of (dots_at old dots w) (names (tree_at old literals w))) (elements (tree_at old list w))) (size (tree_at old list w)) old new top r → RulesLeft (rules_of (tree_at old node w)) (size (tree_at old node w)) old new top r
     left-form new r e m = rules-as _ _ _ _ old new top r (rw (c.is w, literals-are, list-is) (rules-are (tree_at old node w) e)) smaller m

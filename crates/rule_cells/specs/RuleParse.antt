@@ -1,5 +1,6 @@
 -- What parsing rules asks and leaves.
-use Rattle.std.specs.Prelude.{◌≡◌, Bool, false, not, ◌&&◌, List, ◌∷◌, ℕ, ◌+◌, ◌*◌, ◌≤◌, take}
+use Rattle.std.specs.Prelude.{◌≡◌, Bool, false, not, ◌&&◌, List, ◌∷◌, ℕ, ◌+◌, ◌*◌, ◌≤◌, take, Some, None}
+use Rattle.std.specs.declared.option.Option as code
 use Rattle.std.proofs.Math.Option.{Option, none, some}
 use Rattle.words.specs.Options.{only_if, map_both}
 use Rattle.recipe.specs.Name.{Name}
@@ -9,8 +10,8 @@ use Rattle.arena.specs.Arena.{tree_at}
 use Rattle.arena.specs.Cells.{Room}
 use Rattle.rule_cells.specs.Cells.{rules_at}
 use Rattle.rule_cells.specs.declared.rules_form.Form.{Form}
-use Rattle.words.specs.declared.packed.Built.{Built}
-use Rattle.words.specs.declared.packed.Built.TheVariants.{At, None}
+use Rattle.rule_cells.specs.declared.rules.Parsed.{Parsed}
+use Rattle.rule_cells.specs.Dots.{DotsBelow}
 
 -- (pattern template); a pattern's first place is a name other than the ellipsis
 unfoldable pub rule_shape : (dots : Name → Bool) → Tree → Bool
@@ -23,7 +24,7 @@ parts_of dots literals p q =
     only_if (are_variables vs) (map_both (λ x y. record { pattern = x; template = y }) (pattern_of dots literals 0 false p) (template_of dots vs 0 as_element q))
 
 pub record PartsAsk (work : List ℕ) (form : Form) (p q next top : ℕ) : Type 0 where
-  pub dots-below : form.dots ≤ top
+  pub dots-below : DotsBelow form.dots top
   pub literals-below : form.literals ≤ top
   pub p-below : p ≤ top
   pub q-below : q ≤ top
@@ -41,9 +42,9 @@ pub record RuleMade (o : Option Rule) (s : ℕ) (old new : List ℕ) (next top a
   pub words : upper ≤ top + 5 * s
   pub kept : take top new ≡ take top old
 
--- bad exactly where the definition has no rule
-abbrev pub RuleLeft : (o : Option Rule) (s : ℕ) (old new : List ℕ) (next top : ℕ) → Built → Type 0
-RuleLeft o s old new next top (At at upper) = RuleMade o s old new next top at upper
+-- none exactly where the definition has no rule
+abbrev pub RuleLeft : (o : Option Rule) (s : ℕ) (old new : List ℕ) (next top : ℕ) → code.Option Parsed → Type 0
+RuleLeft o s old new next top (Some p) = RuleMade o s old new next top p.at p.top
 RuleLeft o s old new next top None = (o ≡ none) × (take top new ≡ take top old)
 
 -- the cells of a list of rules
@@ -54,7 +55,7 @@ pub record RulesMade (o : Option (List Rule)) (s : ℕ) (old new : List ℕ) (to
   pub words : upper ≤ top + 5 * s
   pub kept : take top new ≡ take top old
 
--- bad exactly where the definition has no rules
-abbrev pub RulesLeft : (o : Option (List Rule)) (s : ℕ) (old new : List ℕ) (top : ℕ) → Built → Type 0
-RulesLeft o s old new top (At at upper) = RulesMade o s old new top at upper
+-- none exactly where the definition has no rules
+abbrev pub RulesLeft : (o : Option (List Rule)) (s : ℕ) (old new : List ℕ) (top : ℕ) → code.Option Parsed → Type 0
+RulesLeft o s old new top (Some p) = RulesMade o s old new top p.at p.top
 RulesLeft o s old new top None = (o ≡ none) × (take top new ≡ take top old)

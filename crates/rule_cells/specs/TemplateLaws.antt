@@ -1,7 +1,7 @@
 -- Laws of parsing a template, one for each way through the code.
 use Rattle.std.proofs.Math.Path.{◌≡◌, refl, sym, ap, ap₂, subst}
 use Rattle.std.proofs.Common.{◌∙◌, arith}
-use Rattle.std.specs.Prelude.{Bool, not, ◌||◌, cond, length, take}
+use Rattle.std.specs.Prelude.{Bool, not, ◌||◌, cond, length, take, Some, None}
 use Rattle.std.proofs.Math.Bool.{true, false}
 use Rattle.std.proofs.lemmas.Bool.{false≢true}
 use mathlib.Core.List.{List, ◌∷◌}
@@ -24,13 +24,14 @@ use Rattle.rule_cells.specs.MadeLaws.{template-kept, name-kept}
 use Rattle.arena.specs.ListLaws.{tree-cases}
 use Rattle.arena.specs.Lists.{Means}
 use Rattle.rule_cells.specs.declared.templates.Scope.{Scope}
-use Rattle.rule_cells.specs.Dots.{dots_at, dots-kept}
+use Rattle.rule_cells.specs.Dots.{dots_at, DotsBelow, dots-higher, dots-kept}
 use Rattle.rule_cells.specs.Variables.{variable_at, variables_from, Under, Deeper}
 use Rattle.rule_cells.specs.Drive.{drives}
-use Rattle.words.specs.declared.packed.Built.{Built}
-use Rattle.words.specs.declared.packed.Built.TheVariants.{At, None}
+use Rattle.rule_cells.specs.declared.rules.Parsed.{Parsed}
+use Rattle.std.specs.declared.option.Option as code
 use Rattle.rule_cells.specs.Parse.{Asks, rest_place, TemplateMade, TemplateLeft}
 use Rattle.rule_cells.specs.ParseLaws.{grows-nothing, grows-leaf, kept-both, tree_is, size_is, rest_below, rest-kept, grows-pair}
+use Rattle.rule_cells.specs.declared.dots.Dots.TheVariants.{Never}
 
 -- the empty template is reference 0
 pub template_at-none : (work : List ℕ) → template_at work 0 ≡ empty_t
@@ -64,7 +65,7 @@ module _ (dots : Name → Bool) (vs : List (Name × ℕ)) (d : ℕ) (x : Name) w
     unfolding only_if
     left-depth k e n f h = (name-is n ∙ name-variable k e f ∙ ap (λ (b : Bool). only_if b (some (variable_t k e))) (sym h), refl)
 
-    pub left-variable : (k e : ℕ) (new : List ℕ) (r : ℕ) → dots x ≡ false → variable_from 0 vs x ≡ some (k, e) → true ≡ depth_fits e d → Made template_at (variable_t k e) old new top r → TemplateLeft dots vs d as_element (name x) old new top (At r r)
+    pub left-variable : (k e : ℕ) (new : List ℕ) (r : ℕ) → dots x ≡ false → variable_from 0 vs x ≡ some (k, e) → true ≡ depth_fits e d → Made template_at (variable_t k e) old new top r → TemplateLeft dots vs d as_element (name x) old new top (Some (record { at = r; top = r }))
     unfolding only_if
     left-variable k e new r n f h c =
         record {
@@ -72,7 +73,7 @@ module _ (dots : Name → Bool) (vs : List (Name × ℕ)) (d : ℕ) (x : Name) w
           grows = grows-leaf (name x) old new top r c.end c.kept;
         }
 
-    pub left-insert : (node w : ℕ) (new : List ℕ) (r : ℕ) → x ≡ name_at old node w → dots x ≡ false → variable_from 0 vs x ≡ none → Made template_at (insert_t (name_at old node w)) old new top r → TemplateLeft dots vs d as_element (name x) old new top (At r r)
+    pub left-insert : (node w : ℕ) (new : List ℕ) (r : ℕ) → x ≡ name_at old node w → dots x ≡ false → variable_from 0 vs x ≡ none → Made template_at (insert_t (name_at old node w)) old new top r → TemplateLeft dots vs d as_element (name x) old new top (Some (record { at = r; top = r }))
     left-insert node w new r is n f c =
         record {
           means = name-is n ∙ name-insert f ∙ ap some (ap insert_t is ∙ sym c.means);
@@ -82,25 +83,25 @@ module _ (dots : Name → Bool) (vs : List (Name × ℕ)) (d : ℕ) (x : Name) w
 -- ---- leaves
 
 module _ (dots : Name → Bool) (vs : List (Name × ℕ)) (d : ℕ) (old : List ℕ) (node w top : ℕ) where
-  pub left-name : (new : List ℕ) (r : Built) → word_at old node KIND ≡ 3 → TemplateLeft dots vs d as_element (name (name_at old node w)) old new top r → TemplateLeft dots vs d as_element (tree_at old node w) old new top r
+  pub left-name : (new : List ℕ) (r : code.Option Parsed) → word_at old node KIND ≡ 3 → TemplateLeft dots vs d as_element (name (name_at old node w)) old new top r → TemplateLeft dots vs d as_element (tree_at old node w) old new top r
   left-name new r e g = subst (λ (t : Tree). TemplateLeft dots vs d as_element t old new top r) (sym (tree_at-name old node w e)) g
 
-  empty_left : TemplateLeft dots vs d as_element empty old old top (At 0 top)
+  empty_left : TemplateLeft dots vs d as_element empty old old top (Some (record { at = 0; top = top }))
   unfolding template_of
   empty_left = record { means = ap some (sym (template_at-none old)); grows = grows-nothing empty old top }
 
-  pub left-empty : word_at old node KIND ≡ 0 → TemplateLeft dots vs d as_element (tree_at old node w) old old top (At 0 top)
-  left-empty e = subst (λ (t : Tree). TemplateLeft dots vs d as_element t old old top (At 0 top)) (sym (tree_at-empty old node w e)) empty_left
+  pub left-empty : word_at old node KIND ≡ 0 → TemplateLeft dots vs d as_element (tree_at old node w) old old top (Some (record { at = 0; top = top }))
+  left-empty e = subst (λ (t : Tree). TemplateLeft dots vs d as_element t old old top (Some (record { at = 0; top = top }))) (sym (tree_at-empty old node w e)) empty_left
 
-  constant-left : (a : Constant) (new : List ℕ) (r : ℕ) → Made template_at (constant_t a) old new top r → TemplateLeft dots vs d as_element (constant a) old new top (At r r)
+  constant-left : (a : Constant) (new : List ℕ) (r : ℕ) → Made template_at (constant_t a) old new top r → TemplateLeft dots vs d as_element (constant a) old new top (Some (record { at = r; top = r }))
   unfolding template_of
   constant-left a new r c = record { means = ap some (sym c.means); grows = grows-leaf (constant a) old new top r c.end c.kept }
 
-  pub left-constant : (kind first second : ℕ) (new : List ℕ) (r : ℕ) → kind ≡ word_at old node KIND → first ≡ word_at old node FIRST → second ≡ word_at old node SECOND → (word_at old node KIND ≡ 0 → ⊥) → (word_at old node KIND ≡ 3 → ⊥) → (word_at old node KIND ≡ 4 → ⊥) → Made template_at (constant_t (record { kind = kind; first = first; second = second })) old new top r → TemplateLeft dots vs d as_element (tree_at old node w) old new top (At r r)
+  pub left-constant : (kind first second : ℕ) (new : List ℕ) (r : ℕ) → kind ≡ word_at old node KIND → first ≡ word_at old node FIRST → second ≡ word_at old node SECOND → (word_at old node KIND ≡ 0 → ⊥) → (word_at old node KIND ≡ 3 → ⊥) → (word_at old node KIND ≡ 4 → ⊥) → Made template_at (constant_t (record { kind = kind; first = first; second = second })) old new top r → TemplateLeft dots vs d as_element (tree_at old node w) old new top (Some (record { at = r; top = r }))
   unfolding constant_at
   left-constant kind first second new r e f g n0 n3 n4 c =
       let is : constant (record { kind = kind; first = first; second = second }) ≡ tree_at old node w = rw (e, f, g) (sym (tree_at-constant old node w n0 n3 n4)) in
-      subst (λ (t : Tree). TemplateLeft dots vs d as_element t old new top (At r r)) is (constant-left (record { kind = kind; first = first; second = second }) new r c)
+      subst (λ (t : Tree). TemplateLeft dots vs d as_element t old new top (Some (record { at = r; top = r }))) is (constant-left (record { kind = kind; first = first; second = second }) new r c)
 
 -- ---- pairs
 
@@ -200,27 +201,27 @@ leaf-placed dots vs d place old node w n =
 
 -- one tree's template is another's, no larger
 module _ (vs : List (Name × ℕ)) (old new : List ℕ) (top d : ℕ) (dots dots' : Name → Bool) (place place' : Place) (t s : Tree) (same : template_of dots' vs d place' s ≡ template_of dots vs d place t) (smaller : size s ≤ size t) where
-  left_as : (r : Built) → TemplateLeft dots' vs d place' s old new top r → TemplateLeft dots vs d place t old new top r
-  left_as (At at upper) m =
+  left_as : (r : code.Option Parsed) → TemplateLeft dots' vs d place' s old new top r → TemplateLeft dots vs d place t old new top r
+  left_as (Some p) m =
       record {
         means = sym same ∙ m.means;
         grows = record { at_most = m.grows.at_most; up = m.grows.up; words = omega (arith, m.grows.words); kept = m.grows.kept };
       }
   left_as None m = (sym same ∙ m.0, m.1)
 
-pub left-leaf : (dots : Name → Bool) (vs : List (Name × ℕ)) (d : ℕ) (place : Place) (old : List ℕ) (node w top : ℕ) (new : List ℕ) (r : Built) → (word_at old node KIND ≡ 4 → ⊥) → TemplateLeft dots vs d as_element (tree_at old node w) old new top r → TemplateLeft dots vs d place (tree_at old node w) old new top r
+pub left-leaf : (dots : Name → Bool) (vs : List (Name × ℕ)) (d : ℕ) (place : Place) (old : List ℕ) (node w top : ℕ) (new : List ℕ) (r : code.Option Parsed) → (word_at old node KIND ≡ 4 → ⊥) → TemplateLeft dots vs d as_element (tree_at old node w) old new top r → TemplateLeft dots vs d place (tree_at old node w) old new top r
 left-leaf dots vs d place old node w top new r n m = left_as vs old new top d dots dots place as_element _ _ (leaf-placed dots vs d place old node w n) (omega arith) r m
 
 -- a pair of a template at hand, opened
 pub record TemplateHere (old vars : List ℕ) (scope : Scope) (node top head rest : ℕ) : Type 0 where
   pub asks : Asks old node scope.wrap top
   pub under : Under vars scope.count top
-  pub dots-below : scope.dots ≤ top
+  pub dots-below : DotsBelow scope.dots top
   pub is-pair : word_at old node KIND ≡ 4
   pub head-is : head ≡ reference_at old node HEAD
   pub rest-is : rest ≡ reference_at old node TAIL
 
-pub template-here : (old vars : List ℕ) (scope : Scope) (node top : ℕ) {head rest : ℕ} → Asks old node scope.wrap top → Under vars scope.count top → scope.dots ≤ top
+pub template-here : (old vars : List ℕ) (scope : Scope) (node top : ℕ) {head rest : ℕ} → Asks old node scope.wrap top → Under vars scope.count top → DotsBelow scope.dots top
     → word_at old node KIND ≡ 4 → head ≡ reference_at old node HEAD → rest ≡ reference_at old node TAIL → TemplateHere old vars scope node top head rest
 template-here old vars scope node top asks under dots e f g =
     record { asks = asks; under = under; dots-below = dots; is-pair = e; head-is = f; rest-is = g }
@@ -250,7 +251,7 @@ module _ {old vars : List ℕ} {scope : Scope} {node top head rest : ℕ} (here 
   begins b q = let z : b ≡ dots_next ds (pair h s) = q ∙ ap (dots_next ds) whole_is in sym z
 
   -- a whole list that begins with the ellipsis, or not
-  pub left-plain : (new : List ℕ) (r : Built) → false ≡ dots_next ds (tree_at old node scope.wrap) → TemplateLeft ds vs scope.d as_rest (tree_at old node scope.wrap) old new top r → TemplateLeft ds vs scope.d as_element (tree_at old node scope.wrap) old new top r
+  pub left-plain : (new : List ℕ) (r : code.Option Parsed) → false ≡ dots_next ds (tree_at old node scope.wrap) → TemplateLeft ds vs scope.d as_rest (tree_at old node scope.wrap) old new top r → TemplateLeft ds vs scope.d as_element (tree_at old node scope.wrap) old new top r
   left-plain new r q m = left_as vs old new top scope.d ds ds as_element as_rest _ _ (rw whole_is (sym (element-plain ds vs scope.d h s (begins false q)))) (omega arith) r m
 
   pub left-unescaped : true ≡ dots_next ds (tree_at old node scope.wrap) → false ≡ is_list_of 1 s → TemplateLeft ds vs scope.d as_element (tree_at old node scope.wrap) old old top None
@@ -269,16 +270,13 @@ module _ {old vars : List ℕ} {scope : Scope} {node top head rest : ℕ} (here 
           room = record { fits = omega (arith, here.asks.room.fits, whole-size); small = omega (arith, here.asks.room.small, whole-size) };
         }
 
-    pub some-top : 1 ≤ top
-    some-top = omega (arith, inside-below, here.asks.node-below)
-
-    pub left-escape : (new : List ℕ) (r : Built) → true ≡ dots_next ds (tree_at old node scope.wrap) → true ≡ is_list_of 1 s → TemplateLeft (dots_at old 1 scope.wrap) vs scope.d as_element (tree_at old inside scope.wrap) old new top r → TemplateLeft ds vs scope.d as_element (tree_at old node scope.wrap) old new top r
+    pub left-escape : (new : List ℕ) (r : code.Option Parsed) → true ≡ dots_next ds (tree_at old node scope.wrap) → true ≡ is_list_of 1 s → TemplateLeft (dots_at old Never scope.wrap) vs scope.d as_element (tree_at old inside scope.wrap) old new top r → TemplateLeft ds vs scope.d as_element (tree_at old node scope.wrap) old new top r
     unfolding dots_at
     left-escape new r q l m =
         left_as vs old new top scope.d ds no_ellipsis as_element as_element (tree_at old node scope.wrap) (tree_at old inside scope.wrap)
         (rw (first-is.is scope.wrap, whole_is) (element-escape ds vs scope.d h s (begins true q) l)) (let z : size (tree_at old inside scope.wrap) ≤ size s = rw (first-is.is scope.wrap) (first-size s) in omega (arith, whole-size)) r m
 
-  pub left-taken : (taken : Bool) (new : List ℕ) (r : Built) → taken ≡ true → TemplateLeft ds vs scope.d (rest_place false) s old new top r → TemplateLeft ds vs scope.d (rest_place taken) (tree_at old node scope.wrap) old new top r
+  pub left-taken : (taken : Bool) (new : List ℕ) (r : code.Option Parsed) → taken ≡ true → TemplateLeft ds vs scope.d (rest_place false) s old new top r → TemplateLeft ds vs scope.d (rest_place taken) (tree_at old node scope.wrap) old new top r
   unfolding rest_place
   left-taken taken new r q m = left_as vs old new top scope.d ds ds (rest_place taken) as_rest (tree_at old node scope.wrap) s (rw (q, whole_is) (sym (pair-taken ds vs scope.d h s))) (omega (arith, whole-size)) r m
 
@@ -290,13 +288,13 @@ module _ {old vars : List ℕ} {scope : Scope} {node top head rest : ℕ} (here 
     unfolding rest_place
     whole = rw (untaken, whole_is) refl
 
-    pub left-bad : (mid : List ℕ) (r : Built) → r ≡ None → TemplateLeft ds vs inner as_element h old mid top r → TemplateLeft ds vs scope.d (rest_place taken) (tree_at old node scope.wrap) old mid top None
+    pub left-bad : (mid : List ℕ) (r : code.Option Parsed) → r ≡ None → TemplateLeft ds vs inner as_element h old mid top r → TemplateLeft ds vs scope.d (rest_place taken) (tree_at old node scope.wrap) old mid top None
     left-bad mid r b p =
-        let q : TemplateLeft ds vs inner as_element h old mid top None = subst (λ (z : Built). TemplateLeft ds vs inner as_element h old mid top z) b p in
+        let q : TemplateLeft ds vs inner as_element h old mid top None = subst (λ (z : code.Option Parsed). TemplateLeft ds vs inner as_element h old mid top z) b p in
         (whole ∙ pair-bad ds vs scope.d h s (sym first-means ∙ q.0), q.1)
 
-    pub made-head : (mid : List ℕ) (r : Built) (a t : ℕ) → r ≡ At a t → TemplateLeft ds vs inner as_element h old mid top r → TemplateMade ds vs inner as_element h old mid top a t
-    made-head mid r a t b p = subst (λ (z : Built). TemplateLeft ds vs inner as_element h old mid top z) b p
+    pub made-head : (mid : List ℕ) (r : code.Option Parsed) (p : Parsed) → r ≡ Some p → TemplateLeft ds vs inner as_element h old mid top r → TemplateMade ds vs inner as_element h old mid top p.at p.top
+    made-head mid r p b m = subst (λ (z : code.Option Parsed). TemplateLeft ds vs inner as_element h old mid top z) b m
 
     module _ {mid : List ℕ} {a t : ℕ} (same_length : length mid ≡ length old) (made : TemplateMade ds vs inner as_element h old mid top a t) where
       head-means : first_of ds vs scope.d h s ≡ some (template_at mid a)
@@ -308,8 +306,8 @@ module _ {old vars : List ℕ} {scope : Scope} {node top head rest : ℕ} (here 
       pub under-still : Under vars scope.count t
       under-still i l = omega (arith, here.under i l, made.grows.up)
 
-      pub dots-still : scope.dots ≤ t
-      dots-still = omega (arith, here.dots-below, made.grows.up)
+      pub dots-still : DotsBelow scope.dots t
+      dots-still = dots-higher scope.dots top t made.grows.up here.dots-below
 
       abbrev again : Tree
       again = tree_at mid rest scope.wrap
@@ -325,15 +323,15 @@ module _ {old vars : List ℕ} {scope : Scope} {node top head rest : ℕ} (here 
       rest-means =
           rw (dots-kept old mid top made.grows.kept scope.dots scope.wrap here.dots-below here.asks.wrap-below, variables-kept old mid scope.wrap top here.asks.wrap-below made.grows.kept vars scope.count here.under, rest-kept old node scope.wrap top here.asks head rest here.is-pair here.head-is here.rest-is mid a t same_length made.grows, next) refl
 
-      pub left-bad-rest : (new : List ℕ) (r : Built) → r ≡ None → TemplateLeft ds-again vs-again scope.d (rest_place followed) again mid new t r → TemplateLeft ds vs scope.d (rest_place taken) (tree_at old node scope.wrap) old new top None
+      pub left-bad-rest : (new : List ℕ) (r : code.Option Parsed) → r ≡ None → TemplateLeft ds-again vs-again scope.d (rest_place followed) again mid new t r → TemplateLeft ds vs scope.d (rest_place taken) (tree_at old node scope.wrap) old new top None
       left-bad-rest new r b p =
-          let q : TemplateLeft ds-again vs-again scope.d (rest_place followed) again mid new t None = subst (λ (z : Built). TemplateLeft ds-again vs-again scope.d (rest_place followed) again mid new t z) b p in
+          let q : TemplateLeft ds-again vs-again scope.d (rest_place followed) again mid new t None = subst (λ (z : code.Option Parsed). TemplateLeft ds-again vs-again scope.d (rest_place followed) again mid new t z) b p in
           (whole ∙ pair-bad-rest ds vs scope.d h s (template_at mid a) head-means (sym rest-means ∙ q.0), kept-both h old mid new top a t made.grows q.1)
 
-      pub made-rest : (last : List ℕ) (r : Built) (b u : ℕ) → r ≡ At b u → TemplateLeft ds-again vs-again scope.d (rest_place followed) again mid last t r → TemplateMade ds-again vs-again scope.d (rest_place followed) again mid last t b u
-      made-rest last r b u q p = subst (λ (z : Built). TemplateLeft ds-again vs-again scope.d (rest_place followed) again mid last t z) q p
+      pub made-rest : (last : List ℕ) (r : code.Option Parsed) (p : Parsed) → r ≡ Some p → TemplateLeft ds-again vs-again scope.d (rest_place followed) again mid last t r → TemplateMade ds-again vs-again scope.d (rest_place followed) again mid last t p.at p.top
+      made-rest last r p q m = subst (λ (z : code.Option Parsed). TemplateLeft ds-again vs-again scope.d (rest_place followed) again mid last t z) q m
 
-      pub left-list : (last new : List ℕ) (b u r : ℕ) → true ≡ (not followed || drives 0 (template_at mid a)) → TemplateMade ds-again vs-again scope.d (rest_place followed) again mid last t b u → Made template_at (cond followed (ellipsis_t (template_at last a) (template_at last b)) (pair_t (template_at last a) (template_at last b))) last new u r → TemplateLeft ds vs scope.d (rest_place taken) (tree_at old node scope.wrap) old new top (At r r)
+      pub left-list : (last new : List ℕ) (b u r : ℕ) → true ≡ (not followed || drives 0 (template_at mid a)) → TemplateMade ds-again vs-again scope.d (rest_place followed) again mid last t b u → Made template_at (cond followed (ellipsis_t (template_at last a) (template_at last b)) (pair_t (template_at last a) (template_at last b))) last new u r → TemplateLeft ds vs scope.d (rest_place taken) (tree_at old node scope.wrap) old new top (Some (record { at = r; top = r }))
       left-list last new b u r ok second c =
           let x-is : template_at last a ≡ template_at mid a = template-kept mid last t second.grows.kept a made.grows.at_most in
           record {

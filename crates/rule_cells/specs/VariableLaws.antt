@@ -1,5 +1,7 @@
 -- Laws of a pattern's variables.
-use Rattle.std.specs.Prelude.{◌≡◌, Bool, not, ◌&&◌, ◌||◌, cond, eqb, leb, get_or, set}
+use Rattle.std.specs.Prelude.{◌≡◌, Bool, not, ◌&&◌, ◌||◌, cond, eqb, leb, get_or, set, Some, None}
+use Rattle.std.specs.declared.option.Option as code
+use Rattle.std.specs.Option.{is_some}
 use Rattle.std.proofs.Math.Path.{refl, ap, ap₂}
 use Rattle.std.proofs.Common.{sym, ◌∙◌, length-set, get_or-set_same, get_or-set_other, le-leb, eqb-true}
 use Rattle.std.proofs.Math.Bool.{true, false}
@@ -8,7 +10,8 @@ use Rattle.std.proofs.Math.Option.{Option, none, some}
 use Prim.Native.Nat.{ℕ, zero, suc, ◌+◌, ◌*◌, ◌-◌, ◌≤◌, ◌<◌}
 use native.Mathlib.Omega.{arith}
 use Rattle.std.proofs.Math.ListN.{length, length-append}
-use Rattle.std.proofs.lemmas.Bool.{lt-leb, eqb-false}
+use Rattle.std.proofs.lemmas.Bool.{lt-leb, eqb-false, false≢true}
+use Rattle.words.specs.Code.Answer.{option_of}
 use Rattle.words.specs.Limits.{depth_most}
 use Rattle.words.specs.Lists.{all_of, any_of}
 use Rattle.words.specs.TestLaws.{and-none-left, and-none-right, and_both, and_left, and_right, or_left, or_right, any_append}
@@ -20,9 +23,7 @@ use Rattle.arena.specs.Arena.{word_at, reference_at, name_at, tree_at}
 use Rattle.words.specs.ListLaws.{either}
 use Rattle.arena.specs.NodeLaws.{tree_at-name, tree_at-pair}
 use Rattle.arena.specs.ListLaws.{tree-cases}
-use Rattle.rule_cells.specs.Variables.{variable_at, variables_from, known_of, known_from, Held, Under, Stored, Deeper}
-use Rattle.rule_cells.specs.declared.variables.Known.{Known}
-use Rattle.rule_cells.specs.declared.variables.Known.TheVariants.{At, Not}
+use Rattle.rule_cells.specs.Variables.{variable_at, variables_from, known_from, Held, Under, Stored, Deeper}
 
 -- ---- listed literals
 
@@ -57,8 +58,8 @@ module _ (work : List ℕ) (w : ℕ) (vars : List ℕ) (x : Name) where
   known-all i left = let e : i + left - i ≡ left = omega arith in rw e refl
 
   module _ (end i : ℕ) where
-    pub known-none : end ≤ i → known_of Not ≡ known_from work w vars x end i
-    unfolding known_of variables_from variable_from
+    pub known-none : end ≤ i → none ≡ known_from work w vars x end i
+    unfolding variables_from variable_from
     known-none h = let e : end - i ≡ 0 = omega arith in rw e refl
 
     known_step : i < end → known_from work w vars x end i ≡ cond (same (name_at work (get_or vars (2 * i) 0) w) x) (some (i, get_or vars (2 * i + 1) 0)) (known_from work w vars x end (i + 1))
@@ -68,8 +69,7 @@ module _ (work : List ℕ) (w : ℕ) (vars : List ℕ) (x : Name) where
         let d : i + 1 ≡ suc i = omega arith in
         rw (e, d) refl
 
-    pub known-here : i < end → true ≡ same (name_at work (get_or vars (2 * i) 0) w) x → known_of (At i (get_or vars (2 * i + 1) 0)) ≡ known_from work w vars x end i
-    unfolding known_of
+    pub known-here : i < end → true ≡ same (name_at work (get_or vars (2 * i) 0) w) x → some (i, get_or vars (2 * i + 1) 0) ≡ known_from work w vars x end i
     known-here h e = rw (known_step h, ← e) refl
 
     pub known_more : i < end → false ≡ same (name_at work (get_or vars (2 * i) 0) w) x → known_from work w vars x end (i + 1) ≡ known_from work w vars x end i
@@ -231,13 +231,13 @@ module _ (work : List ℕ) (w : ℕ) where
     add_twice p e rest = twice (variables_from work w vars 0 n) (name_at work node w) d rest 0 p e
 
 -- what `find` has answered
-pub found_at : (r : Known) (k e : ℕ) (o : Option (ℕ × ℕ)) → r ≡ At k e → known_of r ≡ o → o ≡ some (k, e)
-unfolding known_of
-found_at r k e o h g = sym g ∙ ap known_of h
+pub found : (r : code.Option (ℕ × ℕ)) (o : Option (ℕ × ℕ)) → option_of r ≡ o → is_some r ≡ true → (p : ℕ × ℕ) × (o ≡ some p)
+found (Some p) o e s = (p, sym e)
+found None o e s = absurd (false≢true s)
 
-pub found-not : (r : Known) (o : Option (ℕ × ℕ)) → r ≡ Not → known_of r ≡ o → o ≡ none
-unfolding known_of
-found-not r o h g = sym g ∙ ap known_of h
+pub found-none : (r : code.Option (ℕ × ℕ)) (o : Option (ℕ × ℕ)) → option_of r ≡ o → is_some r ≡ false → o ≡ none
+found-none (Some p) o e s = absurd (false≢true (sym s))
+found-none None o e s = sym e
 
 -- ---- depths
 

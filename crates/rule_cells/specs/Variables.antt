@@ -1,12 +1,11 @@
 -- The variables of a pattern in a small table: two words each, the node of its name and its depth; all lie under one wrap.
-use Rattle.std.specs.Prelude.{◌≡◌, Bool, true, false, cond, List, [], ◌∷◌, ◌++◌, ℕ, zero, suc, ◌+◌, ◌*◌, ◌-◌, ◌≤◌, ◌<◌, eqb, get_or}
-use Rattle.std.proofs.Math.Option.{Option, none, some}
+use Rattle.std.specs.Prelude.{◌≡◌, Bool, true, false, List, [], ◌∷◌, ◌++◌, ℕ, zero, suc, ◌+◌, ◌*◌, ◌-◌, ◌≤◌, ◌<◌, get_or, Some, None}
+use Rattle.std.proofs.Math.Option.{Option}
 use Rattle.recipe.specs.Name.{Name}
 use Rattle.recipe.specs.Tree.{Tree}
 use Rattle.expansion.specs.Rules.{are_variables, depth_before, variable_from, variables}
 use Rattle.arena.specs.Arena.{name_at, tree_at}
-use Rattle.rule_cells.specs.declared.variables.Known.{Known}
-use Rattle.rule_cells.specs.declared.variables.Known.TheVariants.{At, Not}
+use Rattle.std.specs.declared.option.Option as code
 
 -- variable i of the table, with the number of ellipses it lies under
 unfoldable pub variable_at : (work : List ℕ) (w : ℕ) (vars : List ℕ) → ℕ → Name × ℕ
@@ -17,10 +16,6 @@ unfoldable pub variables_from : (work : List ℕ) (w : ℕ) (vars : List ℕ) �
 variables_from work w vars i zero = []
 variables_from work w vars i (suc n) = variable_at work w vars i ∷ variables_from work w vars (suc i) n
 
-unfoldable pub known_of : Known → Option (ℕ × ℕ)
-known_of (At k d) = some (k, d)
-known_of Not = none
-
 -- what the variables from number i up to `end` say of a name
 abbrev pub known_from : (work : List ℕ) (w : ℕ) (vars : List ℕ) (x : Name) → (end i : ℕ) → Option (ℕ × ℕ)
 known_from work w vars x end i = variable_from i (variables_from work w vars i (end - i)) x
@@ -30,15 +25,6 @@ abbrev pub Deeper : (dots : Name → Bool) (rest : Tree) (d r : ℕ) → Type 0
 Deeper dots rest d r = r ≡ depth_before dots rest d
 
 -- ---- gathering
-
--- how many variables the table holds, or bad: more than 16, two the same, or one under three ellipses
-pub data Kept : Type 0 where
-  Count : ℕ → Kept
-  Bad : Kept
-
--- what a word holds; the largest is bad
-unfoldable pub kept_of : ℕ → Kept
-kept_of n = cond (eqb n 4294967295) Bad (Count n)
 
 -- the table's variables keep the limits
 pub record Held (work : List ℕ) (w : ℕ) (vars : List ℕ) (n : ℕ) : Type 0 where
@@ -55,13 +41,13 @@ pub record Stored (more : List (Name × ℕ)) (work : List ℕ) (w node n : ℕ)
   pub held : Held work w new m
   pub under : (b : ℕ) → node ≤ b → Under old n b → Under new m b
 
--- they are stored, or break the limits, whatever comes after them
-abbrev pub Gathered : (more : List (Name × ℕ)) (work : List ℕ) (w node n : ℕ) (old new : List ℕ) → Kept → Type 0
-Gathered more work w node n old new (Count m) = Stored more work w node n old new m
-Gathered more work w node n old new Bad = (rest : List (Name × ℕ)) → are_variables (variables_from work w old 0 n ++ (more ++ rest)) ≡ false
+-- they are stored, and the table holds so many, or break the limits, whatever comes after them: more than 16, two the same, or one under three ellipses
+abbrev pub Gathered : (more : List (Name × ℕ)) (work : List ℕ) (w node n : ℕ) (old new : List ℕ) → code.Option ℕ → Type 0
+Gathered more work w node n old new (Some m) = Stored more work w node n old new m
+Gathered more work w node n old new None = (rest : List (Name × ℕ)) → are_variables (variables_from work w old 0 n ++ (more ++ rest)) ≡ false
 
 -- the list `at` is left of the node's, and its variables behind the m of the table are all the node's behind the n
 pub record Gathering (dots : Name → Bool) (literals : List Name) (d : ℕ) (work : List ℕ) (w node n : ℕ) (old : List ℕ) (at m : ℕ) (vars : List ℕ) : Type 0 where
   pub low : at ≤ node
   pub held : Held work w vars m
-  pub all : (new : List ℕ) (r : Kept) → Gathered (variables dots literals d (tree_at work at w)) work w at m vars new r → Gathered (variables dots literals d (tree_at work node w)) work w node n old new r
+  pub all : (new : List ℕ) (r : code.Option ℕ) → Gathered (variables dots literals d (tree_at work at w)) work w at m vars new r → Gathered (variables dots literals d (tree_at work node w)) work w node n old new r

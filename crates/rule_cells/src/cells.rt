@@ -1,6 +1,7 @@
 // Cells of parsed rules: tags, and where the words of each kind stand, counted back from the cell's end, by which it is referred
 // to. specs/Cells.antt says what they mean. A cell has five words. Reference 0 is the empty pattern, the empty template and the
-// empty list of rules.
+// empty list of rules. Tags are numbers and no enum, since cells are words of the table that C lends, which definitions read by
+// these numbers.
 
 // Where the tag of a pattern or template stands, and the tags.
 pub const TAG: u32 = 1;

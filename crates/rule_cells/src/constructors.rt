@@ -16,11 +16,7 @@ fn put(work: &mut [u32], top: u32, a: u32, b: u32, c: u32, d: u32, tag: u32) -> 
     ensures { Five a b c d tag work.old work.new top result }
 {
     let at = top as usize;
-    work[at] = a;
-    work[at + 1] = b;
-    work[at + 2] = c;
-    work[at + 3] = d;
-    work[at + 4] = tag;
+    work[at..at + 5].copy_from_slice(&[a, b, c, d, tag]);
     top + 5
 }
 

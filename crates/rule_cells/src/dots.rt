@@ -1,4 +1,4 @@
-// The ellipsis of rules among trees in the arena, told by one word.
+// The ellipsis of rules among trees in the arena.
 
 ghost use Rattle.std.specs.Prelude.{◌≡◌, ◌&&◌};
 ghost use Rattle.recipe.specs.Tree.{tail};
@@ -9,27 +9,28 @@ ghost use Rattle.rule_cells.specs.Dots.{dots_at, is_dots, dots_among};
 use arena::{cells, lists};
 use resolution::names;
 
-// `...`, known by number alone, whatever waits on it.
-pub const DEFAULT: u32 = 0;
-
-// No name: so in an escaped template. Any other word is the node of the name that the author chose, known by sameness.
-pub const NEVER: u32 = 1;
+// What the ellipsis is: `...`, known by number alone, whatever waits on it; no name, as in an escaped template; or the name that
+// the author chose, by its node, known by sameness.
+#[derive(Clone, Copy, Debug, PartialEq, Eq)]
+pub enum Dots {
+    Default,
+    Never,
+    Chosen(u32),
+}
 
 // Whether a name is the ellipsis. All names here lie under one pending wrap.
-pub fn is_ellipsis(work: &[u32], dots: u32, node: u32, w: u32) -> bool
+pub fn is_ellipsis(work: &[u32], dots: Dots, node: u32, w: u32) -> bool
     ensures { result ≡ dots_at work.now dots w (name_at work.now node w) }
 {
-    if dots == DEFAULT {
-        return names::number_of(work, node) == names::ELLIPSIS;
+    match dots {
+        Dots::Default => names::number_of(work, node) == names::ELLIPSIS,
+        Dots::Never => false,
+        Dots::Chosen(chosen) => names::same_names(work, chosen, w, node, w),
     }
-    if dots == NEVER {
-        return false;
-    }
-    names::same_names(work, dots, w, node, w)
 }
 
 // Whether a tree is the ellipsis.
-fn is_dots(work: &[u32], dots: u32, node: u32, w: u32) -> bool
+fn is_dots(work: &[u32], dots: Dots, node: u32, w: u32) -> bool
     ensures { result ≡ is_dots work.now dots w (tree_at work.now node w) }
 {
     if cells::word(work, node, cells::KIND) != cells::NAME {
@@ -39,7 +40,7 @@ fn is_dots(work: &[u32], dots: u32, node: u32, w: u32) -> bool
 }
 
 // Whether a list begins with the ellipsis.
-pub fn dots_next(work: &[u32], dots: u32, node: u32, w: u32) -> bool
+pub fn dots_next(work: &[u32], dots: Dots, node: u32, w: u32) -> bool
     ensures { result ≡ dots_next (dots_at work.now dots w) (tree_at work.now node w) }
 {
     if cells::word(work, node, cells::KIND) != cells::PAIR {
@@ -50,7 +51,7 @@ pub fn dots_next(work: &[u32], dots: u32, node: u32, w: u32) -> bool
 }
 
 // Whether the ellipsis stands among the elements of a list.
-fn among(work: &[u32], dots: u32, list: u32, w: u32) -> bool
+fn among(work: &[u32], dots: Dots, list: u32, w: u32) -> bool
     ensures { result ≡ dots_among work.now dots w (tree_at work.now list w) }
 {
     let mut node = list;
@@ -65,7 +66,7 @@ fn among(work: &[u32], dots: u32, list: u32, w: u32) -> bool
 }
 
 // Whether a rest of a list, where it begins with the ellipsis, has another.
-pub fn crowded(work: &[u32], dots: u32, rest: u32, w: u32, followed: bool) -> bool
+pub fn crowded(work: &[u32], dots: Dots, rest: u32, w: u32, followed: bool) -> bool
     ensures { result ≡ (followed && dots_among work.now dots w (tail (tree_at work.now rest w))) }
 {
     if followed {

@@ -10,20 +10,21 @@ ghost use Rattle.rule_cells.specs.Dots.{dots_at};
 ghost use Rattle.rule_cells.specs.Forms.{literals_all, literals_good, chosen_good, Chosen, rules_body};
 
 use crate::dots;
+use crate::dots::Dots;
 use arena::{cells, lists};
 use datum::base_names;
 use resolution::names;
 
-// What the rules of a form are read by: its ellipsis (`dots` says how), the list of its literals, and the wrap that waits on all of it.
+// What the rules of a form are read by: its ellipsis, the list of its literals, and the wrap that waits on all of it.
 #[derive(Clone, Copy)]
 pub struct Form {
-    pub dots: u32,
+    pub dots: Dots,
     pub literals: u32,
     pub wrap: u32,
 }
 
 // Whether a tree may be a literal: a name other than the ellipsis and `_`.
-fn may_be_listed(work: &[u32], dots: u32, node: u32, w: u32) -> bool
+fn may_be_listed(work: &[u32], dots: Dots, node: u32, w: u32) -> bool
     ensures { result ≡ is_literal (dots_at work.now dots w) (tree_at work.now node w) }
 {
     if cells::word(work, node, cells::KIND) != cells::NAME {
@@ -36,7 +37,7 @@ fn may_be_listed(work: &[u32], dots: u32, node: u32, w: u32) -> bool
 }
 
 // Whether all elements of a list may be literals.
-fn all_listed(work: &[u32], dots: u32, node: u32, w: u32) -> bool
+fn all_listed(work: &[u32], dots: Dots, node: u32, w: u32) -> bool
     ensures { result ≡ literals_all (dots_at work.now dots w) (tree_at work.now node w) }
 {
     let mut at = node;
@@ -52,7 +53,7 @@ fn all_listed(work: &[u32], dots: u32, node: u32, w: u32) -> bool
 }
 
 // Whether a tree is a list of at most 8 literals.
-fn literals_good(work: &[u32], dots: u32, node: u32, w: u32) -> bool
+fn literals_good(work: &[u32], dots: Dots, node: u32, w: u32) -> bool
     ensures { result ≡ literals_good (dots_at work.now dots w) (tree_at work.now node w) }
 {
     if lists::is_list(work, node) {
@@ -87,15 +88,15 @@ fn chosen_good(work: &[u32], second: u32) -> bool
     names::is_ordinary(work, second)
 }
 
-// The ellipsis of a form: the node of the chosen name, or the default.
-pub fn ellipsis(work: &[u32], node: u32) -> u32
+// The ellipsis of a form: the chosen name, or the default.
+pub fn ellipsis(work: &[u32], node: u32) -> Dots
     ensures { Chosen work.now node result }
 {
     let second = lists::element(work, node, 1);
     if cells::word(work, second, cells::KIND) == cells::NAME {
-        return second;
+        return Dots::Chosen(second);
     }
-    dots::DEFAULT
+    Dots::Default
 }
 
 // A form after syntax-rules and the chosen name, where there is one.

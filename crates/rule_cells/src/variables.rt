@@ -2,29 +2,24 @@
 // node and depth of each. specs/Variables.antt says what the table holds. All names here lie under one pending wrap.
 
 ghost use Rattle.std.specs.Prelude.{◌≡◌, cond, [], ◌∷◌, ◌+◌, ◌*◌, ◌^◌, ◌≤◌, ◌<◌, length};
+ghost use Rattle.words.specs.Code.Answer.{option_of};
 ghost use Rattle.words.specs.Lists.{any_of};
 ghost use Rattle.recipe.specs.Name.{same};
 ghost use Rattle.recipe.specs.Tree.{name, names};
 ghost use Rattle.expansion.specs.Rules.{is_variable, variable_from, variables};
 ghost use Rattle.arena.specs.Arena.{name_at, tree_at};
 ghost use Rattle.rule_cells.specs.Dots.{dots_at};
-ghost use Rattle.rule_cells.specs.Variables.{variables_from, known_of, Deeper, kept_of, Held, Gathered};
+ghost use Rattle.rule_cells.specs.Variables.{variables_from, Deeper, Held, Gathered};
 ghost use Rattle.rule_cells.specs.Scopes.{dots_of, literals_of};
 
 use crate::dots;
+use crate::dots::Dots;
 use crate::rules_form::Form;
 use arena::cells;
 use resolution::names;
 
 // The words of the table: two for each of the most variables of a pattern.
 pub const WORDS: usize = 2 * words::VARIABLES as usize;
-
-// The variable that a name is the same as: its number and its depth.
-#[derive(Clone, Copy)]
-pub enum Known {
-    At(u32, u32),
-    Not,
-}
 
 // Whether a name is the same as one of the names of a list.
 fn is_literal(work: &[u32], list: u32, node: u32, w: u32) -> bool
@@ -62,25 +57,19 @@ pub fn is_variable(work: &[u32], form: Form, node: u32) -> bool
     true
 }
 
-// Which of `left` variables from number i on a name is the same as.
-pub fn find(work: &[u32], vars: &[u32], i: u32, left: u32, node: u32, w: u32) -> Known
-    requires { (i + left ≤ 16) × (32 ≤ length vars.now) }
-    ensures { known_of result ≡ variable_from i (variables_from work.now w vars.now i left) (name_at work.now node w) }
+// Which of the table's variables a name is the same as: its number and its depth.
+pub fn find(work: &[u32], vars: &[u32], count: u32, node: u32, w: u32) -> Option<(u32, u32)>
+    requires { (count ≤ 16) × (32 ≤ length vars.now) }
+    ensures { option_of result ≡ variable_from 0 (variables_from work.now w vars.now 0 count) (name_at work.now node w) }
 {
-    let end = i + left;
-    let mut k = i;
-    while k < end {
+    for k in 0..count {
         let at = 2 * (k as usize);
         if names::same_names(work, vars[at], w, node, w) {
-            return Known::At(k, vars[at + 1]);
+            return Some((k, vars[at + 1]));
         }
-        k += 1;
     }
-    Known::Not
+    None
 }
-
-// The answer in place of how many variables the table holds: more than 16, two the same, or one under three ellipses.
-pub const BAD: u32 = 4294967295;
 
 // The depth of an element of a list at depth d: one more before the ellipsis.
 pub fn element_depth(followed: bool, d: u32) -> u32
@@ -94,52 +83,50 @@ pub fn element_depth(followed: bool, d: u32) -> u32
 }
 
 // The depth of an element before this rest of its list.
-fn depth_before(work: &[u32], dots: u32, rest: u32, w: u32, d: u32) -> u32
+fn depth_before(work: &[u32], dots: Dots, rest: u32, w: u32, d: u32) -> u32
     requires { d + 1 < 2 ^ 32 }
     ensures { Deeper (dots_at work.now dots w) (tree_at work.now rest w) d result }
 {
     element_depth(dots::dots_next(work, dots, rest, w), d)
 }
 
-// One more variable behind the n of the table, under d ellipses: how many the table then holds, or BAD.
-fn add(work: &[u32], vars: &mut [u32], node: u32, w: u32, d: u32, n: u32) -> u32
+// One more variable behind the n of the table, under d ellipses: how many the table then holds, where they keep the limits: at most 16,
+// no two the same, and none under three ellipses.
+fn add(work: &[u32], vars: &mut [u32], node: u32, w: u32, d: u32, n: u32) -> Option<u32>
     requires { (32 ≤ length vars.old) × (Held work.now w vars.old n) }
-    ensures { Gathered ((name_at work.now node w, d) ∷ []) work.now w node n vars.old vars.new (kept_of result) }
+    ensures { Gathered ((name_at work.now node w, d) ∷ []) work.now w node n vars.old vars.new result }
 {
     if words::DEPTH < d {
-        return BAD;
+        return None;
     }
     if words::VARIABLES <= n {
-        return BAD;
+        return None;
     }
-    match find(work, vars, 0, n, node, w) {
-        Known::At(k, e) => {
-            return BAD;
-        }
-        Known::Not => {}
+    if find(work, vars, n, node, w).is_some() {
+        return None;
     }
     let at = 2 * (n as usize);
     vars[at] = node;
     vars[at + 1] = d;
-    n + 1
+    Some(n + 1)
 }
 
-// The variable of a pattern's name, where it is one: how many the table then holds, or BAD.
-fn gather_name(work: &[u32], vars: &mut [u32], form: Form, node: u32, d: u32, n: u32) -> u32
+// The variable of a pattern's name, where it is one: how many the table then holds, where they keep the limits.
+fn gather_name(work: &[u32], vars: &mut [u32], form: Form, node: u32, d: u32, n: u32) -> Option<u32>
     requires { (32 ≤ length vars.old) × (Held work.now form.wrap vars.old n) }
-    ensures { Gathered (variables (dots_of work.now form) (literals_of work.now form) d (name (name_at work.now node form.wrap))) work.now form.wrap node n vars.old vars.new (kept_of result) }
+    ensures { Gathered (variables (dots_of work.now form) (literals_of work.now form) d (name (name_at work.now node form.wrap))) work.now form.wrap node n vars.old vars.new result }
 {
     if !is_variable(work, form, node) {
-        return n;
+        return Some(n);
     }
     add(work, vars, node, form.wrap, d, n)
 }
 
 // The variables of a pattern from the left, each with the number of ellipses it lies under, behind the n of the table: how many
-// the table then holds, or BAD.
-pub fn gather(work: &[u32], vars: &mut [u32], form: Form, node: u32, d: u32, n: u32) -> u32
+// the table then holds, where they keep the limits.
+pub fn gather(work: &[u32], vars: &mut [u32], form: Form, node: u32, d: u32, n: u32) -> Option<u32>
     requires { (32 ≤ length vars.old) × (Held work.now form.wrap vars.old n) × (d + node < 2 ^ 32) }
-    ensures { Gathered (variables (dots_of work.now form) (literals_of work.now form) d (tree_at work.now node form.wrap)) work.now form.wrap node n vars.old vars.new (kept_of result) }
+    ensures { Gathered (variables (dots_of work.now form) (literals_of work.now form) d (tree_at work.now node form.wrap)) work.now form.wrap node n vars.old vars.new result }
 {
     let mut at = node;
     let mut m = n;
@@ -147,15 +134,11 @@ pub fn gather(work: &[u32], vars: &mut [u32], form: Form, node: u32, d: u32, n: 
         let head = cells::reference(work, at, cells::HEAD);
         let rest = cells::reference(work, at, cells::TAIL);
         let inner = depth_before(work, form.dots, rest, form.wrap, d);
-        let k = gather(work, vars, form, head, inner, m);
-        if k == BAD {
-            return BAD;
-        }
-        m = k;
+        m = gather(work, vars, form, head, inner, m)?;
         at = rest;
     }
     if cells::word(work, at, cells::KIND) == cells::NAME {
         return gather_name(work, vars, form, at, d, m);
     }
-    m
+    Some(m)
 }

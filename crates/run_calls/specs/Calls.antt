@@ -13,13 +13,13 @@ use Rattle.run_calls.specs.Statement.{RunsAs, RecipeRuns, RecipeRefused}
 
 pub recipe-runs : RecipeRuns
 unfolding RecipeRuns RunsAsTerm Never19 recipe_run after_expansion
-recipe-runs items fuel work work' core core' answer s steps sum size h budget table =
+recipe-runs items fuel work work' core core' answer s x h budget table =
     let r = X.run items fuel (length work) (length core) in
-    let o = ran-accepted items fuel work work' core core' answer s steps sum size h in
-    let f = term-front items fuel work work' core core' answer s steps sum size h size refl in
+    let o = ran-accepted items fuel work work' core core' answer s x h in
+    let f = term-front items fuel work work' core core' answer s x h x.length refl in
     let c = run-term items fuel (length work) (length core) o in
-    let w : R.run (take size core') budget table ≡ R.run (core_of r) budget table = ap (λ (z : List ℕ). R.run z budget table) f.1 in
-    let e : R.run (take size core') budget table ≡ recipe_run items fuel (length work) (length core) budget table = rw o w in
+    let w : R.run (take x.length core') budget table ≡ R.run (core_of r) budget table = ap (λ (z : List ℕ). R.run z budget table) f.1 in
+    let e : R.run (take x.length core') budget table ≡ recipe_run items fuel (length work) (length core) budget table = rw o w in
     record {
       term = c.term;
       kept = c.given;
@@ -31,4 +31,4 @@ recipe-runs items fuel work work' core core' answer s steps sum size h budget ta
 
 pub recipe-refused : RecipeRefused
 unfolding RecipeRefused recipe_run after_expansion
-recipe-refused items fuel work work' core core' answer s ground_number steps sum h budget table = rw (ran-refused items fuel work work' core core' answer s ground_number steps sum h).1
+recipe-refused items fuel work work' core core' answer s x h budget table = rw (ran-refused items fuel work work' core core' answer s x h).1

@@ -1,13 +1,14 @@
 -- What a call of the expansion service left, run (request L11). Nothing is proved here.
-use Rattle.std.specs.Prelude.{◌≡◌, List, ℕ, ◌≤◌, length, take}
+use Rattle.std.specs.Prelude.{◌≡◌, List, ℕ, ◌≤◌, length, take, Ok, Err}
+use Rattle.words.specs.Code.Ground.{number_of}
 use Rattle.std.proofs.Math.Option.{some}
 use Rattle.recipe.specs.Name.{Name}
 use Rattle.core_term.specs.Term.{Term}
 use Rattle.expansion.specs.Run as X
 use Rattle.expansion.specs.Run.{told}
-use Rattle.expander.specs.declared.Expansion.{Expansion}
-use Rattle.expander.specs.declared.Expansion.TheVariants.{Accepted, Refused}
-use Rattle.expander.specs.Service.{Served}
+use Rattle.turns.specs.declared.answers.Refused.{Refused}
+use Rattle.expander.specs.declared.Expanded.{Expanded}
+use Rattle.expander.specs.Service.{Expansion, Served}
 use Rattle.evaluation.specs.Run as R
 use Rattle.recipe_runs.specs.RecipeRun.{recipe_run, term_run}
 
@@ -28,18 +29,18 @@ RecipeRuns =
     (items : List ℕ) (fuel : ℕ) (work work' core core' : List ℕ) (answer : Expansion)
     → Served items fuel work work' core core' answer
     -- it is accepted, with a term of so many words
-    → (steps sum size : ℕ)
-    → answer ≡ Accepted steps sum size
+    → (x : Expanded)
+    → answer ≡ Ok x
     -- any budget and any length of the runner's table
     → (budget table : ℕ)
-    → RunsAs items fuel (length work) (length core) budget table size core'
+    → RunsAs items fuel (length work) (length core) budget table x.length core'
 
 -- and where it is refused, so is running the recipe, on that ground
 unfoldable pub RecipeRefused : Type 0
 RecipeRefused =
     (items : List ℕ) (fuel : ℕ) (work work' core core' : List ℕ) (answer : Expansion)
     → Served items fuel work work' core core' answer
-    → (ground_number steps sum : ℕ)
-    → answer ≡ Refused ground_number steps sum
+    → (x : Refused)
+    → answer ≡ Err x
     → (budget table : ℕ)
-    → recipe_run items fuel (length work) (length core) budget table ≡ R.unfit ground_number
+    → recipe_run items fuel (length work) (length core) budget table ≡ R.unfit (number_of x.ground)

@@ -1,11 +1,9 @@
 -- What is printed for the runner's answer, as it is laid; any output fits.
-use Rattle.std.specs.Prelude.{◌≡◌, true, false, List, [], ◌∷◌, ◌++◌, ℕ, ◌≤◌, ◌<◌, eqb, ℤ, length}
-use Rattle.std.proofs.Common.{subst, ap, ◌∙◌, arith, eqb-true, lt-ltb, Fits, SFits, to_z}
-use Rattle.std.proofs.lemmas.Bool.{eqb-false}
+use Rattle.std.specs.Prelude.{◌≡◌, refl, true, false, Option, Some, None, IsSome, Result as Answer, Ok, Err, List, [], ◌∷◌, ◌++◌, ℕ, ◌≤◌, ◌<◌, ℤ, length}
+use Rattle.std.proofs.Common.{ap, ◌∙◌, arith, lt-ltb, to_z}
 use Rattle.std.specs.Int.Signed.{mag}
 use Rattle.std.specs.Int.{w32}
 use Rattle.std.proofs.Math.Facts.{sfits_to_z}
-use Rattle.words.specs.ListLaws.{either}
 use Rattle.words.specs.Text.{bytes}
 use Rattle.core_term.specs.Decimal.{integer_text}
 use Rattle.core_term.specs.Text.{spaced_after, spaced}
@@ -15,24 +13,34 @@ use Rattle.evaluation.specs.Run.{Result, number, boolean, datum, closure, operat
 use Rattle.run_output.specs.Output.{refusal, boolean_text, value_line, acceptance}
 use Rattle.run_output.specs.Laid.{output_most, counted}
 use Rattle.run_output.proofs.LaidLaws.{number-laid, datum-laid, acceptance-laid}
-use Rattle.run_output.proofs.LaidLaws as Laid
-use Rattle.writer.specs.Put.{Put, no_place, put_of}
+use Rattle.run_output.proofs.LaidLaws as LaidLaws
 use Rattle.writer.specs.Laid.{Left}
-use Rattle.writer.specs.LaidLaws.{put-done, put_full, laid-first, done-is, full_is, left-done}
-use Rattle.runner.specs.declared.Running.{Running}
-use Rattle.runner.specs.declared.Running.TheVariants as A
+use Rattle.writer.specs.LaidLaws.{laid-first, done-is, full_is, left-done}
+use Rattle.words.specs.declared.ground.Ground.{Ground}
+use Rattle.words.specs.Code.Ground.{number_of}
+use Rattle.runner.specs.declared.Value.{Value}
+use Rattle.runner.specs.declared.Value.TheVariants as V
+use Rattle.runner.specs.declared.Outcome.{Outcome}
 use Rattle.program_laws.specs.Printed.{Printed}
 
 -- what is printed for an answer
-unfoldable pub line_of : Running → List ℕ
-line_of (A.Integer w u) = acceptance (number (to_z w32 w)) u
-line_of (A.Boolean b u) = acceptance (boolean b) u
-line_of (A.Datum at u) = acceptance (datum at) u
-line_of (A.Closure u) = acceptance closure u
-line_of (A.Operation u) = acceptance operation u
-line_of (A.Refused g) = refusal g
+unfoldable pub value_of : Value → ℕ → List ℕ
+value_of (V.Integer w) u = acceptance (number (to_z w32 w)) u
+value_of (V.Boolean b) u = acceptance (boolean b) u
+value_of (V.Datum at) u = acceptance (datum at) u
+value_of V.Closure u = acceptance closure u
+value_of V.Operation u = acceptance operation u
+
+unfoldable pub line_of : Answer Outcome Ground → List ℕ
+line_of (Ok o) = value_of o.value o.units
+line_of (Err g) = refusal (number_of g)
 
 -- ---- as it is laid
+
+-- an output at the beginning, of which no more are printed than there is room for
+pub record Laid (x d e : List ℕ) (r : Option ℕ) : Type 0 where
+  pub left : Left true x 0 d e r
+  pub room : length x ≤ output_most
 
 -- accepted and the units
 abbrev pub header : ℕ → List ℕ
@@ -67,7 +75,7 @@ operation-laid units = value-laid operation units
 
 pub refusal-laid : (ground_number : ℕ) → counted (114 ∷ 101 ∷ 102 ∷ 117 ∷ 115 ∷ 101 ∷ 100 ∷ []) ground_number ≡ refusal ground_number
 unfolding bytes
-refusal-laid ground_number = Laid.refusal-laid ground_number
+refusal-laid ground_number = LaidLaws.refusal-laid ground_number
 
 -- ---- room
 
@@ -77,9 +85,13 @@ unfolding in_range
 word_fits w h = lt-ltb (mag (to_z w32 w)) 2147483648 (sfits_to_z {w = w32} {n = w} (record { fits = h })).sfits
 
 -- an output that is laid where any has room is printed
-pub laid-printed : {x y d e : List ℕ} {n : ℕ} → Left true x 0 d e (put_of n) → x ≡ y → length x ≤ output_most → output_most ≤ length d → Printed y d e n
-laid-printed {x} {y} {d} {e} {n} l same few room =
-    subst (λ (z : List ℕ). Printed z d e n) same
-    (either (eqb n no_place)
-    (λ b. let f = full_is (subst (λ (p : Put). Left true x 0 d e p) (put_full n (eqb-true n no_place b)) l) in absurd (omega (arith, f.0)))
-    (λ b. let k = done-is (left-done l n (put-done n (eqb-false n no_place b))) in record { size = omega (arith, k.0); bytes = k.2 ∙ laid-first x d }))
+module _ {x d e : List ℕ} {r : Option ℕ} (l : Laid x d e r) where
+  pub laid-some : output_most ≤ length d → IsSome r
+  laid-some h = go r l.left
+    where
+      go : (s : Option ℕ) → Left true x 0 d e s → IsSome s
+      go (Some n) k = refl
+      go None k = let f = full_is k in absurd (omega (arith, f.0, l.room))
+
+  pub laid-printed : (n : ℕ) → r ≡ Some n → Printed x d e n
+  laid-printed n h = let k = done-is (left-done l.left n h) in record { size = omega (arith, k.0); bytes = k.2 ∙ laid-first x d }

@@ -6,33 +6,25 @@ ghost use Rattle.recipe_runs.specs.RecipeRun.{recipe_run};
 ghost use Rattle.run_output.specs.Output.{program_budget, printed, output_of};
 ghost use Rattle.run_recipe.specs.Line.{line_of};
 
-use expander::{Expansion, expand};
-use reader::{Reading, read};
-use runner::{Running, run};
+use expander::expand;
+use reader::read;
+use runner::{Outcome, run};
+use words::ground::Ground;
 use words::{FUEL, ITEM};
-use writer::numbers::wide;
 
 // Units that the largest work table has room for. run_output's specs/Output.antt has the same number.
 const PROGRAM_BUDGET: u32 = 18431;
 
 // A recipe's items are expanded, and the term is run in the work table, which expansion is done with.
-fn expanded(items: &[u32], work: &mut [u32], core: &mut [u32]) -> Running
+fn expanded(items: &[u32], work: &mut [u32], core: &mut [u32]) -> Result<Outcome, Ground>
     ensures { line_of result ≡ printed (recipe_run items.now fuel_most (length work.old) (length core.old) program_budget (length work.old)) }
 {
     match expand(items, FUEL, work, core) {
-        Expansion::Accepted {
-            steps: _,
-            sum: _,
-            length: l,
-        } => {
-            let end = wide(l);
+        Ok(reached) => {
+            let end = reached.length as usize;
             run(&core[..end], PROGRAM_BUDGET, work)
         }
-        Expansion::Refused {
-            ground: g,
-            steps: _,
-            sum: _,
-        } => Running::Refused(g),
+        Err(refused) => Err(refused.ground),
     }
 }
 
@@ -43,14 +35,10 @@ pub fn value(
     names: &mut [u8],
     work: &mut [u32],
     core: &mut [u32],
-) -> Running
+) -> Result<Outcome, Ground>
     ensures { line_of result ≡ output_of fuel_most (length work.old) (length core.old) program_budget (length work.old) (read text.now (length items.old) (length names.old)) }
 {
-    match read(text, items, names) {
-        Reading::Read { items: i, names: _ } => {
-            let words = ITEM * i;
-            expanded(&items[..words], work, core)
-        }
-        Reading::Refused(ground) => Running::Refused(ground),
-    }
+    let counts = read(text, items, names)?;
+    let words = ITEM * counts.items;
+    expanded(&items[..words], work, core)
 }

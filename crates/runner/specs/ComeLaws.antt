@@ -1,72 +1,84 @@
 -- The laws of a value that has come, one for each way through the code.
-use Rattle.std.specs.Prelude.{◌≡◌, Bool, true, false, cond, ℕ, zero, suc, ◌+◌, ◌-◌, ◌*◌, ◌≤◌, ◌<◌, eqb, get_or}
+use Rattle.std.specs.Prelude.{◌≡◌, Bool, true, false, cond, ℕ, suc, ◌+◌, ◌-◌, ◌*◌, ◌≤◌, ◌<◌, get_or, Result, Ok, Err}
+use Rattle.words.specs.declared.ground.Ground.{Ground}
+use Rattle.words.specs.declared.ground.Ground.TheVariants as G
+use Rattle.words.specs.Code.Ground as Grounds
 use Rattle.std.proofs.Math.Path.{refl, sym, ap, subst}
 use Rattle.std.proofs.Common.{ap₂, ◌∙◌, add-one, add-zero, eq-eqb, ne_eqb}
 use mathlib.Core.List.{List, [], ◌∷◌, ◌++◌}
-use Rattle.std.proofs.Math.Option.{Option, none, some}
+use Rattle.std.proofs.Math.Option.{none, some}
 use native.Mathlib.Omega.{arith}
 use Rattle.std.proofs.Math.ListN.{length, length-append}
 use Rattle.words.specs.Code.Packed.{packed}
-use Rattle.core_term.specs.Term.{none_c, more_c, lambda_c, Plain, Plains, count}
+use Rattle.core_term.specs.Term.{none_c, more_c, lambda_c, Plain, count}
 use Rattle.core_term.specs.Node.{node_words}
 use Rattle.core_term.specs.Words.{encode}
 use Rattle.evaluation.specs.Code.{code_at, codes_at}
-use Rattle.evaluation.specs.Computation.{Out, done, refused, M, go_on, ◌>>=◌, ◌>>◌, give, refuse, test, or_refuse, Answer, answer, ground_number, or_ground}
-use Rattle.evaluation.specs.Evaluate.{Value, number_v, boolean_v, datum_v, closure_v, operation_v, Environment, bind, holds, number_of, is_two, operand, operate, apply}
-use Rattle.evaluation.proofs.Steps.{Waiting, test_w, parts_w, value, apply_all, resume, begins, comes-test, comes-part, comes-last}
+use Rattle.evaluation.specs.Computation.{Out, refused, go_on, ◌>>=◌, ◌>>◌, give, refuse, test, or_refuse, Answer, answer, ground_number, or_ground}
+use Rattle.evaluation.specs.Evaluate.{Value, closure_v, operation_v, Environment, bind, holds, number_of, is_two, operand, operate, apply}
+use Rattle.evaluation.proofs.Steps.{Waiting, parts_w, value, apply_all, resume, begins, comes-test, comes-part, comes-last}
 use Rattle.runner.specs.declared.rows.Value as R
+use Rattle.runner.specs.declared.rows.Value.TheVariants as RV
 use Rattle.runner.specs.declared.rows.Frame.{Frame}
+use Rattle.runner.specs.declared.rows.Frame.TheVariants as F
+use Rattle.runner.specs.declared.rows.Branches.{Branches}
+use Rattle.runner.specs.declared.rows.Parts.{Parts}
 use Rattle.runner.specs.declared.rows.Extended.{Extended}
-use Rattle.runner.specs.declared.numbers.Made.{Made}
-use Rattle.runner.specs.declared.numbers.Made.TheVariants as D
 use Rattle.runner.specs.declared.state.Counts.{Counts}
-use Rattle.runner.specs.declared.state.Turn.TheVariants.{Begins, Comes, Stops}
+use Rattle.runner.specs.declared.state.Turn.TheVariants.{Begins}
 use Rattle.runner.specs.Domain.{Number, numbers, number_in}
-use Rattle.runner.specs.Here.{Here, First, here-first, here-body, here-inside, begins-word}
-use Rattle.runner.specs.Rows.{value_word, frame_word, EnvironmentIs, ValueIs, number_i, boolean_i, datum_i, closure_i, operation_i, ValueIn, ValuesIn, none_i, more_i, WaitingIs, nothing_i, test_i, parts_i}
-use Rattle.runner.specs.Stores.{value_at, frame_at, frame_set, frame_words, length-stored, frame-own, packed-parts}
-use Rattle.runner.specs.Kept.{Kept, kept_frame, environment-kept, values-kept, waiting_kept}
+use Rattle.runner.specs.Here.{Here, here-first, here-body, here-inside, begins-word}
+use Rattle.runner.specs.Rows.{value_at, frame_word, EnvironmentIs, ValueIs, number_i, boolean_i, datum_i, closure_i, operation_i, ValueIn, ValuesIn, none_i, more_i, WaitingIs, nothing_i, test_i, parts_i}
+use Rattle.runner.specs.Stores.{branches_at, parts_at, frame_at, frame-test, frame-parts, frame_set, frame_words, length-stored, frame-own, packed-parts}
+use Rattle.runner.specs.Kept.{kept_frame, environment-kept, values-kept, waiting_kept}
 use Rattle.runner.specs.Extended.{Extends, ExtendedBy}
 use Rattle.runner.specs.Made.{MadeIs}
-use Rattle.runner.specs.Machine.{Room, Beginning, Coming, Stopped, Leaving, Giving, Testing, Parting, Complete, Valued, Turned, come_fuel, give_fuel}
+use Rattle.runner.specs.Machine.{Coming, Leaving, Giving, Testing, Parting, Complete, Valued, Turned, come_fuel}
 use Rattle.runner.specs.BeginLaws.{leaving-gives, leaving-stops}
 
--- ---- what the words of a value say
+-- ---- what a value says
 
-module _ {ws t : List ℕ} {top k a b e : ℕ} {v : Value Number} where
-  -- only #f is false
-  pub holds-boolean : k ≡ 2 → ValueIs ws t top k a b e v → eqb a 1 ≡ holds v
-  unfolding holds
-  holds-boolean h (number_i i x) = absurd (omega arith)
-  holds-boolean h (boolean_i i x) = rw x
-  holds-boolean h (datum_i i x) = absurd (omega arith)
-  holds-boolean h (closure_i f n y c i x q l p) = absurd (omega arith)
-  holds-boolean h (operation_i i x q) = absurd (omega arith)
+-- only #f is false
+abbrev pub holds_of : R.Value → Bool
+holds_of (RV.Number w) = true
+holds_of (RV.Boolean b) = b
+holds_of (RV.Datum at) = true
+holds_of (RV.Closure at e) = true
+holds_of (RV.Operation p) = true
 
-  pub holds-other : (k ≡ 2 → ⊥) → ValueIs ws t top k a b e v → true ≡ holds v
+module _ {ws t : List ℕ} {top : ℕ} {u : R.Value} {v : Value Number} where
+  pub holds-is : ValueIs ws t top u v → holds_of u ≡ holds v
   unfolding holds
-  holds-other h (number_i i x) = rw x
-  holds-other h (boolean_i i x) = absurd (h i)
-  holds-other h (datum_i i x) = rw x
-  holds-other h (closure_i f n y c i x q l p) = rw x
-  holds-other h (operation_i i x q) = rw x
+  holds-is (number_i w i x) = rw (i, x)
+  holds-is (boolean_i b i x) = rw (i, x)
+  holds-is (datum_i at i x) = rw (i, x)
+  holds-is (closure_i at e f n y c i x q l p) = rw (i, x)
+  holds-is (operation_i p i x q) = rw (i, x)
+
+  pub holds-other : ((b : Bool) → u ≡ RV.Boolean b → ⊥) → ValueIs ws t top u v → true ≡ holds v
+  unfolding holds
+  holds-other h (number_i w i x) = rw x
+  holds-other h (boolean_i b i x) = absurd (h b i)
+  holds-other h (datum_i at i x) = rw x
+  holds-other h (closure_i at e f n y c i x q l p) = rw x
+  holds-other h (operation_i p i x q) = rw x
 
   -- a number, or none
-  pub number-yes : k ≡ 1 → ValueIs ws t top k a b e v → number_of v ≡ some (number_in a b)
+  pub number-yes : (w : ℕ) → u ≡ RV.Number w → ValueIs ws t top u v → number_of v ≡ some (number_in w 0)
   unfolding number_of
-  number-yes h (number_i i x) = rw x
-  number-yes h (boolean_i i x) = absurd (omega arith)
-  number-yes h (datum_i i x) = absurd (omega arith)
-  number-yes h (closure_i f n y c i x q l p) = absurd (omega arith)
-  number-yes h (operation_i i x q) = absurd (omega arith)
+  number-yes w h (number_i n i x) = let e : n ≡ w = cc in rw (x, e)
+  number-yes w h (boolean_i b i x) = cc
+  number-yes w h (datum_i at i x) = cc
+  number-yes w h (closure_i at e f n y c i x q l p) = cc
+  number-yes w h (operation_i p i x q) = cc
 
-  pub number-no : (k ≡ 1 → ⊥) → ValueIs ws t top k a b e v → number_of v ≡ none
+  pub number-no : ((w : ℕ) → u ≡ RV.Number w → ⊥) → ValueIs ws t top u v → number_of v ≡ none
   unfolding number_of
-  number-no h (number_i i x) = absurd (h i)
-  number-no h (boolean_i i x) = rw x
-  number-no h (datum_i i x) = rw x
-  number-no h (closure_i f n y c i x q l p) = rw x
-  number-no h (operation_i i x q) = rw x
+  number-no h (number_i w i x) = absurd (h w i)
+  number-no h (boolean_i b i x) = rw x
+  number-no h (datum_i at i x) = rw x
+  number-no h (closure_i at e f n y c i x q l p) = rw x
+  number-no h (operation_i p i x q) = rw x
 
 -- ---- values of rows
 
@@ -90,11 +102,11 @@ module _ {ws t : List ℕ} {budget : ℕ} {whole : Out (Value Number)} (s : Coun
   come-row = omega (arith, c.room.rows, c.room.within, c.room.lent)
 
   -- the test of an if
-  pub come-test : (frame_at t (s.frames - 1)).what ≡ 1 → Testing ws budget whole t s (frame_at t (s.frames - 1))
+  come-test : frame_word t (s.frames - 1) 0 ≡ 1 → Testing ws budget whole t s (branches_at t (s.frames - 1))
   come-test h = go s.frames (s.values - 1) refl refl c.waiting c.stacked c.goes
     where
       go : (n row : ℕ) → s.frames ≡ n → s.values - 1 ≡ row → (k : List (Waiting numbers budget)) → WaitingIs ws t s.cells budget n row k
-          → whole ≡ resume numbers budget k c.value s.units → Testing ws budget whole t s (frame_at t (s.frames - 1))
+          → whole ≡ resume numbers budget k c.value s.units → Testing ws budget whole t s (branches_at t (s.frames - 1))
       go n row q u k nothing_i w = absurd (omega arith)
       go n row q u k' (test_i {f = f} {next = next} {e = e} {y = y} {z = z} {env = env} {k = k} i p j x x' l b r) w =
           let d : s.frames - 1 ≡ f = omega arith in
@@ -122,12 +134,12 @@ module _ {ws t : List ℕ} {budget : ℕ} {whole : Out (Value Number)} (s : Coun
           absurd (omega (arith, i, g))
 
   -- a part of an application, and another is next
-  pub come-part : ((frame_at t (s.frames - 1)).what ≡ 1 → ⊥) → 0 < (frame_at t (s.frames - 1)).left → Parting ws budget whole t s (frame_at t (s.frames - 1))
+  come-part : (frame_word t (s.frames - 1) 0 ≡ 1 → ⊥) → 0 < frame_word t (s.frames - 1) 3 → Parting ws budget whole t s (parts_at t (s.frames - 1))
   unfolding codes_at count
   come-part h g = go s.frames (s.values - 1) refl refl c.waiting c.stacked c.goes
     where
       go : (n row : ℕ) → s.frames ≡ n → s.values - 1 ≡ row → (k : List (Waiting numbers budget)) → WaitingIs ws t s.cells budget n row k
-          → whole ≡ resume numbers budget k c.value s.units → Parting ws budget whole t s (frame_at t (s.frames - 1))
+          → whole ≡ resume numbers budget k c.value s.units → Parting ws budget whole t s (parts_at t (s.frames - 1))
       go n row q u k' nothing_i w = absurd (omega arith)
       go n row q u k' (test_i {f = f} i p j x x' l b r) w =
           let d : f ≡ s.frames - 1 = omega arith in
@@ -158,8 +170,8 @@ module _ {ws t : List ℕ} {budget : ℕ} {whole : Out (Value Number)} (s : Coun
           })
 
   -- the last part of an application
-  pub come-last : ((frame_at t (s.frames - 1)).what ≡ 1 → ⊥) → (frame_at t (s.frames - 1)).left ≤ 0
-      → Complete ws budget whole t s (frame_at t (s.frames - 1)).base (s.values - (frame_at t (s.frames - 1)).base - 1)
+  come-last : (frame_word t (s.frames - 1) 0 ≡ 1 → ⊥) → frame_word t (s.frames - 1) 3 ≤ 0
+      → Complete ws budget whole t s (frame_word t (s.frames - 1) 4) (s.values - (frame_word t (s.frames - 1) 4) - 1)
   unfolding codes_at count apply_all
   come-last h g = go s.frames (s.values - 1) refl refl c.waiting c.stacked c.goes
     where
@@ -189,7 +201,7 @@ module _ {ws t : List ℕ} {budget : ℕ} {whole : Out (Value Number)} (s : Coun
 
       go : (n row : ℕ) → s.frames ≡ n → s.values - 1 ≡ row → (k : List (Waiting numbers budget)) → WaitingIs ws t s.cells budget n row k
           → whole ≡ resume numbers budget k c.value s.units
-          → Complete ws budget whole t s (frame_at t (s.frames - 1)).base (s.values - (frame_at t (s.frames - 1)).base - 1)
+          → Complete ws budget whole t s (frame_word t (s.frames - 1) 4) (s.values - (frame_word t (s.frames - 1) 4) - 1)
       go n row q u k' nothing_i w = absurd (omega arith)
       go n row q u k' (test_i {f = f} i p j x x' l b r) w =
           let d : f ≡ s.frames - 1 = omega arith in
@@ -206,13 +218,29 @@ module _ {ws t : List ℕ} {budget : ℕ} {whole : Out (Value Number)} (s : Coun
           (rw (length-append vs (c.value ∷ [])) (omega arith)) (rw (length-append vs (c.value ∷ [])) (omega (arith, r, u, c.some)))
           (rw d st) (w ∙ comes-last numbers budget vs env k c.value s.units))
 
+  -- by the frame
+  pub come-branch : (f : Branches) → frame_at t (s.frames - 1) ≡ F.Test f → Testing ws budget whole t s f
+  come-branch f e = let q = frame-test _ _ _ f e in subst (λ (f : Branches). Testing ws budget whole t s f) q.1 (come-test q.0)
+
+  module _ (f : Parts) (e : frame_at t (s.frames - 1) ≡ F.Parts f) where
+    come-is : (frame_word t (s.frames - 1) 0 ≡ 1 → ⊥) × (parts_at t (s.frames - 1) ≡ f)
+    come-is = frame-parts _ _ _ f e
+
+    pub come-next : 0 < f.left → Parting ws budget whole t s f
+    come-next h = subst (λ (f : Parts). Parting ws budget whole t s f) come-is.1 (come-part come-is.0 (subst (λ (f : Parts). 0 < f.left) (sym come-is.1) h))
+
+    pub come-complete : f.left ≤ 0 → Complete ws budget whole t s f.base (s.values - f.base - 1)
+    come-complete h =
+        subst (λ (f : Parts). Complete ws budget whole t s f.base (s.values - f.base - 1)) come-is.1
+        (come-last come-is.0 (subst (λ (f : Parts). f.left ≤ 0) (sym come-is.1) h))
+
 -- ---- the test of an if
 
-module _ {ws t : List ℕ} {budget : ℕ} {whole : Out (Value Number)} (s : Counts) (f : Frame) (x : Testing ws budget whole t s f) where
+module _ {ws t : List ℕ} {budget : ℕ} {whole : Out (Value Number)} (s : Counts) (f : Branches) (x : Testing ws budget whole t s f) where
   -- the branch that it picks begins
   picked : (at : ℕ) (branch : Plain) → Here ws at branch
       → whole ≡ begins numbers budget (code_at at branch) x.environment x.waiting s.units
-      → Turned ws budget whole (come_fuel s budget) t (Begins (dropped s (s.values - 1)) at f.environment)
+      → Turned ws budget whole (come_fuel s budget) t (Ok (Begins (dropped s (s.values - 1)) at f.environment))
   picked at branch h g = (
     record {
       room = record { rows = omega (arith, x.room.rows); within = x.room.within; lent = x.room.lent; most = x.room.most };
@@ -234,25 +262,25 @@ module _ {ws t : List ℕ} {budget : ℕ} {whole : Out (Value Number)} (s : Coun
   picked-by b h = x.goes
       ∙ ap (λ (b : Bool). begins numbers budget (cond b (code_at f.next x.yes) (code_at (f.next + length (encode x.yes)) x.no)) x.environment x.waiting s.units) (sym h)
 
-  pub testing-yes : true ≡ holds x.value → Turned ws budget whole (come_fuel s budget) t (Begins (dropped s (s.values - 1)) f.next f.environment)
+  pub testing-yes : true ≡ holds x.value → Turned ws budget whole (come_fuel s budget) t (Ok (Begins (dropped s (s.values - 1)) f.next f.environment))
   testing-yes h = picked f.next x.yes x.here (picked-by true h)
 
   pub testing-no : false ≡ holds x.value → (next : ℕ) → next ≡ f.next + length (encode x.yes)
-      → Turned ws budget whole (come_fuel s budget) t (Begins (dropped s (s.values - 1)) next f.environment)
+      → Turned ws budget whole (come_fuel s budget) t (Ok (Begins (dropped s (s.values - 1)) next f.environment))
   testing-no h next e =
-      subst (λ (n : ℕ). Turned ws budget whole (come_fuel s budget) t (Begins (dropped s (s.values - 1)) n f.environment)) (sym e)
+      subst (λ (n : ℕ). Turned ws budget whole (come_fuel s budget) t (Ok (Begins (dropped s (s.values - 1)) n f.environment))) (sym e)
       (picked (f.next + length (encode x.yes)) x.no x.there (picked-by false h))
 
 -- ---- the next part of an application
 
-module _ {ws t : List ℕ} {budget : ℕ} {whole : Out (Value Number)} (s : Counts) (f : Frame) (x : Parting ws budget whole t s f) where
+module _ {ws t : List ℕ} {budget : ℕ} {whole : Out (Value Number)} (s : Counts) (f : Parts) (x : Parting ws budget whole t s f) where
   -- the frame waits for it
   pub parting-begins : (next : ℕ) → next ≡ f.next + length (encode x.first)
-      → Turned ws budget whole (come_fuel s budget) (frame_set t (s.frames - 1) (record { what = 2; next = next; left = f.left - 1; base = f.base; environment = f.environment }))
-      (Begins s f.next f.environment)
+      → Turned ws budget whole (come_fuel s budget) (frame_set t (s.frames - 1) (F.Parts (record { next = next; left = f.left - 1; base = f.base; environment = f.environment })))
+      (Ok (Begins s f.next f.environment))
   parting-begins next e =
       let row = s.frames - 1 in
-      let waiting : Frame = record { what = 2; next = next; left = f.left - 1; base = f.base; environment = f.environment } in
+      let waiting : Frame = F.Parts (record { next = next; left = f.left - 1; base = f.base; environment = f.environment }) in
       let room : 16 * (row + 1) ≤ length t = omega (arith, x.framed, x.room.rows, x.room.within, x.room.lent) in
       let own : (i : ℕ) → i < 6 → frame_word (frame_set t row waiting) row i ≡ get_or (frame_words waiting) i 0 = λ i h. frame-own t row i room waiting h in
       let to : packed (frame_word (frame_set t row waiting) row 2) (frame_word (frame_set t row waiting) row 1) ≡ f.next + length (encode x.first) =
@@ -288,27 +316,35 @@ module _ {ws t : List ℕ} {budget : ℕ} {whole : Out (Value Number)} (s : Coun
 
 -- ---- all parts have their values
 
--- a closure's words
-pub record Closed (ws t : List ℕ) (cells : ℕ) (v : R.Value) (x : Value Number) : Type 0 where
+-- a closure's meaning
+pub record Closed (ws t : List ℕ) (cells at e : ℕ) (x : Value Number) : Type 0 where
   pub first : ℕ
   pub names : List ℕ
   pub body : Plain
   pub environment : Environment Number
-  pub is : x ≡ closure_v first (length names) (code_at (packed v.b v.a + (3 + length names)) body) environment
-  pub here : Here ws (packed v.b v.a) (lambda_c first names body)
-  pub below : v.environment ≤ cells
-  pub bound : EnvironmentIs ws t v.environment environment
+  pub is : x ≡ closure_v first (length names) (code_at (at + (3 + length names)) body) environment
+  pub here : Here ws at (lambda_c first names body)
+  pub below : e ≤ cells
+  pub bound : EnvironmentIs ws t e environment
 
-closed-value : {ws t : List ℕ} {cells : ℕ} (v : R.Value) (x : Value Number) → v.kind ≡ 4 → ValueIs ws t cells v.kind v.a v.b v.environment x → Closed ws t cells v x
-closed-value {ws} {t} {cells} v x h i = go v.kind v.a v.b v.environment h refl refl refl i
-  where
-    go : (k a b e : ℕ) → k ≡ 4 → v.a ≡ a → v.b ≡ b → v.environment ≡ e → ValueIs ws t cells k a b e x → Closed ws t cells v x
-    go k a b e h p q r (number_i i y) = absurd (omega arith)
-    go k a b e h p q r (boolean_i i y) = absurd (omega arith)
-    go k a b e h p q r (datum_i i y) = absurd (omega arith)
-    go k a b e h p q r (closure_i first names body env i y z l c) =
-        record { first = first; names = names; body = body; environment = env; is = rw (p, q) y; here = rw (p, q) z; below = rw r l; bound = rw r c }
-    go k a b e h p q r (operation_i i y z) = absurd (omega arith)
+closed-value : {ws t : List ℕ} {cells : ℕ} (at e : ℕ) (u : R.Value) (x : Value Number) → u ≡ RV.Closure at e → ValueIs ws t cells u x → Closed ws t cells at e x
+closed-value at e u x h (number_i w i y) = cc
+closed-value at e u x h (boolean_i b i y) = cc
+closed-value at e u x h (datum_i p i y) = cc
+closed-value {ws} {t} {cells} at e u x h (closure_i at' e' first names body env i y z l c) =
+    let p : at' ≡ at = cc in
+    let q : e' ≡ e = cc in
+    record {
+      first = first;
+      names = names;
+      body = body;
+      environment = env;
+      is = y ∙ ap (λ (n : ℕ). closure_v first (length names) (code_at (n + (3 + length names)) body) env) p;
+      here = subst (λ (n : ℕ). Here ws n (lambda_c first names body)) p z;
+      below = omega (arith, l, q);
+      bound = subst (λ (n : ℕ). EnvironmentIs ws t n env) q c;
+    }
+closed-value at e u x h (operation_i p i y z) = cc
 
 -- the words of a lambda at its place
 pub record Formals (ws : List ℕ) (at first count : ℕ) : Type 0 where
@@ -344,37 +380,38 @@ module _ {ws t : List ℕ} {budget : ℕ} {whole : Out (Value Number)} (s : Coun
   known : (h : Value Number) → x.head ≡ h → Leaving ws budget whole t (dropped s base) (apply numbers (value numbers budget) h x.operands)
   known h e = subst (λ (h : Value Number). Leaving ws budget whole t (dropped s base) (apply numbers (value numbers budget) h x.operands)) e x.leaving
 
-  stops : (h : Value Number) → x.head ≡ h → (g : ℕ) → apply numbers (value numbers budget) h x.operands s.units ≡ refused g s.units → Turned ws budget whole (come_fuel s budget) t (Stops g)
+  stops : (h : Value Number) → x.head ≡ h → (g : Ground) → apply numbers (value numbers budget) h x.operands s.units ≡ refused (Grounds.number_of g) s.units → Turned ws budget whole (come_fuel s budget) t (Err g)
   stops h e g q = leaving-stops (dropped s base) _ (known h e) g (come_fuel s budget) (omega arith) q
 
   -- the head is neither a closure nor an operation
-  pub head-other : (value_word t base 0 ≡ 4 → ⊥) → (value_word t base 0 ≡ 5 → ⊥) → Turned ws budget whole (come_fuel s budget) t (Stops 25)
+  pub head-other : ((at e : ℕ) → value_at t base ≡ RV.Closure at e → ⊥) → ((p : ℕ) → value_at t base ≡ RV.Operation p → ⊥) → Turned ws budget whole (come_fuel s budget) t (Err G.WrongKind)
   unfolding apply refuse
-  head-other h k = go _ _ _ _ h k x.is.is
+  head-other h k = go _ h k x.is.is
     where
-      go : (kind a b e : ℕ) → (kind ≡ 4 → ⊥) → (kind ≡ 5 → ⊥) → ValueIs ws t s.cells kind a b e x.head → Turned ws budget whole (come_fuel s budget) t (Stops 25)
-      go kind a b e h k (number_i i y) = stops _ y 25 refl
-      go kind a b e h k (boolean_i i y) = stops _ y 25 refl
-      go kind a b e h k (datum_i i y) = stops _ y 25 refl
-      go kind a b e h k (closure_i first names body env i y z l c) = absurd (h i)
-      go kind a b e h k (operation_i i y z) = absurd (k i)
+      go : (u : R.Value) → ((at e : ℕ) → u ≡ RV.Closure at e → ⊥) → ((p : ℕ) → u ≡ RV.Operation p → ⊥) → ValueIs ws t s.cells u x.head
+          → Turned ws budget whole (come_fuel s budget) t (Err G.WrongKind)
+      go u h k (number_i w i y) = stops _ y G.WrongKind refl
+      go u h k (boolean_i b i y) = stops _ y G.WrongKind refl
+      go u h k (datum_i at i y) = stops _ y G.WrongKind refl
+      go u h k (closure_i at e first names body env i y z l c) = absurd (h at e i)
+      go u h k (operation_i p i y z) = absurd (k p i)
 
   -- ---- a closure
 
-  module _ (v : R.Value) (same : v ≡ value_at t base) (kind : v.kind ≡ 4) where
-    pub closed : Closed ws t s.cells v x.head
-    closed = closed-value v x.head kind (subst (λ (v : R.Value). ValueIs ws t s.cells v.kind v.a v.b v.environment x.head) (sym same) x.is.is)
+  module _ (place e : ℕ) (same : value_at t base ≡ RV.Closure place e) where
+    pub closed : Closed ws t s.cells place e x.head
+    closed = closed-value place e (value_at t base) x.head same x.is.is
 
     -- its lambda's words
-    pub formals : (at : ℕ) → at ≡ packed v.b v.a → Formals ws at closed.first (length closed.names)
-    formals at e = rw e (lambda-words closed.first closed.names closed.body closed.here)
+    pub formals : Formals ws place closed.first (length closed.names)
+    formals = lambda-words closed.first closed.names closed.body closed.here
 
     -- another number of operands
-    pub call-stops : (n ≡ length closed.names → ⊥) → Turned ws budget whole (come_fuel s budget) t (Stops 26)
+    pub call-stops : (n ≡ length closed.names → ⊥) → Turned ws budget whole (come_fuel s budget) t (Err G.WrongCount)
     unfolding apply ◌>>◌ go_on test
-    call-stops h = stops _ closed.is 26 (rw (ne_eqb (length x.operands) (length closed.names) (λ e. h (sym x.many ∙ e))))
+    call-stops h = stops _ closed.is G.WrongCount (rw (ne_eqb (length x.operands) (length closed.names) (λ e. h (sym x.many ∙ e))))
 
-    pub call-extends : Extends t s.cells v.environment (base + 1) n
+    pub call-extends : Extends t s.cells e (base + 1) n
     call-extends =
         record {
           below = closed.below;
@@ -384,14 +421,14 @@ module _ {ws t : List ℕ} {budget : ℕ} {whole : Out (Value Number)} (s : Coun
         }
 
     -- the operands are bound, and the body begins
-    pub call-begins : (t' : List ℕ) (r : Extended) → n ≡ length closed.names → length t' ≡ length t → ExtendedBy t s.cells v.environment closed.first (base + 1) n t' r
-        → (at : ℕ) → at ≡ packed v.b v.a + (3 + length closed.names)
-        → Turned ws budget whole (come_fuel s budget) t' (Begins (record { units = s.units; values = base; frames = s.frames - 1; cells = r.cells }) at r.environment)
+    pub call-begins : (t' : List ℕ) (r : Extended) → n ≡ length closed.names → length t' ≡ length t → ExtendedBy t s.cells e closed.first (base + 1) n t' r
+        → (at : ℕ) → at ≡ place + (3 + length closed.names)
+        → Turned ws budget whole (come_fuel s budget) t' (Ok (Begins (record { units = s.units; values = base; frames = s.frames - 1; cells = r.cells }) at r.environment))
     unfolding apply ◌>>◌ ◌>>=◌ go_on test begins
-    call-begins t' r h len b at e =
+    call-begins t' r h len b at q =
         let l = known _ closed.is in
         let g = b.kept base (s.frames - 1) in
-        subst (λ (at : ℕ). Turned ws budget whole (come_fuel s budget) t' (Begins (record { units = s.units; values = base; frames = s.frames - 1; cells = r.cells }) at r.environment)) (sym e) (
+        subst (λ (at : ℕ). Turned ws budget whole (come_fuel s budget) t' (Ok (Begins (record { units = s.units; values = base; frames = s.frames - 1; cells = r.cells }) at r.environment))) (sym q) (
           record {
             room =
                 record {
@@ -414,77 +451,76 @@ module _ {ws t : List ℕ} {budget : ℕ} {whole : Out (Value Number)} (s : Coun
 
   -- ---- an operation
 
-  module _ (v : R.Value) (same : v ≡ value_at t base) (kind : v.kind ≡ 5) where
-    pub place_of : (x.head ≡ operation_v v.a) × (v.a < 4)
-    place_of = go v.kind v.a v.b v.environment kind (subst (λ (v : R.Value). ValueIs ws t s.cells v.kind v.a v.b v.environment x.head) (sym same) x.is.is)
+  module _ (p : ℕ) (same : value_at t base ≡ RV.Operation p) where
+    pub place_of : (x.head ≡ operation_v p) × (p < 4)
+    place_of = go _ same x.is.is
       where
-        go : (k a b e : ℕ) → k ≡ 5 → ValueIs ws t s.cells k a b e x.head → (x.head ≡ operation_v a) × (a < 4)
-        go k a b e h (number_i i y) = absurd (omega arith)
-        go k a b e h (boolean_i i y) = absurd (omega arith)
-        go k a b e h (datum_i i y) = absurd (omega arith)
-        go k a b e h (closure_i first names body env i y z l c) = absurd (omega arith)
-        go k a b e h (operation_i i y z) = (y, z)
+        go : (u : R.Value) → u ≡ RV.Operation p → ValueIs ws t s.cells u x.head → (x.head ≡ operation_v p) × (p < 4)
+        go u h (number_i w i y) = cc
+        go u h (boolean_i b i y) = cc
+        go u h (datum_i at i y) = cc
+        go u h (closure_i at e first names body env i y z l c) = cc
+        go u h (operation_i q i y z) = let k : q ≡ p = cc in (y ∙ ap (λ (n : ℕ). operation_v n) k, omega (arith, k, z))
 
     -- another number of operands
-    pub operation-number : (n ≡ 2 → ⊥) → Turned ws budget whole (come_fuel s budget) t (Stops 26)
+    pub operation-number : (n ≡ 2 → ⊥) → Turned ws budget whole (come_fuel s budget) t (Err G.WrongCount)
     unfolding apply ◌>>◌ go_on test is_two
-    operation-number h = stops _ place_of.0 26 (rw (ne_eqb (length x.operands) 2 (λ e. h (sym x.many ∙ e))))
+    operation-number h = stops _ place_of.0 G.WrongCount (rw (ne_eqb (length x.operands) 2 (λ e. h (sym x.many ∙ e))))
 
     module _ (many : n ≡ 2) where
       pub operands-two : Two ws t s.cells (base + 1) x.operands
       operands-two = two-values x.operands x.are (x.many ∙ many)
 
       -- their kinds, from the left, and then the operation
-      operated : (◌>>=◌ (or_refuse 25 (number_of operands-two.one)) (λ a. ◌>>=◌ (or_refuse 25 (number_of operands-two.two)) (λ b. or_ground (operate numbers v.a a b)))) s.units
-          ≡ apply numbers (value numbers budget) (operation_v v.a) x.operands s.units
+      operated : (◌>>=◌ (or_refuse 25 (number_of operands-two.one)) (λ a. ◌>>=◌ (or_refuse 25 (number_of operands-two.two)) (λ b. or_ground (operate numbers p a b)))) s.units
+          ≡ apply numbers (value numbers budget) (operation_v p) x.operands s.units
       unfolding apply ◌>>◌ go_on test is_two operand
-      operated = sym (ap (λ (vs : List (Value Number)). apply numbers (value numbers budget) (operation_v v.a) vs s.units) operands-two.are)
+      operated = sym (ap (λ (vs : List (Value Number)). apply numbers (value numbers budget) (operation_v p) vs s.units) operands-two.are)
 
-      -- the first operand's words
-      module _ (u : R.Value) (first : u ≡ value_at t (base + 1)) where
-        one-is : ValueIs ws t s.cells u.kind u.a u.b u.environment operands-two.one
-        one-is = subst (λ (v : R.Value). ValueIs ws t s.cells v.kind v.a v.b v.environment operands-two.one) (sym first) operands-two.first.is
+      -- the first operand
+      one-is : ValueIs ws t s.cells (value_at t (base + 1)) operands-two.one
+      one-is = operands-two.first.is
 
-        pub operation-first : (u.kind ≡ 1 → ⊥) → Turned ws budget whole (come_fuel s budget) t (Stops 25)
+      pub operation-first : ((w : ℕ) → value_at t (base + 1) ≡ RV.Number w → ⊥) → Turned ws budget whole (come_fuel s budget) t (Err G.WrongKind)
+      unfolding ◌>>=◌ go_on or_refuse
+      operation-first h = stops _ place_of.0 G.WrongKind (sym operated ∙ rw (number-no h one-is))
+
+      -- and the second
+      module _ (a : ℕ) (first : value_at t (base + 1) ≡ RV.Number a) where
+        two_is : ValueIs ws t s.cells (value_at t (base + 2)) operands-two.two
+        two_is =
+            let e : base + 1 + 1 ≡ base + 2 = omega arith in
+            let i : ValueIn ws t s.cells (base + 2) operands-two.two = rw e at operands-two.second in
+            i.is
+
+        pub operation-second : ((w : ℕ) → value_at t (base + 2) ≡ RV.Number w → ⊥) → Turned ws budget whole (come_fuel s budget) t (Err G.WrongKind)
         unfolding ◌>>=◌ go_on or_refuse
-        operation-first h = stops _ place_of.0 25 (sym operated ∙ rw (number-no h one-is))
+        operation-second h = stops _ place_of.0 G.WrongKind (sym operated ∙ rw (number-yes a first one-is, number-no h two_is))
 
-        -- and the second's
-        module _ (number : u.kind ≡ 1) (w : R.Value) (second : w ≡ value_at t (base + 2)) where
-          two_is : ValueIs ws t s.cells w.kind w.a w.b w.environment operands-two.two
-          two_is =
-              let e : base + 1 + 1 ≡ base + 2 = omega arith in
-              let i : ValueIn ws t s.cells (base + 2) operands-two.two = rw e at operands-two.second in
-              subst (λ (v : R.Value). ValueIs ws t s.cells v.kind v.a v.b v.environment operands-two.two) (sym second) i.is
-
-          pub operation-second : (w.kind ≡ 1 → ⊥) → Turned ws budget whole (come_fuel s budget) t (Stops 25)
+        module _ (b : ℕ) (second : value_at t (base + 2) ≡ RV.Number b) (m : Result R.Value Ground) (made : MadeIs (operate numbers p (number_in a 0) (number_in b 0)) m) where
+          -- what the operation answers
+          answered : or_ground (operate numbers p (number_in a 0) (number_in b 0)) s.units
+              ≡ apply numbers (value numbers budget) (operation_v p) x.operands s.units
           unfolding ◌>>=◌ go_on or_refuse
-          operation-second h = stops _ place_of.0 25 (sym operated ∙ rw (number-yes number one-is, number-no h two_is))
+          answered = sym (rw (number-yes a first one-is, number-yes b second two_is)) ∙ operated
 
-          module _ (number' : w.kind ≡ 1) (m : Made) (made : MadeIs (operate numbers v.a (number_in u.a u.b) (number_in w.a w.b)) m) where
-            -- what the operation answers
-            answered : or_ground (operate numbers v.a (number_in u.a u.b) (number_in w.a w.b)) s.units
-                ≡ apply numbers (value numbers budget) (operation_v v.a) x.operands s.units
-            unfolding ◌>>=◌ go_on or_refuse
-            answered = sym (rw (number-yes number one-is, number-yes number' two_is)) ∙ operated
+          pub made-value : (o : R.Value) → m ≡ Ok o → Giving ws budget whole t (dropped s base) o
+          unfolding or_ground
+          made-value o e = go _ refl (subst (λ (m : Result R.Value Ground). MadeIs (operate numbers p (number_in a 0) (number_in b 0)) m) e made)
+            where
+              go : (r : Answer (Value Number)) → operate numbers p (number_in a 0) (number_in b 0) ≡ r
+                  → MadeIs r (Ok o) → Giving ws budget whole t (dropped s base) o
+              go (answer y) q i = leaving-gives (dropped s base) _ (known _ place_of.0) o y (sym answered ∙ ap (λ (r : Answer (Value Number)). or_ground r s.units) q) (i ws t s.cells)
+              go (ground_number g) q i = absurd i
 
-            pub made-value : (o : R.Value) → m ≡ D.Value o → Giving ws budget whole t (dropped s base) o
-            unfolding or_ground
-            made-value o e = go _ refl (subst (λ (m : Made). MadeIs (operate numbers v.a (number_in u.a u.b) (number_in w.a w.b)) m) e made)
-              where
-                go : (r : Answer (Value Number)) → operate numbers v.a (number_in u.a u.b) (number_in w.a w.b) ≡ r
-                    → MadeIs r (D.Value o) → Giving ws budget whole t (dropped s base) o
-                go (answer y) q i = leaving-gives (dropped s base) _ (known _ place_of.0) o y (sym answered ∙ ap (λ (r : Answer (Value Number)). or_ground r s.units) q) (i ws t s.cells)
-                go (ground_number g) q i = absurd i
-
-            pub made-ground : (g : ℕ) → m ≡ D.Ground g → Turned ws budget whole (come_fuel s budget) t (Stops g)
-            unfolding or_ground
-            made-ground g e = go _ refl (subst (λ (m : Made). MadeIs (operate numbers v.a (number_in u.a u.b) (number_in w.a w.b)) m) e made)
-              where
-                go : (r : Answer (Value Number)) → operate numbers v.a (number_in u.a u.b) (number_in w.a w.b) ≡ r
-                    → MadeIs r (D.Ground g) → Turned ws budget whole (come_fuel s budget) t (Stops g)
-                go (answer y) q i = absurd i
-                go (ground_number h) q i = stops _ place_of.0 g (sym answered ∙ ap (λ (r : Answer (Value Number)). or_ground r s.units) q ∙ ap (λ (n : ℕ). refused n s.units) (sym i))
+          pub made-ground : (g : Ground) → m ≡ Err g → Turned ws budget whole (come_fuel s budget) t (Err g)
+          unfolding or_ground
+          made-ground g e = go _ refl (subst (λ (m : Result R.Value Ground). MadeIs (operate numbers p (number_in a 0) (number_in b 0)) m) e made)
+            where
+              go : (r : Answer (Value Number)) → operate numbers p (number_in a 0) (number_in b 0) ≡ r
+                  → MadeIs r (Err g) → Turned ws budget whole (come_fuel s budget) t (Err g)
+              go (answer y) q i = absurd i
+              go (ground_number h) q i = stops _ place_of.0 g (sym answered ∙ ap (λ (r : Answer (Value Number)). or_ground r s.units) q ∙ ap (λ (n : ℕ). refused n s.units) (sym i))
 
 -- ---- nothing waits: the run ends
 

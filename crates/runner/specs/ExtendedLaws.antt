@@ -9,8 +9,8 @@ use Rattle.std.proofs.Math.ListN.{length}
 use Rattle.evaluation.specs.Evaluate.{Value, Environment, bound_e, bind}
 use Rattle.runner.specs.declared.rows.Extended.{Extended}
 use Rattle.runner.specs.Domain.{Number}
-use Rattle.runner.specs.Rows.{EnvironmentIs, beyond_i, ValueIn, ValuesIn, none_i, more_i}
-use Rattle.runner.specs.Stores.{value_at, cell_set}
+use Rattle.runner.specs.Rows.{value_at, EnvironmentIs, beyond_i, ValueIn, ValuesIn, none_i, more_i}
+use Rattle.runner.specs.Stores.{cell_set}
 use Rattle.runner.specs.Kept.{Kept, kept_same, kept_less, kept_then, kept-cell, row_kept}
 use Rattle.runner.specs.Put.{cell-put}
 use Rattle.runner.specs.Extended.{Extends, ExtendedBy}

@@ -5,10 +5,9 @@ use Rattle.std.proofs.Math.Path.{subst}
 use Rattle.std.proofs.Math.Option.{Option, none, some}
 use borrow.Author.Tests.{ne_eqb, eq-eqb}
 use Rattle.evaluation.specs.Evaluate.{Value, Environment, find}
-use Rattle.runner.specs.declared.rows.Found.TheVariants as F
+use Rattle.std.specs.Prelude as P
 use Rattle.runner.specs.Domain.{Number}
-use Rattle.runner.specs.Rows.{cell_word, ValueIs, EnvironmentIs, empty_i, cell_i, beyond_i}
-use Rattle.runner.specs.Stores.{bound_at}
+use Rattle.runner.specs.Rows.{cell_word, bound_at, ValueIs, EnvironmentIs, empty_i, cell_i, beyond_i}
 use Rattle.runner.specs.Kept.{kept_same, value-kept}
 use Rattle.runner.specs.Found.{Bound, FoundIs}
 
@@ -24,7 +23,7 @@ module _ (ws t : List ℕ) (n : ℕ) (word : n < 4294967296) where
   pub record Cell (c : ℕ) (env : Environment Number) : Type 0 where
     pub value : Value Number
     pub rest : Environment Number
-    pub is : ValueIs ws t c (cell_word t c 1) (cell_word t c 2) (cell_word t c 3) (cell_word t c 4) value
+    pub is : ValueIs ws t c (bound_at t c) value
     pub link : cell_word t c 5 ≤ c
     pub linked : EnvironmentIs ws t (cell_word t c 5) rest
     pub own : cell_word t c 0 ≡ n → find n env ≡ some value
@@ -64,11 +63,11 @@ seeking-start t n e = record { lower = omega arith; goes = λ ws env i. (env, i,
 
 module _ (t : List ℕ) (n from now : ℕ) (s : Seeking t n from now) (word : n < 4294967296) where
   -- no cell is left
-  pub seeking-end : now ≡ 0 → (ws : List ℕ) (env : Environment Number) → EnvironmentIs ws t from env → FoundIs ws t from (find n env) F.None
+  pub seeking-end : now ≡ 0 → (ws : List ℕ) (env : Environment Number) → EnvironmentIs ws t from env → FoundIs ws t from (find n env) P.None
   seeking-end z ws env i =
       let g = s.goes ws env i in
       let e : find n env ≡ none = g.2 ∙ find_none ws t n word (subst (λ (r : ℕ). EnvironmentIs ws t r g.0) z g.1) in
-      subst (λ (o : Option (Value Number)). FoundIs ws t from o F.None) (sym e) tt
+      subst (λ (o : Option (Value Number)). FoundIs ws t from o P.None) (sym e) tt
 
   -- the cell at hand, its number read at its start
   module _ (some_left : 0 < now) where
@@ -80,13 +79,13 @@ module _ (t : List ℕ) (n from now : ℕ) (s : Seeking t n from now) (word : n 
 
     -- the variable's own
     pub seeking-own : get_or t (16 * (now - 1) + 10) 0 ≡ n → (ws : List ℕ) (env : Environment Number) → EnvironmentIs ws t from env
-        → FoundIs ws t from (find n env) (F.Value (bound_at t (now - 1)))
+        → FoundIs ws t from (find n env) (P.Some (bound_at t (now - 1)))
     seeking-own o ws env i =
         let g = s.goes ws env i in
         let x = find-cell ws t n word (now - 1) at g.1 in
         let f : find n env ≡ some x.value = g.2 ∙ x.own (start ∙ o) in
         let l : now - 1 ≤ from = omega (arith, s.lower) in
-        subst (λ (o : Option (Value Number)). FoundIs ws t from o (F.Value (bound_at t (now - 1)))) (sym f) (value-kept (kept_same 0 0 (now - 1) t) (omega arith) l x.is)
+        subst (λ (o : Option (Value Number)). FoundIs ws t from o (P.Some (bound_at t (now - 1)))) (sym f) (value-kept (kept_same 0 0 (now - 1) t) (omega arith) l x.is)
 
     -- another's
     pub seeking-other : (get_or t (16 * (now - 1) + 10) 0 ≡ n → ⊥) → Bound t from → (cell_word t (now - 1) 5 < now) × Seeking t n from (cell_word t (now - 1) 5)

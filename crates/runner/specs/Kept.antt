@@ -68,15 +68,15 @@ module _ (values frames cells : ℕ) (t : List ℕ) (row : ℕ) where
 
 module _ {ws t t' : List ℕ} {values frames cells : ℕ} (g : Kept values frames cells t t') where
   mutual
-    pub value-kept : {top top' k a b e : ℕ} {v : Value Number} → top ≤ cells → top ≤ top' → ValueIs ws t top k a b e v → ValueIs ws t' top' k a b e v
-    value-kept h m (number_i k v) = number_i k v
-    value-kept h m (boolean_i k v) = boolean_i k v
-    value-kept h m (datum_i k v) = datum_i k v
-    value-kept {top} {top'} {e = e} h m (closure_i first names body env k v x l q) =
+    pub value-kept : {top top' : ℕ} {u : R.Value} {v : Value Number} → top ≤ cells → top ≤ top' → ValueIs ws t top u v → ValueIs ws t' top' u v
+    value-kept h m (number_i w k v) = number_i w k v
+    value-kept h m (boolean_i b k v) = boolean_i b k v
+    value-kept h m (datum_i at k v) = datum_i at k v
+    value-kept {top} {top'} h m (closure_i at e first names body env k v x l q) =
         let l' : e ≤ top' = omega arith in
         let n : e ≤ cells = omega arith in
-        closure_i first names body env k v x l' (environment-kept n q)
-    value-kept h m (operation_i k v x) = operation_i k v x
+        closure_i at e first names body env k v x l' (environment-kept n q)
+    value-kept h m (operation_i p k v x) = operation_i p k v x
 
     pub environment-kept : {e : ℕ} {env : Environment Number} → e ≤ cells → EnvironmentIs ws t e env → EnvironmentIs ws t' e env
     environment-kept h (empty_i r x) = empty_i r x

@@ -7,8 +7,7 @@ use Rattle.evaluation.proofs.Steps.{Waiting, resume}
 use Rattle.runner.specs.declared.state.Counts.{Counts}
 use Rattle.runner.specs.declared.state.Turn.{Turn}
 use Rattle.runner.specs.Domain.{Number, numbers}
-use Rattle.runner.specs.Rows.{ValueIn, WaitingIs, nothing_i, test_i, parts_i}
-use Rattle.runner.specs.Stores.{value_at}
+use Rattle.runner.specs.Rows.{value_at, ValueIn, WaitingIs, nothing_i, test_i, parts_i}
 use Rattle.runner.specs.Machine.{Coming, Valued, Stands, TurnIs, measure}
 
 -- the turn now stands for something, and for all that the first one stood for

@@ -1,5 +1,7 @@
 -- The machine's invariant: what a turn stands for, what falls at every turn, and what the functions of a turn ask and give.
-use Rattle.std.specs.Prelude.{◌≡◌, cond, List, [], ◌∷◌, ℕ, suc, ◌+◌, ◌-◌, ◌*◌, ◌≤◌, ◌<◌, ltb, length}
+use Rattle.std.specs.Prelude.{◌≡◌, cond, List, ◌∷◌, ℕ, ◌+◌, ◌-◌, ◌*◌, ◌≤◌, ◌<◌, ltb, length, Result, Ok, Err}
+use Rattle.words.specs.declared.ground.Ground.{Ground}
+use Rattle.words.specs.Code.Ground.{number_of}
 use Rattle.core_term.specs.Term.{Plain, Plains, count}
 use Rattle.core_term.specs.Words.{encode}
 use Rattle.core_term.specs.declared.nodes.Node.{Node}
@@ -8,12 +10,12 @@ use Rattle.evaluation.specs.Computation.{Out, done, refused, M, ◌>>=◌, ◌>>
 use Rattle.evaluation.specs.Evaluate.{Value, operation_v, Environment, find, holds, apply, evaluate_node}
 use Rattle.evaluation.proofs.Steps.{Waiting, parts_w, value, resume, begins}
 use Rattle.runner.specs.declared.rows.Value as R
-use Rattle.runner.specs.declared.rows.Frame.{Frame}
+use Rattle.runner.specs.declared.rows.Branches.{Branches}
+use Rattle.runner.specs.declared.rows.Parts.{Parts}
 use Rattle.runner.specs.declared.state.Counts.{Counts}
 use Rattle.runner.specs.declared.state.Turn.{Turn}
-use Rattle.runner.specs.declared.state.Turn.TheVariants.{Begins, Comes, Stops}
+use Rattle.runner.specs.declared.state.Turn.TheVariants.{Begins, Comes}
 use Rattle.runner.specs.declared.machine.End.{End}
-use Rattle.runner.specs.declared.machine.End.TheVariants as E
 use Rattle.runner.specs.Domain.{Number, numbers}
 use Rattle.runner.specs.Here.{Here, First}
 use Rattle.runner.specs.NodeIs.{NodeIs}
@@ -58,18 +60,22 @@ module _ (ws : List ℕ) (budget : ℕ) (whole : Out (Value Number)) where
   abbrev pub TurnIs : List ℕ → Turn → Type 0
   TurnIs t (Begins s at e) = Beginning t s at e
   TurnIs t (Comes s) = Coming t s
-  TurnIs t (Stops g) = Stopped g
+
+  -- the turn after, or the ground that was met
+  abbrev pub StepIs : List ℕ → Result Turn Ground → Type 0
+  StepIs t (Ok turn) = TurnIs t turn
+  StepIs t (Err g) = Stopped (number_of g)
 
   -- how a run ends
   pub record Valued (t : List ℕ) (v : R.Value) (units : ℕ) : Type 0 where
     pub value : Value Number
     pub cells : ℕ
-    pub is : ValueIs ws t cells v.kind v.a v.b v.environment value
+    pub is : ValueIs ws t cells v value
     pub goes : whole ≡ done value units
 
-  abbrev pub EndIs : List ℕ → End → Type 0
-  EndIs t (E.Value v u) = Valued t v u
-  EndIs t (E.Ground g) = Stopped g
+  abbrev pub EndIs : List ℕ → Result End Ground → Type 0
+  EndIs t (Ok end) = Valued t end.value end.units
+  EndIs t (Err g) = Stopped (number_of g)
 
   -- ---- between turns, a row more being free
 
@@ -84,7 +90,7 @@ module _ (ws : List ℕ) (budget : ℕ) (whole : Out (Value Number)) where
   -- a value is there, not yet in its row
   pub record Giving (t : List ℕ) (s : Counts) (v : R.Value) : Type 0 where
     pub value : Value Number
-    pub is : ValueIs ws t s.cells v.kind v.a v.b v.environment value
+    pub is : ValueIs ws t s.cells v value
     pub leaving : Leaving t s (give value)
 
   -- a variable is looked up
@@ -107,7 +113,7 @@ module _ (ws : List ℕ) (budget : ℕ) (whole : Out (Value Number)) where
   -- ---- a value has come to a frame
 
   -- the test of an if has its value
-  pub record Testing (t : List ℕ) (s : Counts) (f : Frame) : Type 0 where
+  pub record Testing (t : List ℕ) (s : Counts) (f : Branches) : Type 0 where
     pub room : Room budget t s
     pub some : 1 ≤ s.values
     pub framed : 1 ≤ s.frames
@@ -125,7 +131,7 @@ module _ (ws : List ℕ) (budget : ℕ) (whole : Out (Value Number)) where
     pub goes : whole ≡ begins numbers budget (cond (holds value) (code_at f.next yes) (code_at (f.next + length (encode yes)) no)) environment waiting s.units
 
   -- a part of an application has its value, and another is next
-  pub record Parting (t : List ℕ) (s : Counts) (f : Frame) : Type 0 where
+  pub record Parting (t : List ℕ) (s : Counts) (f : Parts) : Type 0 where
     pub room : Room budget t s
     pub framed : 1 ≤ s.frames
     pub first : Plain
@@ -174,7 +180,11 @@ give_fuel s budget = 2 * (budget - s.units) + s.frames + 3
 abbrev pub measure : ℕ → Turn → ℕ
 measure budget (Begins s at e) = begin_fuel s budget
 measure budget (Comes s) = come_fuel s budget
-measure budget (Stops g) = 0
+
+-- a ground leaves nothing
+abbrev pub left_of : ℕ → Result Turn Ground → ℕ
+left_of budget (Ok turn) = measure budget turn
+left_of budget (Err g) = 0
 
 -- ---- contracts: whatever whole the machine stood for before, the turn after stands for it, and something falls
 
@@ -182,26 +192,26 @@ measure budget (Stops g) = 0
 abbrev pub Some : ((budget : ℕ) (whole : Out (Value Number)) → Type 0) → Type 0
 Some P = (budget : ℕ) × (whole : Out (Value Number)) × P budget whole
 
-abbrev pub Turned : (ws : List ℕ) (budget : ℕ) (whole : Out (Value Number)) (fuel : ℕ) → List ℕ → Turn → Type 0
-Turned ws budget whole fuel t turn = TurnIs ws budget whole t turn × (measure budget turn < fuel)
+abbrev pub Turned : (ws : List ℕ) (budget : ℕ) (whole : Out (Value Number)) (fuel : ℕ) → List ℕ → Result Turn Ground → Type 0
+Turned ws budget whole fuel t turn = StepIs ws budget whole t turn × (left_of budget turn < fuel)
 
-abbrev pub Turns : (ws : List ℕ) → ((budget : ℕ) (whole : Out (Value Number)) → Type 0) → (fuel : (budget : ℕ) → ℕ) → List ℕ → Turn → Type 0
+abbrev pub Turns : (ws : List ℕ) → ((budget : ℕ) (whole : Out (Value Number)) → Type 0) → (fuel : (budget : ℕ) → ℕ) → List ℕ → Result Turn Ground → Type 0
 Turns ws P fuel t turn = (budget : ℕ) (whole : Out (Value Number)) → P budget whole → Turned ws budget whole (fuel budget) t turn
 
 -- the same where the words are not given
 abbrev pub Anywhere : ((ws : List ℕ) (budget : ℕ) (whole : Out (Value Number)) → Type 0) → Type 0
 Anywhere P = (ws : List ℕ) × Some (P ws)
 
-abbrev pub Everywhere : ((ws : List ℕ) (budget : ℕ) (whole : Out (Value Number)) → Type 0) → (fuel : (budget : ℕ) → ℕ) → List ℕ → Turn → Type 0
+abbrev pub Everywhere : ((ws : List ℕ) (budget : ℕ) (whole : Out (Value Number)) → Type 0) → (fuel : (budget : ℕ) → ℕ) → List ℕ → Result Turn Ground → Type 0
 Everywhere P fuel t turn = (ws : List ℕ) → Turns ws (P ws) fuel t turn
 
 -- the same where the budget is given
 abbrev pub Stands : (Out (Value Number) → Type 0) → Type 0
 Stands P = (whole : Out (Value Number)) × P whole
 
-abbrev pub Turning : (ws : List ℕ) (budget : ℕ) → (Out (Value Number) → Type 0) → (fuel : ℕ) → List ℕ → Turn → Type 0
+abbrev pub Turning : (ws : List ℕ) (budget : ℕ) → (Out (Value Number) → Type 0) → (fuel : ℕ) → List ℕ → Result Turn Ground → Type 0
 Turning ws budget P fuel t turn = (whole : Out (Value Number)) → P whole → Turned ws budget whole fuel t turn
 
 -- of the whole loop
-abbrev pub Ends : (ws : List ℕ) (budget : ℕ) → (Out (Value Number) → Type 0) → List ℕ → End → Type 0
+abbrev pub Ends : (ws : List ℕ) (budget : ℕ) → (Out (Value Number) → Type 0) → List ℕ → Result End Ground → Type 0
 Ends ws budget P t end = (whole : Out (Value Number)) → P whole → EndIs ws budget whole t end

@@ -18,7 +18,7 @@ use Rattle.core_term.specs.PartsLaws.{encode-two}
 use Rattle.core_term.specs.Code.Opened.{node_in}
 use Rattle.core_term.specs.Code.Walk.{rest}
 use Rattle.core_term.specs.declared.nodes.Node.{Node}
-use Rattle.core_term.specs.declared.nodes.Node.TheVariants.{Variable, Operation, Integer, Boolean, Decimal, Name, List as Several, If, Lambda, Application, None}
+use Rattle.core_term.specs.declared.nodes.Node.TheVariants.{Variable, Operation, Integer, Boolean, Decimal, Name, List as Several, If, Lambda, Application}
 use Rattle.runner.specs.Here.{Here, here-node, Branches, Parts, here-if, here-body, here-application}
 
 -- ---- terms of a node that has parts
@@ -63,7 +63,6 @@ module _ (ws : List ℕ) (at : ℕ) (t : Plain) where
   NodeIs If = IsIf ws at t
   NodeIs (Lambda first formals) = IsLambda ws at first formals t
   NodeIs (Application left) = IsApplication ws at left t
-  NodeIs None = ⊥
 
 -- ---- from the place
 
@@ -118,7 +117,6 @@ module _ {ws : List ℕ} {at : ℕ} (t : Plain) (h : Here ws at t) where
       let d : drop (3 + formals) (rest at ws) ≡ encode_all (parts_of t) ++ h.begins.rest = cc in
       subst (λ (k : ℕ). IsLambda ws at first k t) (names-there first formals (rest at ws) i d) i
   by-node (Application left) e = same-node _ _ _ e
-  by-node None e = let z : ◌≡◌ {A = ℕ} 0 1 = cc in absurd (omega arith)
 
 -- a node that was opened at a place tells the term there
 pub node-is : {ws : List ℕ} {at : ℕ} (t : Plain) (n : Node) → Here ws at t → node_in (rest at ws) n ≡ node_at (rest at ws) → NodeIs ws at t n

@@ -1,27 +1,56 @@
--- Integers as differences of natural numbers: a number is told as 2^31 more, and a sum or difference as 2^32 more, so that what the
--- code does with them is done with natural numbers.
-use Rattle.std.specs.Prelude.{◌≡◌, refl, ℕ, zero, suc, ◌+◌, ◌-◌, ◌≤◌, ◌<◌, eqb, leb, ltb, ℤ, pos, negsuc}
+-- Sums and differences that 32 bits hold, and those that they do not; the sameness of numbers.
+use Rattle.std.specs.Prelude.{◌≡◌, refl, nat_eq, true, eqb, leb, ltb, ℕ, ℤ, pos, negsuc, ◌+ℤ◌, ◌-ℤ◌, Option, Some, None, SomeIff, FitsSigned, Result, Ok, Err, MatchResult}
+use Rattle.std.specs.Option.{ok_or}
 use Rattle.std.proofs.Math.Path.{sym, ap, ap₂}
-use Rattle.std.proofs.Common.{subst, ◌∙◌, arith, to_z, ltb-true, ltb-false, leb-true, leb-false, eqb-true, lt-ltb, le-ltb, le-leb, eq-eqb}
-use Rattle.std.proofs.Math.Bool.{not, ◌&&◌}
-use Rattle.std.proofs.Math.IntN.{neg_ℤ, sub_ℕ, ◌+ℤ◌}
-use Rattle.std.specs.Int.Signed.{lt_z, le_z}
+use Rattle.std.proofs.Common.{◌∙◌, arith, subst, true≢false, Fits, to_z, of_z, ltb-true, leb-true, eqb-true, lt-ltb, le-leb, eq-eqb}
+use Rattle.std.proofs.Math.Bool.{◌&&◌}
+use Rattle.std.proofs.lemmas.Int.{to_z-of_z}
+use Rattle.std.proofs.Math.Facts.{of_z-to_z, to_z_inj}
+use Rattle.std.specs.Int.Signed.{mag, lt_z}
 use Rattle.std.specs.Int.{w32}
-use Rattle.std.proofs.lemmas.Bool.{lt-leb}
 use Rattle.words.specs.ListLaws.{either}
 use Rattle.words.specs.TestLaws.{and_left, and_right, and_both, iff-eq}
+use Rattle.words.specs.declared.ground.Ground.{Ground}
+use Rattle.words.specs.declared.ground.Ground.TheVariants.{WrongKind}
 use Rattle.evaluation.specs.Computation.{answer, ground_number, map_answer}
 use Rattle.evaluation.specs.Numbers.{in_range, within32, equal_z, integers}
 use Rattle.evaluation.specs.Evaluate.{number_v, boolean_v, operations, operate}
-use Rattle.runner.specs.Made.{number_told}
+use Rattle.runner.specs.Rows.{number_i}
+use Rattle.runner.specs.Made.{MadeIs, made_by}
+use Rattle.runner.specs.declared.rows.Value.TheVariants as RV
 
--- ---- tests
+-- ---- sums and differences
 
-same-leb : (a b c d : ℕ) → (a ≤ b → c ≤ d) → (c ≤ d → a ≤ b) → leb a b ≡ leb c d
-same-leb a b c d f g = iff-eq _ _ (λ e. le-leb c d (f (leb-true a b e))) (λ e. le-leb a b (g (leb-true c d e)))
+module _ (z : ℤ) where
+  -- one that fits
+  within-some : FitsSigned w32 z → map_answer number_v (within32 z) ≡ answer (number_v z)
+  unfolding map_answer within32 in_range
+  within-some f = rw (lt-ltb (mag z) 2147483648 f.sfits)
 
-less-not : (a b : ℕ) → ltb a b ≡ not (leb b a)
-less-not a b = either (leb b a) (λ e. le-ltb a b (leb-true b a e) ∙ ap not (sym e)) (λ e. lt-ltb a b (leb-false b a e) ∙ ap not (sym e))
+  -- one that does not is ground 25
+  within-none : ¬ FitsSigned w32 z → map_answer number_v (within32 z) ≡ ground_number 25
+  unfolding map_answer within32 in_range
+  within-none n = either (ltb (mag z) 2147483648) (λ e. absurd (n (record { sfits = ltb-true (mag z) 2147483648 e }))) (λ e. rw e)
+
+  -- what is made of it, by its word
+  abbrev Tells : Result ℤ Ground → Type 0
+  Tells r = MatchResult r (λ s. MadeIs (map_answer number_v (within32 z)) (Ok (RV.Number (of_z w32 (to_z w32 (of_z w32 s)))))) (λ g. MadeIs (map_answer number_v (within32 z)) (Err g))
+
+  tells : (o : Option ℤ) → SomeIff o (FitsSigned w32 z) z → Tells (ok_or o WrongKind)
+  tells None n = made_by (Err WrongKind) (sym (within-none n)) refl
+  tells (Some s) (f, e) =
+      let back = to_z-of_z w32 z f in
+      let word = λ (x : ℤ). to_z w32 (of_z w32 x) in
+      made_by _ (sym (within-some f)) (λ ws t top. number_i _ refl (ap number_v (sym (ap word (ap word e ∙ back) ∙ back))))
+
+  module _ (o : Option ℤ) (h : SomeIff o (FitsSigned w32 z) z) (r : Result ℤ Ground) (i : r ≡ ok_or o WrongKind) where
+    pub number-some : (s : ℤ) → r ≡ Ok s → MadeIs (map_answer number_v (within32 z)) (Ok (RV.Number (of_z w32 (to_z w32 (of_z w32 s)))))
+    number-some s e = subst Tells (sym i ∙ e) (tells o h)
+
+    pub number-none : (g : Ground) → r ≡ Err g → MadeIs (map_answer number_v (within32 z)) (Err g)
+    number-none g e = subst Tells (sym i ∙ e) (tells o h)
+
+-- ---- sameness
 
 both_equal : (a b : ℕ) → (leb a b && leb b a) ≡ eqb a b
 both_equal a b =
@@ -29,128 +58,50 @@ both_equal a b =
     (λ e. eq-eqb a b (omega (arith, leb-true a b (and_left (leb a b) _ e), leb-true b a (and_right (leb a b) _ e))))
     (λ e. let q = eqb-true a b e in and_both _ _ (le-leb a b (omega arith)) (le-leb b a (omega arith)))
 
--- ---- differences
+equal-is : (a b : ℤ) → equal_z a b ≡ true → a ≡ b
+unfolding equal_z
+equal-is (pos a) (pos b) e = ap pos (eqb-true a b (sym (both_equal a b) ∙ e))
+equal-is (pos a) (negsuc b) e = absurd (true≢false (sym e))
+equal-is (negsuc a) (pos b) e = absurd (true≢false (sym e))
+equal-is (negsuc a) (negsuc b) e = ap negsuc (sym (eqb-true b a (sym (both_equal b a) ∙ e)))
 
-sub-less : (a b : ℕ) → a < b → sub_ℕ a b ≡ negsuc (b - suc a)
-sub-less a b h = rw (lt-ltb a b h)
+equal-same : (a : ℤ) → equal_z a a ≡ true
+unfolding equal_z
+equal-same (pos a) = both_equal a a ∙ eq-eqb a a refl
+equal-same (negsuc a) = both_equal a a ∙ eq-eqb a a refl
 
-sub_more : (a b : ℕ) → b ≤ a → sub_ℕ a b ≡ pos (a - b)
-sub_more a b h = rw (le-ltb a b h)
+-- ---- operations, on the numbers a and b of two words
 
--- what holds for both signs
-by_sign : (P : ℤ → Type 0) (a b : ℕ) → (a < b → P (negsuc (b - suc a))) → (b ≤ a → P (pos (a - b))) → P (sub_ℕ a b)
-by_sign P a b f g =
-    either (ltb a b)
-    (λ e. let l = ltb-true a b e in subst P (sym (sub-less a b l)) (f l))
-    (λ e. let l = ltb-false a b e in subst P (sym (sub_more a b l)) (g l))
+-- a number read back from its word
+abbrev pub word : ℤ → ℤ
+word x = to_z w32 (of_z w32 x)
 
--- the same difference of other numbers
-pub sub_same : (a b c d : ℕ) → a + d ≡ c + b → sub_ℕ a b ≡ sub_ℕ c d
-sub_same a b c d e =
-    by_sign (λ x. x ≡ sub_ℕ c d) a b
-    (λ l. let n : b - suc a ≡ d - suc c = omega arith in ap negsuc n ∙ sym (sub-less c d (omega arith)))
-    (λ l. let n : a - b ≡ c - d = omega arith in ap pos n ∙ sym (sub_more c d (omega arith)))
+module _ (m n : ℕ) (a b : ℤ) (i : a ≡ to_z w32 m) (j : b ≡ to_z w32 n) (f : Fits w32 m) (g : Fits w32 n) where
+  first : word a ≡ to_z w32 m
+  first = ap word i ∙ ap (to_z w32) (of_z-to_z f)
 
-add-sub : (a b c d : ℕ) → sub_ℕ a b +ℤ sub_ℕ c d ≡ sub_ℕ (a + c) (b + d)
-add-sub a b c d =
-    by_sign (λ x. x +ℤ sub_ℕ c d ≡ sub_ℕ (a + c) (b + d)) a b
-    (λ l.
-    by_sign (λ y. negsuc (b - suc a) +ℤ y ≡ sub_ℕ (a + c) (b + d)) c d
-    (λ m. let n : suc (b - suc a + (d - suc c)) ≡ b + d - suc (a + c) = omega arith in ap negsuc n ∙ sym (sub-less (a + c) (b + d) (omega arith)))
-    (λ m. sub_same (c - d) (suc (b - suc a)) (a + c) (b + d) (omega arith)))
-    (λ l.
-    by_sign (λ y. pos (a - b) +ℤ y ≡ sub_ℕ (a + c) (b + d)) c d
-    (λ m. sub_same (a - b) (suc (d - suc c)) (a + c) (b + d) (omega arith))
-    (λ m. let n : a - b + (c - d) ≡ a + c - (b + d) = omega arith in ap pos n ∙ sym (sub_more (a + c) (b + d) (omega arith))))
+  second : word b ≡ to_z w32 n
+  second = ap word j ∙ ap (to_z w32) (of_z-to_z g)
 
-neg-pos : (n : ℕ) → neg_ℤ (pos n) ≡ sub_ℕ 0 n
-neg-pos zero = refl
-neg-pos (suc n) = let e : n ≡ suc n - 1 = omega arith in ap negsuc e ∙ sym (sub-less 0 (suc n) (omega arith))
+  pub sum-told : map_answer number_v (within32 (word a +ℤ word b)) ≡ operate integers 0 (to_z w32 m) (to_z w32 n)
+  unfolding operate operations integers
+  sum-told = ap (λ z. map_answer number_v (within32 z)) (ap₂ ◌+ℤ◌ first second)
 
-neg-sub : (a b : ℕ) → neg_ℤ (sub_ℕ a b) ≡ sub_ℕ b a
-neg-sub a b =
-    by_sign (λ x. neg_ℤ x ≡ sub_ℕ b a) a b
-    (λ l. let n : suc (b - suc a) ≡ b - a = omega arith in ap pos n ∙ sym (sub_more b a (omega arith)))
-    (λ l. neg-pos (a - b) ∙ sub_same 0 (a - b) b a (omega arith))
+  pub difference-told : map_answer number_v (within32 (word a -ℤ word b)) ≡ operate integers 1 (to_z w32 m) (to_z w32 n)
+  unfolding operate operations integers
+  difference-told = ap (λ z. map_answer number_v (within32 z)) (ap₂ ◌-ℤ◌ first second)
 
-le-sub : (a b h : ℕ) → le_z (sub_ℕ a h) (sub_ℕ b h) ≡ leb a b
-le-sub a b h =
-    by_sign (λ x. le_z x (sub_ℕ b h) ≡ leb a b) a h
-    (λ l.
-    by_sign (λ y. le_z (negsuc (h - suc a)) y ≡ leb a b) b h
-    (λ m. same-leb (h - suc b) (h - suc a) a b (λ k. omega arith) (λ k. omega arith))
-    (λ m. sym (le-leb a b (omega arith))))
-    (λ l.
-    by_sign (λ y. le_z (pos (a - h)) y ≡ leb a b) b h
-    (λ m. sym (lt-leb a b (omega arith)))
-    (λ m. same-leb (a - h) (b - h) a b (λ k. omega arith) (λ k. omega arith)))
-
-less-is : (x y : ℤ) → lt_z x y ≡ not (le_z y x)
-less-is (pos a) (pos b) = less-not a b
-less-is (pos a) (negsuc b) = refl
-less-is (negsuc a) (pos b) = refl
-less-is (negsuc a) (negsuc b) = less-not b a
-
--- ---- words
-
--- a word's number is what is told less 2^31
-pub raised-low : (w : ℕ) → w < 2147483648 → sub_ℕ (w + 2147483648) 2147483648 ≡ to_z w32 w
-raised-low w h = let e : w + 2147483648 - 2147483648 ≡ w = omega arith in sub_more (w + 2147483648) 2147483648 (omega arith) ∙ rw (lt-ltb w 2147483648 h, e)
-
-pub raised-high : (w : ℕ) → 2147483648 ≤ w → w < 4294967296 → sub_ℕ (w - 2147483648) 2147483648 ≡ to_z w32 w
-raised-high w h k =
-    let e : 2147483648 - suc (w - 2147483648) ≡ 4294967296 - suc w = omega arith in
-    sub-less (w - 2147483648) 2147483648 (omega arith) ∙ rw (le-ltb w 2147483648 h, e)
-
-pub lowered-low : (n : ℕ) → n < 2147483648 → to_z w32 (n + 2147483648) ≡ sub_ℕ n 2147483648
-lowered-low n h =
-    let e : n + 2147483648 - 2147483648 ≡ n = omega arith in
-    sym (raised-high (n + 2147483648) (omega arith) (omega arith)) ∙ ap (λ (m : ℕ). sub_ℕ m 2147483648) e
-
-pub lowered-high : (n : ℕ) → 2147483648 ≤ n → n < 4294967296 → to_z w32 (n - 2147483648) ≡ sub_ℕ n 2147483648
-lowered-high n h k =
-    let e : n - 2147483648 + 2147483648 ≡ n = omega arith in
-    sym (raised-low (n - 2147483648) (omega arith)) ∙ ap (λ (m : ℕ). sub_ℕ m 2147483648) e
-
--- ---- a number that is told as 2^32 more: 25 where it leaves 32 bits
-
-pub number-below : (n : ℕ) → n < 2147483648 → number_told n ≡ ground_number 25
-unfolding number_told map_answer within32 in_range
-number-below n h = rw (sub-less n 4294967296 (omega arith), le-ltb (4294967296 - suc n) 2147483648 (omega arith))
-
-pub number-above : (n : ℕ) → 6442450944 ≤ n → number_told n ≡ ground_number 25
-unfolding number_told map_answer within32 in_range
-number-above n h = rw (sub_more n 4294967296 (omega arith), le-ltb (n - 4294967296) 2147483648 (omega arith))
-
-pub number-within : (n : ℕ) → 2147483648 ≤ n → n < 6442450944 → number_told n ≡ answer (number_v (sub_ℕ (n - 2147483648) 2147483648))
-unfolding number_told map_answer within32 in_range
-number-within n h k =
-    ap (map_answer number_v)
-    (by_sign (λ x. within32 x ≡ answer x) n 4294967296
-    (λ l. rw (lt-ltb (4294967296 - suc n) 2147483648 (omega arith)))
-    (λ l. rw (lt-ltb (n - 4294967296) 2147483648 (omega arith))))
-    ∙ ap (λ z. answer (number_v z)) (sub_same n 4294967296 (n - 2147483648) 2147483648 (omega arith))
-
--- ---- operations
-
-module _ (a b : ℕ) (x y : ℤ) (i : sub_ℕ a 2147483648 ≡ x) (j : sub_ℕ b 2147483648 ≡ y) where
-  pub sum_told : number_told (a + b) ≡ operate integers 0 x y
-  unfolding number_told operate operations integers
-  sum_told = ap (λ z. map_answer number_v (within32 z)) (sym (add-sub a 2147483648 b 2147483648) ∙ ap₂ ◌+ℤ◌ i j)
-
-  pub difference-told : b < 4294967296 → number_told (a + 4294967296 - b) ≡ operate integers 1 x y
-  unfolding number_told operate operations integers
-  difference-told h =
-      ap (λ z. map_answer number_v (within32 z))
-      (sub_same (a + 4294967296 - b) 4294967296 (a + 2147483648) (2147483648 + b) (omega arith)
-      ∙ sym (add-sub a 2147483648 2147483648 b) ∙ ap₂ ◌+ℤ◌ i (sym (neg-sub b 2147483648) ∙ ap neg_ℤ j))
-
-  pub less-told : answer (boolean_v (ltb a b)) ≡ operate integers 2 x y
+  pub less-told : answer (boolean_v (lt_z (word a) (word b))) ≡ operate integers 2 (to_z w32 m) (to_z w32 n)
   unfolding operate operations integers map_answer
-  less-told = ap (λ z. answer (boolean_v z)) (less-not a b ∙ ap not (sym (le-sub b a 2147483648)) ∙ sym (less-is (sub_ℕ a 2147483648) (sub_ℕ b 2147483648)) ∙ ap₂ lt_z i j)
+  less-told = ap (λ z. answer (boolean_v z)) (ap₂ lt_z first second)
 
-  pub equal-told : answer (boolean_v (eqb a b)) ≡ operate integers 3 x y
-  unfolding operate operations integers map_answer equal_z
-  equal-told =
-      ap (λ z. answer (boolean_v z))
-      (sym (both_equal a b) ∙ sym (ap₂ ◌&&◌ (le-sub a b 2147483648) (le-sub b a 2147483648)) ∙ ap₂ equal_z i j)
+  same : nat_eq (of_z w32 a) (of_z w32 b) ≡ equal_z (to_z w32 m) (to_z w32 n)
+  same =
+      ap₂ nat_eq (ap (of_z w32) i ∙ of_z-to_z f) (ap (of_z w32) j ∙ of_z-to_z g)
+      ∙ iff-eq _ _
+      (λ e. subst (λ k. equal_z (to_z w32 m) (to_z w32 k) ≡ true) (eqb-true m n e) (equal-same (to_z w32 m)))
+      (λ e. eq-eqb m n (to_z_inj f g (equal-is _ _ e)))
+
+  pub equal-told : answer (boolean_v (nat_eq (of_z w32 a) (of_z w32 b))) ≡ operate integers 3 (to_z w32 m) (to_z w32 n)
+  unfolding operate operations integers map_answer
+  equal-told = ap (λ z. answer (boolean_v z)) same

@@ -1,63 +1,26 @@
 -- What a row means that was just written: a value, a cell, a frame that waits.
-use Rattle.std.specs.Prelude.{◌≡◌, refl, List, ◌∷◌, ℕ, suc, ◌+◌, ◌*◌, ◌≤◌, ◌<◌, length, get_or}
-use Rattle.std.proofs.Common.{sym, ap, ap₂, ◌∙◌, arith}
-use Rattle.words.specs.Code.Packed.{packed}
-use Rattle.core_term.specs.Term.{Plain, Plains, count}
-use Rattle.core_term.specs.Words.{encode}
-use Rattle.evaluation.specs.Code.{code_at, codes_at}
+use Rattle.std.specs.Prelude.{◌≡◌, refl, List, ℕ, suc, ◌+◌, ◌*◌, ◌≤◌, ◌<◌, length, get_or}
+use Rattle.std.proofs.Common.{sym, ap, arith}
 use Rattle.evaluation.specs.Evaluate.{Value, Environment, bound_e}
-use Rattle.evaluation.proofs.Steps.{Waiting, test_w, parts_w}
 use Rattle.runner.specs.declared.rows.Value as R
-use Rattle.runner.specs.declared.rows.Frame.{Frame}
-use Rattle.runner.specs.Domain.{Number, numbers}
-use Rattle.runner.specs.Here.{Here, HereAll}
-use Rattle.runner.specs.Rows.{value_word, frame_word, cell_word, ValueIs, EnvironmentIs, cell_i, ValueIn, ValuesIn, WaitingIs, test_i, parts_i}
-use Rattle.runner.specs.Stores.{value_set, frame_set, cell_set, value_words, frame_words, cell_words, value-own, frame-own, cell-own, packed-parts}
-use Rattle.runner.specs.Kept.{Kept, kept-value, kept_frame, kept-cell, value-kept, environment-kept, values-kept, waiting_kept}
-
--- a frame's words, and the place that two of them are
-module _ (t : List ℕ) (row : ℕ) (room : 16 * (row + 1) ≤ length t) (f : Frame) where
-  word : (i : ℕ) → i < 6 → frame_word (frame_set t row f) row i ≡ get_or (frame_words f) i 0
-  word i l = frame-own t row i room f l
-
-  place : packed (frame_word (frame_set t row f) row 2) (frame_word (frame_set t row f) row 1) ≡ f.next
-  place = ap₂ packed (word 2 (omega arith)) (word 1 (omega arith)) ∙ packed-parts f.next
+use Rattle.runner.specs.Domain.{Number}
+use Rattle.runner.specs.Rows.{cell_word, ValueIs, EnvironmentIs, cell_i, ValueIn}
+use Rattle.runner.specs.Stores.{value_set, cell_set, cell_words, cell-own, value-back, bound-back}
+use Rattle.runner.specs.Kept.{Kept, kept-value, kept-cell, value-kept, environment-kept}
 
 module _ {ws t : List ℕ} (row : ℕ) (room : 16 * (row + 1) ≤ length t) where
-  pub value-put : {cells : ℕ} (v : R.Value) {x : Value Number} → ValueIs ws t cells v.kind v.a v.b v.environment x
+  pub value-put : {cells : ℕ} (v : R.Value) {x : Value Number} → ValueIs ws t cells v x
       → ValueIn ws (value_set t row v) cells row x
   value-put {cells} v x =
-      let f : (i : ℕ) → i < 4 → value_word (value_set t row v) row i ≡ get_or (value_words v) i 0 = λ i l. value-own t row i room v l in
       let g : Kept row 0 cells t (value_set t row v) = kept-value row 0 cells t row v (omega arith) in
-      record { is = rw (f 0 (omega arith), f 1 (omega arith), f 2 (omega arith), f 3 (omega arith)) (value-kept g (omega arith) (omega arith) x) }
+      record { is = rw (value-back t row room v) (value-kept g (omega arith) (omega arith) x) }
 
   -- a variable before those of an environment
   pub cell-put : (n : ℕ) (v : R.Value) (e : ℕ) {x : Value Number} {env : Environment Number} → e ≤ row
-      → ValueIs ws t row v.kind v.a v.b v.environment x → EnvironmentIs ws t e env → EnvironmentIs ws (cell_set t row n v e) (suc row) (bound_e n x env)
+      → ValueIs ws t row v x → EnvironmentIs ws t e env → EnvironmentIs ws (cell_set t row n v e) (suc row) (bound_e n x env)
   cell-put n v e {x} {env} h w q =
       let f : (i : ℕ) → i < 6 → cell_word (cell_set t row n v e) row i ≡ get_or (cell_words n v e) i 0 = λ i l. cell-own t row i room n v e l in
       let g : Kept 0 0 row t (cell_set t row n v e) = kept-cell 0 0 row t row n v e (omega arith) in
       cell_i row e x env refl (ap (λ (m : ℕ). bound_e m x env) (sym (f 0 (omega arith))))
-      (rw (f 1 (omega arith), f 2 (omega arith), f 3 (omega arith), f 4 (omega arith)) (value-kept g (omega arith) (omega arith) w))
+      (rw (bound-back t row room n v e) (value-kept g (omega arith) (omega arith) w))
       (f 5 (omega arith)) h (environment-kept g h q)
-
-  module _ {cells m : ℕ} (f : Frame) where
-    -- the test of an if, on top of what waits
-    pub test-put : (values : ℕ) {y z : Plain} {env : Environment Number} {k : List (Waiting numbers m)} → f.what ≡ 1
-        → Here ws f.next y → Here ws (f.next + length (encode y)) z → f.environment ≤ cells → EnvironmentIs ws t f.environment env → WaitingIs ws t cells m row values k
-        → WaitingIs ws (frame_set t row f) cells m (suc row) values (test_w (code_at f.next y) (code_at (f.next + length (encode y)) z) env ∷ k)
-    test-put values w x y h q k =
-        let g : Kept values row cells t (frame_set t row f) = kept_frame values row cells t row f (omega arith) in
-        let own = word t row room f in
-        test_i (own 0 (omega arith) ∙ w) (place t row room f) (own 5 (omega arith)) x y h (environment-kept g h q) (waiting_kept g (omega arith) (omega arith) (omega arith) k)
-
-    -- the parts of an application
-    pub parts-put : (values : ℕ) {ts : Plains} {vs : List (Value Number)} {env : Environment Number} {k : List (Waiting numbers m)} → f.what ≡ 2
-        → HereAll ws f.next ts → count ts ≡ f.left → ValuesIn ws t cells f.base vs → f.base + length vs ≡ values → f.environment ≤ cells
-        → EnvironmentIs ws t f.environment env → WaitingIs ws t cells m row f.base k
-        → WaitingIs ws (frame_set t row f) cells m (suc row) values (parts_w vs (codes_at f.next ts) env ∷ k)
-    parts-put values w x c vs n h q k =
-        let g : Kept values row cells t (frame_set t row f) = kept_frame values row cells t row f (omega arith) in
-        let own = word t row room f in
-        parts_i (own 0 (omega arith) ∙ w) (place t row room f) (own 3 (omega arith)) (own 4 (omega arith)) (own 5 (omega arith)) x c (values-kept g (omega arith) (omega arith) vs) n h
-        (environment-kept g h q) (waiting_kept g (omega arith) (omega arith) (omega arith) k)

@@ -1,6 +1,6 @@
 -- What the rows of the lent table mean: values, environments, and what waits for a value. A cell refers to lower cells only, so what it
 -- means depends on the cells below it alone, and a cell that is put on top changes no earlier meaning.
-use Rattle.std.specs.Prelude.{◌≡◌, List, [], ◌∷◌, ℕ, suc, ◌+◌, ◌*◌, ◌≤◌, ◌<◌, eqb, length, get_or}
+use Rattle.std.specs.Prelude.{◌≡◌, List, [], ◌∷◌, ℕ, zero, suc, ◌+◌, ◌*◌, ◌≤◌, ◌<◌, eqb, length, get_or, Bool}
 use Rattle.words.specs.Code.Packed.{packed}
 use Rattle.core_term.specs.Term.{lambda_c, Plain, Plains, count}
 use Rattle.core_term.specs.Words.{encode}
@@ -9,6 +9,8 @@ use Rattle.runner.specs.Domain.{Number, numbers, number_in}
 use Rattle.evaluation.specs.Evaluate.{Value, number_v, boolean_v, datum_v, closure_v, operation_v, Environment, empty_e, bound_e}
 use Rattle.evaluation.proofs.Steps.{Waiting, test_w, parts_w}
 use Rattle.runner.specs.Here.{Here, HereAll}
+use Rattle.runner.specs.declared.rows.Value as R
+use Rattle.runner.specs.declared.rows.Value.TheVariants as RV
 
 -- ---- words
 
@@ -21,25 +23,41 @@ frame_word t row i = get_or t (16 * row + 4 + i) 0
 abbrev pub cell_word : List ℕ → (row i : ℕ) → ℕ
 cell_word t row i = get_or t (16 * row + 10 + i) 0
 
+-- the value that four words are
+abbrev pub value_of : (kind a b e : ℕ) → R.Value
+value_of zero a b e = RV.Operation a
+value_of (suc zero) a b e = RV.Number a
+value_of (suc (suc zero)) a b e = RV.Boolean (eqb a 1)
+value_of (suc (suc (suc zero))) a b e = RV.Datum (packed b a)
+value_of (suc (suc (suc (suc zero)))) a b e = RV.Closure (packed b a) e
+value_of (suc (suc (suc (suc (suc k))))) a b e = RV.Operation a
+
+-- the value of a row, and that of a row's cell
+abbrev pub value_at : List ℕ → (row : ℕ) → R.Value
+value_at t row = value_of (value_word t row 0) (value_word t row 1) (value_word t row 2) (value_word t row 3)
+
+abbrev pub bound_at : List ℕ → (row : ℕ) → R.Value
+bound_at t row = value_of (cell_word t row 1) (cell_word t row 2) (cell_word t row 3) (cell_word t row 4)
+
 -- ---- values and environments
 
 module _ (ws t : List ℕ) where
   mutual
-    -- four words that are a value, whose environment has cells below `top` alone
-    pub data ValueIs : (top kind a b e : ℕ) → Value Number → Type 0 where
-      number_i : {top k a b e : ℕ} {v : Value Number} → k ≡ 1 → v ≡ number_v (number_in a b) → ValueIs top k a b e v
-      boolean_i : {top k a b e : ℕ} {v : Value Number} → k ≡ 2 → v ≡ boolean_v (eqb a 1) → ValueIs top k a b e v
-      datum_i : {top k a b e : ℕ} {v : Value Number} → k ≡ 3 → v ≡ datum_v (packed b a) → ValueIs top k a b e v
-      closure_i : {top k a b e : ℕ} {v : Value Number} (first : ℕ) (names : List ℕ) (body : Plain) (env : Environment Number)
-          → k ≡ 4 → v ≡ closure_v first (length names) (code_at (packed b a + (3 + length names)) body) env
-          → Here ws (packed b a) (lambda_c first names body) → e ≤ top → EnvironmentIs e env → ValueIs top k a b e v
-      operation_i : {top k a b e : ℕ} {v : Value Number} → k ≡ 5 → v ≡ operation_v a → a < 4 → ValueIs top k a b e v
+    -- what a value means, whose environment has cells below `top` alone
+    pub data ValueIs : (top : ℕ) → R.Value → Value Number → Type 0 where
+      number_i : {top : ℕ} {u : R.Value} {v : Value Number} (w : ℕ) → u ≡ RV.Number w → v ≡ number_v (number_in w 0) → ValueIs top u v
+      boolean_i : {top : ℕ} {u : R.Value} {v : Value Number} (b : Bool) → u ≡ RV.Boolean b → v ≡ boolean_v b → ValueIs top u v
+      datum_i : {top : ℕ} {u : R.Value} {v : Value Number} (at : ℕ) → u ≡ RV.Datum at → v ≡ datum_v at → ValueIs top u v
+      closure_i : {top : ℕ} {u : R.Value} {v : Value Number} (at e first : ℕ) (names : List ℕ) (body : Plain) (env : Environment Number)
+          → u ≡ RV.Closure at e → v ≡ closure_v first (length names) (code_at (at + (3 + length names)) body) env
+          → Here ws at (lambda_c first names body) → e ≤ top → EnvironmentIs e env → ValueIs top u v
+      operation_i : {top : ℕ} {u : R.Value} {v : Value Number} (p : ℕ) → u ≡ RV.Operation p → v ≡ operation_v p → p < 4 → ValueIs top u v
 
     -- 0 is no variable; suc c is the variable of cell c before those that it links to. A number that no word holds has no cell
     pub data EnvironmentIs : ℕ → Environment Number → Type 0 where
       empty_i : {r : ℕ} {env : Environment Number} → r ≡ 0 → env ≡ empty_e → EnvironmentIs r env
       cell_i : {r : ℕ} {env : Environment Number} (c link : ℕ) (v : Value Number) (rest : Environment Number) → r ≡ suc c → env ≡ bound_e (cell_word t c 0) v rest
-          → ValueIs c (cell_word t c 1) (cell_word t c 2) (cell_word t c 3) (cell_word t c 4) v → cell_word t c 5 ≡ link → link ≤ c → EnvironmentIs link rest → EnvironmentIs r env
+          → ValueIs c (bound_at t c) v → cell_word t c 5 ≡ link → link ≤ c → EnvironmentIs link rest → EnvironmentIs r env
       beyond_i : {r : ℕ} {env : Environment Number} (n : ℕ) (v : Value Number) (rest : Environment Number) → env ≡ bound_e n v rest → 4294967296 ≤ n → EnvironmentIs r rest → EnvironmentIs r env
 
 -- ---- stacks
@@ -47,7 +65,7 @@ module _ (ws t : List ℕ) where
 module _ (ws t : List ℕ) (cells : ℕ) where
   -- the value in a row
   pub record ValueIn (row : ℕ) (v : Value Number) : Type 0 where
-    pub is : ValueIs ws t cells (value_word t row 0) (value_word t row 1) (value_word t row 2) (value_word t row 3) v
+    pub is : ValueIs ws t cells (value_at t row) v
 
   -- values one above the other, from a row on
   pub data ValuesIn : ℕ → List (Value Number) → Type 0 where

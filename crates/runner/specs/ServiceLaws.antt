@@ -1,5 +1,7 @@
 -- Laws of the service: what its tests leave, where the evaluation starts, and what its end says of the call.
-use Rattle.std.specs.Prelude.{◌≡◌, List, [], ◌∷◌, ℕ, zero, suc, ◌+◌, ◌-◌, ◌*◌, ◌≤◌, ◌<◌, leb, eqb, length, get_or, replicate}
+use Rattle.std.specs.Prelude.{◌≡◌, List, [], ℕ, suc, ◌+◌, ◌*◌, ◌≤◌, ◌<◌, length, replicate, Result, Ok, Err}
+use Rattle.words.specs.declared.ground.Ground.{Ground}
+use Rattle.words.specs.Code.Ground.{number_of}
 use Rattle.std.proofs.Math.Path.{refl, ap, subst}
 use Rattle.std.proofs.Common.{sym, ◌∙◌, arith}
 use Rattle.std.proofs.Math.Bool.{true, false}
@@ -8,13 +10,12 @@ use Rattle.std.proofs.Math.Option.{Option, none, some}
 use Rattle.std.specs.Int.{w32}
 use Rattle.std.proofs.Math.Facts.{of_z-to_z}
 use borrow.Author.Tests.{le-leb, lt-leb}
-use Rattle.words.specs.Code.Packed.{packed}
 use Rattle.words.specs.Limits.{operations_most, budget_most, run_rate}
 use Rattle.core_term.specs.Term.{Plain}
 use Rattle.core_term.specs.Check.{term_of, small, is_term, is_some}
 use Rattle.evaluation.specs.Code.{Code, code_at}
 use Rattle.evaluation.specs.Computation.{Out, done, refused, go_on, ◌>>=◌, give}
-use Rattle.evaluation.specs.Evaluate.{Value, Environment, empty_e, evaluate}
+use Rattle.evaluation.specs.Evaluate.{Value, empty_e, evaluate}
 use Rattle.evaluation.specs.Run as R
 use Rattle.evaluation.specs.Run.{Outcome, with_term, require, tested, ended, evaluated, table_after}
 use Rattle.evaluation.proofs.RunLaws.{tested-passes}
@@ -22,48 +23,45 @@ use Rattle.evaluation.proofs.BudgetClaim.{gas-free}
 use Rattle.evaluation.proofs.Steps.{value, resume, begins}
 use Rattle.runner.specs.declared.rows.Value as Row
 use Rattle.runner.specs.declared.machine.End.{End}
-use Rattle.runner.specs.declared.machine.End.TheVariants as E
-use Rattle.runner.specs.declared.Running.{Running}
-use Rattle.runner.specs.declared.Running.TheVariants as A
+use Rattle.runner.specs.declared.rows.Value.TheVariants as RV
+use Rattle.runner.specs.declared.Value as V
+use Rattle.runner.specs.declared.Value.TheVariants as VV
 use Rattle.runner.specs.Domain.{Number, numbers}
 use Rattle.runner.specs.Here.{here-whole}
 use Rattle.runner.specs.Rows.{ValueIs, number_i, boolean_i, datum_i, closure_i, operation_i, empty_i, nothing_i}
 use Rattle.runner.specs.Machine.{Beginning, EndIs}
-use Rattle.runner.specs.Service.{Numbers, told, refusal, bit, numbers_of, result_numbers, run_numbers, Ran}
+use Rattle.runner.specs.Service.{value_numbers, numbers_of, result_numbers, run_numbers, Ran}
 
 -- ---- values, told
 
--- an answer tells the value that these words are, whatever the table
-abbrev pub ToldAs : Row.Value → (units : ℕ) → Running → Type 0
-ToldAs v u r =
-    (ws t : List ℕ) (top : ℕ) (x : Value Number) → ValueIs ws t top v.kind v.a v.b v.environment x → numbers_of r ≡ result_numbers (R.whole x) u
+-- an answer tells the value that these words are, whatever the table and the units
+abbrev pub ToldAs : Row.Value → V.Value → Type 0
+ToldAs v r =
+    (ws t : List ℕ) (top units : ℕ) (x : Value Number) → ValueIs ws t top v x → value_numbers r units ≡ result_numbers (R.whole x) units
 
--- the numbers of a value whose words are a and b, for kinds 1 to 5
-abbrev kind_numbers : (a b units : ℕ) → List Numbers
-kind_numbers a b u = told 1 a 0 u ∷ told 2 (bit (eqb a 1)) 0 u ∷ told 3 (packed b a) 0 u ∷ told 4 0 0 u ∷ told 5 0 0 u ∷ []
+-- the code's own answer
+abbrev pub told_value : Row.Value → V.Value
+told_value (RV.Number w) = VV.Integer w
+told_value (RV.Boolean b) = VV.Boolean b
+told_value (RV.Datum at) = VV.Datum at
+told_value (RV.Closure at e) = VV.Closure
+told_value (RV.Operation p) = VV.Operation
 
-module _ {ws t : List ℕ} {top k a b e : ℕ} {v : Value Number} where
-  pub kind-least : ValueIs ws t top k a b e v → 1 ≤ k
-  kind-least (number_i h _) = omega arith
-  kind-least (boolean_i h _) = omega arith
-  kind-least (datum_i h _) = omega arith
-  kind-least (closure_i _ _ _ _ h _ _ _ _) = omega arith
-  kind-least (operation_i h _ _) = omega arith
+-- a number's word
+abbrev pub Words : Row.Value → Type 0
+Words (RV.Number w) = w < 4294967296
+Words v = Unit {0}
 
-  pub kind-most : ValueIs ws t top k a b e v → k ≤ 5
-  kind-most (number_i h _) = omega arith
-  kind-most (boolean_i h _) = omega arith
-  kind-most (datum_i h _) = omega arith
-  kind-most (closure_i _ _ _ _ h _ _ _ _) = omega arith
-  kind-most (operation_i h _ _) = omega arith
-
-  pub whole-told : (n u : ℕ) → k ≡ n → a < 4294967296 → ValueIs ws t top k a b e v → get_or (kind_numbers a b u) (n - 1) (refusal 0) ≡ result_numbers (R.whole v) u
-  unfolding result_numbers R.whole
-  whole-told n u q l (number_i h i) = rw (sym q ∙ h, i, of_z-to_z {w = w32} {n = a} (record { fits = l }))
-  whole-told n u q l (boolean_i h i) = rw (sym q ∙ h, i)
-  whole-told n u q l (datum_i h i) = rw (sym q ∙ h, i)
-  whole-told n u q l (closure_i _ _ _ _ h i _ _ _) = rw (sym q ∙ h, i)
-  whole-told n u q l (operation_i h i _) = rw (sym q ∙ h, i)
+pub whole-told : (v : Row.Value) → Words v → (v' : Row.Value) → v' ≡ v → ToldAs v' (told_value v)
+unfolding value_numbers result_numbers R.whole
+whole-told v f v' e ws t top u x i = go v x f (subst (λ (v : Row.Value). ValueIs ws t top v x) e i)
+  where
+    go : (v : Row.Value) (x : Value Number) → Words v → ValueIs ws t top v x → value_numbers (told_value v) u ≡ result_numbers (R.whole x) u
+    go v x f (number_i w i y) = let k : w < 4294967296 = subst Words i f in rw (i, y, of_z-to_z {w = w32} {n = w} (record { fits = k }))
+    go v x f (boolean_i b i y) = rw (i, y)
+    go v x f (datum_i at i y) = rw (i, y)
+    go v x f (closure_i at e first names body env i y z l c) = rw (i, y)
+    go v x f (operation_i p i y z) = rw (i, y)
 
 -- ---- the tests
 
@@ -74,18 +72,9 @@ pub record Fit (words : List ℕ) (budget table : ℕ) : Type 0 where
   pub most : budget ≤ budget_most
   pub room : run_rate * (budget + 1) ≤ table
 
--- ground 0 is none
-abbrev pub Tested : (words : List ℕ) (budget table ground_number : ℕ) → Type 0
-Tested words budget table zero = Fit words budget table
-Tested words budget table (suc g) = R.run words budget table ≡ R.unfit (suc g)
-
-pub tested-unfit : (words : List ℕ) (budget table g : ℕ) → (g ≡ 0 → ⊥) → Tested words budget table g → R.run words budget table ≡ R.unfit g
-tested-unfit words budget table zero n x = absurd (n refl)
-tested-unfit words budget table (suc g) n x = x
-
-pub tested-fit : (words : List ℕ) (budget table g : ℕ) → g ≡ 0 → Tested words budget table g → Fit words budget table
-tested-fit words budget table zero e x = x
-tested-fit words budget table (suc g) e x = absurd (omega arith)
+abbrev pub Tested : (words : List ℕ) (budget table : ℕ) → Result (Unit {0}) Ground → Type 0
+Tested words budget table (Ok _) = Fit words budget table
+Tested words budget table (Err g) = R.run words budget table ≡ R.unfit (number_of g)
 
 module _ (words : List ℕ) (budget table : ℕ) where
   -- ground 19
@@ -160,23 +149,23 @@ module _ {words : List ℕ} {budget : ℕ} (t : List ℕ) (f : Fit words budget 
 
   -- ---- how it ends
 
-  module _ {t' : List ℕ} (z : t' ≡ replicate (length t) 0) (t'' : List ℕ) (end : End) (i : EndIs words budget (evaluated numbers budget (code_at 0 f.term)) t'' end) where
+  module _ {t' : List ℕ} (z : t' ≡ replicate (length t) 0) (t'' : List ℕ) (end : Result End Ground) (i : EndIs words budget (evaluated numbers budget (code_at 0 f.term)) t'' end) where
     -- with a value, as it is told
-    pub ran-value : (v : Row.Value) (u : ℕ) → end ≡ E.Value v u → (r : Running) → ToldAs v u r → Ran words budget t t' r
-    unfolding ended run_numbers table_after
-    ran-value v u e r told-as =
-        let x = subst (λ (y : End). EndIs words budget (evaluated numbers budget (code_at 0 f.term)) t'' y) e i in
-        let o = run_is ∙ ap ended x.goes in
-        record { numbers = rw o (told-as words t'' x.cells x.value x.is); table-after = rw o z }
+    pub ran-value : (o : End) → end ≡ Ok o → (v : V.Value) → ToldAs o.value v → Ran words budget t t' (Ok (record { value = v; units = o.units }))
+    unfolding ended run_numbers table_after numbers_of
+    ran-value o e v told-as =
+        let x = subst (λ (y : Result End Ground). EndIs words budget (evaluated numbers budget (code_at 0 f.term)) t'' y) e i in
+        let q = run_is ∙ ap ended x.goes in
+        record { numbers = rw q (told-as words t'' x.cells o.units x.value x.is); table-after = rw q z }
 
     -- on a ground
-    pub ran-ground : (g : ℕ) → end ≡ E.Ground g → Ran words budget t t' (A.Refused g)
+    pub ran-ground : (g : Ground) → end ≡ Err g → Ran words budget t t' (Err g)
     unfolding ended run_numbers table_after numbers_of
     ran-ground g e =
-        let x = subst (λ (y : End). EndIs words budget (evaluated numbers budget (code_at 0 f.term)) t'' y) e i in
+        let x = subst (λ (y : Result End Ground). EndIs words budget (evaluated numbers budget (code_at 0 f.term)) t'' y) e i in
         let o = run_is ∙ ap ended x.goes in
         record { numbers = rw o refl; table-after = rw o z }
 
-pub ran-unfit : {words : List ℕ} {budget : ℕ} {t : List ℕ} {g : ℕ} → R.run words budget (length t) ≡ R.unfit g → Ran words budget t t (A.Refused g)
+pub ran-unfit : {words : List ℕ} {budget : ℕ} {t : List ℕ} {g : Ground} → R.run words budget (length t) ≡ R.unfit (number_of g) → Ran words budget t t (Err g)
 unfolding run_numbers table_after numbers_of
 ran-unfit i = record { numbers = rw i refl; table-after = rw i refl }

@@ -1,48 +1,35 @@
 // A node begins: a unit, then its value or its first part.
-ghost use Rattle.std.specs.Prelude.{◌≡◌};
 ghost use Rattle.core_term.specs.declared.nodes.Node.TheVariants as N;
 ghost use Rattle.runner.specs.Memo.{Memo};
 ghost use Rattle.runner.specs.Machine.{operation_found, Beginning, Leaving, Seeks, Spent, Anywhere, Everywhere, Some, Stands, Turning, Turns, begin_fuel, give_fuel};
 
 use crate::numbers::OPERATIONS;
 use crate::places::after;
-use crate::rows::{
-    BOOLEAN, CLOSURE, DATUM, Found, Frame, NUMBER, OPERATION, PARTS, TEST, Value, find, high, low,
-};
+use crate::rows::{Branches, Frame, Parts, Value, find};
 use crate::state::{Counts, Turn, push, wait};
 use core_term::nodes::{Node, opened};
+use words::ground::Ground;
 
-fn value(kind: u32, a: u32, b: u32, environment: u32) -> Value
-    ensures { result ≡ record { kind = kind; a = a; b = b; environment = environment } }
-{
-    Value {
-        kind: kind,
-        a: a,
-        b: b,
-        environment: environment,
-    }
-}
-
-// An operation by its place, its unit spent: itself, or 25.
-fn operation(table: &mut [u32], s: Counts, p: u32) -> Turn
+// An operation by its place, its unit spent: itself, or the ground that there is none.
+fn operation(table: &mut [u32], s: Counts, p: u32) -> Result<Turn, Ground>
     requires { Anywhere (λ ws budget whole. Leaving ws budget whole table.old s (operation_found p)) }
     ensures { Everywhere (λ ws budget whole. Leaving ws budget whole table.old s (operation_found p)) (give_fuel s) table.new result }
 {
     if p < OPERATIONS {
-        return push(table, s, value(OPERATION, p, 0, 0));
+        return Ok(push(table, s, Value::Operation(p)));
     }
-    Turn::Stops(25)
+    Err(Ground::WrongKind)
 }
 
-// A variable, its unit spent: its value, or 25.
-fn variable(table: &mut [u32], s: Counts, n: u32, environment: u32) -> Turn
+// A variable, its unit spent: its value, or the ground that it is not bound.
+fn variable(table: &mut [u32], s: Counts, n: u32, environment: u32) -> Result<Turn, Ground>
     requires { Anywhere (λ ws budget whole. Seeks ws budget whole table.old s n environment) }
     ensures { Everywhere (λ ws budget whole. Seeks ws budget whole table.old s n environment) (give_fuel s) table.new result }
 {
-    let Found::Value(v) = find(table, environment, n) else {
-        return Turn::Stops(25);
+    let Some(v) = find(table, environment, n) else {
+        return Err(Ground::WrongKind);
     };
-    push(table, s, v)
+    Ok(push(table, s, v))
 }
 
 // An if, its unit spent: its test begins.
@@ -53,18 +40,15 @@ fn test(
     s: Counts,
     at: usize,
     environment: u32,
-) -> Turn
+) -> Result<Turn, Ground>
     requires { Memo words.now ends.now × Some (λ budget whole. Spent words.now budget whole table.old s N.If at environment) }
     ensures { Turns words.now (λ budget whole. Spent words.now budget whole table.old s N.If at environment) (give_fuel s) table.new result }
 {
-    let f = Frame {
-        what: TEST,
+    let f = Frame::Test(Branches {
         next: after(words, ends, at + 1),
-        left: 0,
-        base: 0,
-        environment: environment,
-    };
-    wait(table, s, f, at + 1)
+        environment,
+    });
+    Ok(wait(table, s, f, at + 1, environment))
 }
 
 // An application of a head to operands, its unit spent: its head begins.
@@ -76,18 +60,17 @@ fn application(
     at: usize,
     operands: u32,
     environment: u32,
-) -> Turn
+) -> Result<Turn, Ground>
     requires { Memo words.now ends.now × Some (λ budget whole. Spent words.now budget whole table.old s (N.Application operands) at environment) }
     ensures { Turns words.now (λ budget whole. Spent words.now budget whole table.old s (N.Application operands) at environment) (give_fuel s) table.new result }
 {
-    let f = Frame {
-        what: PARTS,
+    let f = Frame::Parts(Parts {
         next: after(words, ends, at + 2),
         left: operands,
         base: s.values as u32,
-        environment: environment,
-    };
-    wait(table, s, f, at + 2)
+        environment,
+    });
+    Ok(wait(table, s, f, at + 2, environment))
 }
 
 // The node at a place, in an environment.
@@ -99,30 +82,28 @@ pub fn begin(
     s: Counts,
     at: usize,
     environment: u32,
-) -> Turn
+) -> Result<Turn, Ground>
     requires { Memo words.now ends.now × Stands (λ whole. Beginning words.now budget whole table.old s at environment) }
     ensures { Turning words.now budget (λ whole. Beginning words.now budget whole table.old s at environment) (begin_fuel s budget) table.new result }
 {
     if s.units >= budget {
-        return Turn::Stops(27);
+        return Err(Ground::OutOfBudget);
     }
     let t = Counts {
         units: s.units + 1,
-        values: s.values,
-        frames: s.frames,
-        cells: s.cells,
+        ..s
     };
-    match opened(&words[at..]) {
+    let node = opened(&words[at..]).unwrap();
+    match node {
         Node::Variable(n) => variable(table, t, n, environment),
         Node::Operation(p) => operation(table, t, p),
-        Node::Integer(w) => push(table, t, value(NUMBER, w, 0, 0)),
-        Node::Boolean(w) => push(table, t, value(BOOLEAN, w, 0, 0)),
-        Node::Decimal(_, _) => Turn::Stops(25),
-        Node::Name(_) => push(table, t, value(DATUM, low(at), high(at), 0)),
-        Node::List(_) => push(table, t, value(DATUM, low(at), high(at), 0)),
+        Node::Integer(w) => Ok(push(table, t, Value::Number(w))),
+        Node::Boolean(w) => Ok(push(table, t, Value::Boolean(w == 1))),
+        Node::Decimal(_, _) => Err(Ground::WrongKind),
+        Node::Name(_) => Ok(push(table, t, Value::Datum(at))),
+        Node::List(_) => Ok(push(table, t, Value::Datum(at))),
         Node::If => test(words, ends, table, t, at, environment),
-        Node::Lambda(_, _) => push(table, t, value(CLOSURE, low(at), high(at), environment)),
+        Node::Lambda(_, _) => { Ok(push(table, t, Value::Closure { at, environment })) }
         Node::Application(n) => application(words, ends, table, t, at, n, environment),
-        Node::None => Turn::Stops(25),
     }
 }

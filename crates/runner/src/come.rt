@@ -3,144 +3,148 @@ ghost use Rattle.std.specs.Prelude.{◌≡◌, ℕ, ◌+◌, ◌-◌, ◌*◌, �
 ghost use Rattle.evaluation.specs.Evaluate as S;
 ghost use Rattle.runner.specs.Domain.{Number};
 ghost use Rattle.runner.specs.Memo.{Memo};
-ghost use Rattle.runner.specs.Rows.{ValueIs};
-ghost use Rattle.runner.specs.Stores.{value_at, frame_at};
+ghost use Rattle.runner.specs.declared.rows.Value.TheVariants as R;
+ghost use Rattle.runner.specs.Rows.{ValueIs, value_at};
 ghost use Rattle.runner.specs.Machine.{Coming, Testing, Parting, Complete, Anywhere, Everywhere, Some, Turns, come_fuel};
 
-use crate::numbers::{Made, operate};
+use crate::numbers::operate;
 use crate::places::after;
-use crate::rows::{
-    BOOLEAN, CLOSURE, Frame, NUMBER, OPERATION, PARTS, TEST, Value, bind, frame_at, place,
-    put_frame, value_at,
-};
+use crate::rows::{Branches, Frame, Parts, Value, bind, frame_at, put_frame, value_at};
 use crate::state::{Counts, Turn, push};
-use words::casts::word;
+use words::ground::Ground;
 
 // Only #f is false.
 fn holds(v: Value) -> bool
-    ensures { (ws t : List ℕ) (top : ℕ) (x : S.Value Number) → ValueIs ws t top v.kind v.a v.b v.environment x → result ≡ S.holds x }
+    ensures { (ws t : List ℕ) (top : ℕ) (x : S.Value Number) → ValueIs ws t top v x → result ≡ S.holds x }
 {
-    if v.kind == BOOLEAN {
-        return v.a == 1;
+    match v {
+        Value::Boolean(b) => b,
+        _ => true,
     }
-    true
 }
 
 // The test of an if has its value.
-fn branch(words: &[u32], ends: &[u32], table: &[u32], s: Counts, f: Frame) -> Turn
+fn branch(
+    words: &[u32],
+    ends: &[u32],
+    table: &[u32],
+    s: Counts,
+    f: Branches,
+) -> Result<Turn, Ground>
     requires { Memo words.now ends.now × Some (λ budget whole. Testing words.now budget whole table.now s f) }
     ensures { Turns words.now (λ budget whole. Testing words.now budget whole table.now s f) (come_fuel s) table.now result }
 {
     let top = s.values - 1;
     let popped = Counts {
-        units: s.units,
         values: top,
         frames: s.frames - 1,
-        cells: s.cells,
+        ..s
     };
     if holds(value_at(table, top)) {
-        return Turn::Begins(popped, f.next, f.environment);
+        return Ok(Turn::Begins(popped, f.next, f.environment));
     }
-    Turn::Begins(popped, after(words, ends, f.next), f.environment)
+    Ok(Turn::Begins(popped, after(words, ends, f.next), f.environment))
 }
 
 // The next part of an application.
-fn part(words: &[u32], ends: &[u32], table: &mut [u32], s: Counts, f: Frame) -> Turn
+fn part(words: &[u32], ends: &[u32], table: &mut [u32], s: Counts, f: Parts) -> Result<Turn, Ground>
     requires { Memo words.now ends.now × (1 ≤ f.left) × Some (λ budget whole. Parting words.now budget whole table.old s f) }
     ensures { Turns words.now (λ budget whole. Parting words.now budget whole table.old s f) (come_fuel s) table.new result }
 {
-    let waiting = Frame {
-        what: PARTS,
+    let waiting = Parts {
         next: after(words, ends, f.next),
         left: f.left - 1,
-        base: f.base,
-        environment: f.environment,
+        ..f
     };
-    put_frame(table, s.frames - 1, waiting);
-    Turn::Begins(s, f.next, f.environment)
+    put_frame(table, s.frames - 1, Frame::Parts(waiting));
+    Ok(Turn::Begins(s, f.next, f.environment))
 }
 
 // A closure applied to n operands. Behind its lambda's code stand the first variable and their count.
-fn call(words: &[u32], table: &mut [u32], s: Counts, head: Value, base: usize, n: usize) -> Turn
-    requires { (head ≡ value_at table.old base) × (head.kind ≡ 4) × Some (λ budget whole. Complete words.now budget whole table.old s base n) }
+fn call(
+    words: &[u32],
+    table: &mut [u32],
+    s: Counts,
+    at: usize,
+    environment: u32,
+    base: usize,
+    n: usize,
+) -> Result<Turn, Ground>
+    requires { (value_at table.old base ≡ R.Closure at environment) × Some (λ budget whole. Complete words.now budget whole table.old s base n) }
     ensures { Turns words.now (λ budget whole. Complete words.now budget whole table.old s base n) (come_fuel s) table.new result }
 {
-    let at = place(head.a, head.b);
     let first = words[at + 1];
-    let count = word(words[at + 2]);
+    let count = words[at + 2] as usize;
     if n != count {
-        return Turn::Stops(26);
+        return Err(Ground::WrongCount);
     }
-    let bound = bind(table, s.cells, head.environment, first, base + 1, n);
-    Turn::Begins(
+    let bound = bind(table, s.cells, environment, first, base + 1, n);
+    Ok(Turn::Begins(
         Counts {
-            units: s.units,
             values: base,
             frames: s.frames - 1,
             cells: bound.cells,
+            ..s
         },
         at + 3 + count,
         bound.environment,
-    )
+    ))
 }
 
 // An operation applied to n operands.
-fn operation(table: &mut [u32], s: Counts, head: Value, base: usize, n: usize) -> Turn
-    requires { (head ≡ value_at table.old base) × (head.kind ≡ 5) × Anywhere (λ ws budget whole. Complete ws budget whole table.old s base n) }
+fn operation(
+    table: &mut [u32],
+    s: Counts,
+    place: u32,
+    base: usize,
+    n: usize,
+) -> Result<Turn, Ground>
+    requires { (value_at table.old base ≡ R.Operation place) × Anywhere (λ ws budget whole. Complete ws budget whole table.old s base n) }
     ensures { Everywhere (λ ws budget whole. Complete ws budget whole table.old s base n) (come_fuel s) table.new result }
 {
     if n != 2 {
-        return Turn::Stops(26);
+        return Err(Ground::WrongCount);
     }
-    let x = value_at(table, base + 1);
-    if x.kind != NUMBER {
-        return Turn::Stops(25);
-    }
-    let y = value_at(table, base + 2);
-    if y.kind != NUMBER {
-        return Turn::Stops(25);
-    }
-    match operate(head.a, x, y) {
-        Made::Value(v) => {
-            let popped = Counts {
-                units: s.units,
-                values: base,
-                frames: s.frames - 1,
-                cells: s.cells,
-            };
-            push(table, popped, v)
-        }
-        Made::Ground(g) => Turn::Stops(g),
-    }
+    let Value::Number(x) = value_at(table, base + 1) else {
+        return Err(Ground::WrongKind);
+    };
+    let Value::Number(y) = value_at(table, base + 2) else {
+        return Err(Ground::WrongKind);
+    };
+    let v = operate(place, x, y)?;
+    let popped = Counts {
+        values: base,
+        frames: s.frames - 1,
+        ..s
+    };
+    Ok(push(table, popped, v))
 }
 
 // All parts have their values: the tests of the head, of the number of operands, of their kinds.
-fn apply(words: &[u32], table: &mut [u32], s: Counts, base: usize) -> Turn
+fn apply(words: &[u32], table: &mut [u32], s: Counts, base: usize) -> Result<Turn, Ground>
     requires { Some (λ budget whole. Complete words.now budget whole table.old s base (s.values - base - 1)) }
     ensures { Turns words.now (λ budget whole. Complete words.now budget whole table.old s base (s.values - base - 1)) (come_fuel s) table.new result }
 {
     let n = s.values - base - 1;
-    let head = value_at(table, base);
-    if head.kind == CLOSURE {
-        return call(words, table, s, head, base, n);
+    match value_at(table, base) {
+        Value::Closure { at, environment } => call(words, table, s, at, environment, base, n),
+        Value::Operation(place) => operation(table, s, place, base, n),
+        _ => Err(Ground::WrongKind),
     }
-    if head.kind == OPERATION {
-        return operation(table, s, head, base, n);
-    }
-    Turn::Stops(25)
 }
 
 // A value has come to the top frame.
-pub fn come(words: &[u32], ends: &[u32], table: &mut [u32], s: Counts) -> Turn
+pub fn come(words: &[u32], ends: &[u32], table: &mut [u32], s: Counts) -> Result<Turn, Ground>
     requires { Memo words.now ends.now × (1 ≤ s.frames) × Some (λ budget whole. Coming words.now budget whole table.old s) }
     ensures { Turns words.now (λ budget whole. Coming words.now budget whole table.old s) (come_fuel s) table.new result }
 {
-    let f = frame_at(table, s.frames - 1);
-    if f.what == TEST {
-        return branch(words, ends, table, s, f);
+    match frame_at(table, s.frames - 1) {
+        Frame::Test(f) => branch(words, ends, table, s, f),
+        Frame::Parts(f) => {
+            if f.left > 0 {
+                return part(words, ends, table, s, f);
+            }
+            apply(words, table, s, f.base as usize)
+        }
     }
-    if f.left > 0 {
-        return part(words, ends, table, s, f);
-    }
-    apply(words, table, s, f.base as usize)
 }

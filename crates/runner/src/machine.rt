@@ -7,15 +7,17 @@ use crate::begin::begin;
 use crate::come::come;
 use crate::rows::{Value, value_at};
 use crate::state::{Counts, Turn};
+use words::ground::Ground;
 
-// What a run ends with: a value and the units, or a ground.
+// What a run ends with: a value and the units.
 #[derive(Clone, Copy)]
-pub enum End {
-    Value(Value, usize),
-    Ground(u32),
+pub struct End {
+    pub value: Value,
+    pub units: usize,
 }
 
-// From the node at a place on, until one value is left.
+// From the node at a place on, until one value is left. Words, ends and table stay parameters of each turn: what turns promise
+// (`Everywhere`) is said of the table alone, the others are only read.
 pub fn go(
     words: &[u32],
     ends: &[u32],
@@ -24,25 +26,23 @@ pub fn go(
     from: Counts,
     at: usize,
     environment: u32,
-) -> End
+) -> Result<End, Ground>
     requires { Memo words.now ends.now × Stands (λ whole. Beginning words.now budget whole table.old from at environment) }
     ensures { Ends words.now budget (λ whole. Beginning words.now budget whole table.old from at environment) table.new result }
 {
     let mut turn = Turn::Begins(from, at, environment);
     loop {
-        match turn {
-            Turn::Begins(s, p, e) => {
-                turn = begin(words, ends, budget, table, s, p, e);
-            }
+        turn = match turn {
+            Turn::Begins(s, p, e) => begin(words, ends, budget, table, s, p, e)?,
             Turn::Comes(s) => {
                 if s.frames == 0 {
-                    return End::Value(value_at(table, 0), s.units);
+                    return Ok(End {
+                        value: value_at(table, 0),
+                        units: s.units,
+                    });
                 }
-                turn = come(words, ends, table, s);
+                come(words, ends, table, s)?
             }
-            Turn::Stops(g) => {
-                return End::Ground(g);
-            }
-        }
+        };
     }
 }

@@ -1,15 +1,15 @@
 // The four operations on integers, each in a word of two's complement.
-ghost use Rattle.std.specs.Prelude.{◌≡◌, ◌<◌};
-ghost use Rattle.std.proofs.Math.IntN.{sub_ℕ};
+ghost use Rattle.std.specs.Prelude.{◌<◌, ℤ, SomeIff, FitsSigned};
 ghost use Rattle.std.specs.Int.{w32};
-ghost use Rattle.std.proofs.Common.{to_z};
-ghost use Rattle.evaluation.specs.Computation.{answer};
-ghost use Rattle.evaluation.specs.Evaluate.{boolean_v};
+ghost use Rattle.evaluation.specs.Computation.{map_answer};
+ghost use Rattle.evaluation.specs.Numbers.{within32};
+ghost use Rattle.evaluation.specs.Evaluate.{number_v};
 ghost use Rattle.evaluation.specs.Evaluate as S;
 ghost use Rattle.runner.specs.Domain.{numbers, number_in};
-ghost use Rattle.runner.specs.Made.{MadeIs, number_told};
+ghost use Rattle.runner.specs.Made.{MadeIs};
 
-use crate::rows::{BOOLEAN, NUMBER, Value};
+use crate::rows::Value;
+use words::ground::Ground;
 
 pub const SUM: u32 = 0;
 
@@ -19,91 +19,30 @@ pub const LESS: u32 = 2;
 
 pub const OPERATIONS: u32 = 4;
 
-#[derive(Clone, Copy)]
-pub enum Made {
-    Value(Value),
-    Ground(u32),
-}
-
-const HALF: u64 = 0x8000_0000;
-
-const WHOLE: u64 = 0x1_0000_0000;
-
-// The number of a word, and 2^31 more: so the order of numbers is that of these.
-fn raised(w: u32) -> u64
-    ensures { (sub_ℕ result 2147483648 ≡ to_z w32 w) × (result < 4294967296) }
+// The value of a sum or difference, where 32 bits hold it.
+fn number(n: Option<i32>) -> Result<Value, Ground>
+    ensures { (z : ℤ) → SomeIff n (FitsSigned w32 z) z → MadeIs (map_answer number_v (within32 z)) result }
 {
-    if w < 0x8000_0000 {
-        w as u64 + HALF
-    } else {
-        w as u64 - HALF
-    }
+    let n = n.ok_or(Ground::WrongKind)?;
+    Ok(Value::Number(n.cast_unsigned()))
 }
 
-// The word of a number that is told as 2^31 more, and is within 32 bits.
-fn lowered(n: u64) -> u32
-    requires { n < 4294967296 }
-    ensures { to_z w32 result ≡ sub_ℕ n 2147483648 }
-{
-    if n < HALF {
-        (n + HALF) as u32
-    } else {
-        (n - HALF) as u32
-    }
-}
-
-fn boolean(b: bool) -> Made
-    ensures { MadeIs (answer (boolean_v b)) result }
-{
-    if b {
-        return Made::Value(Value {
-            kind: BOOLEAN,
-            a: 1,
-            b: 0,
-            environment: 0,
-        });
-    }
-    Made::Value(Value {
-        kind: BOOLEAN,
-        a: 0,
-        b: 0,
-        environment: 0,
-    })
-}
-
-// The number that is told as 2^32 more; 25 where it leaves 32 bits.
-fn number(n: u64) -> Made
-    ensures { MadeIs (number_told n) result }
-{
-    if n < HALF {
-        return Made::Ground(25);
-    }
-    if n >= HALF + WHOLE {
-        return Made::Ground(25);
-    }
-    Made::Value(Value {
-        kind: NUMBER,
-        a: lowered(n - HALF),
-        b: 0,
-        environment: 0,
-    })
-}
-
-// The operation at a place below OPERATIONS, of two numbers.
-pub fn operate(place: u32, x: Value, y: Value) -> Made
+// The operation at a place below OPERATIONS, of two numbers. The place stays a number: it is a word of the term, and `operate` of the
+// definition counts by it.
+pub fn operate(place: u32, x: u32, y: u32) -> Result<Value, Ground>
     requires { place < 4 }
-    ensures { MadeIs (S.operate numbers place (number_in x.a x.b) (number_in y.a y.b)) result }
+    ensures { MadeIs (S.operate numbers place (number_in x 0) (number_in y 0)) result }
 {
-    let a = raised(x.a);
-    let b = raised(y.a);
+    let a = x.cast_signed();
+    let b = y.cast_signed();
     if place == SUM {
-        return number(a + b);
+        return number(a.checked_add(b));
     }
     if place == DIFFERENCE {
-        return number(a + WHOLE - b);
+        return number(a.checked_sub(b));
     }
     if place == LESS {
-        return boolean(a < b);
+        return Ok(Value::Boolean(a < b));
     }
-    boolean(a == b)
+    Ok(Value::Boolean(a == b))
 }

@@ -1,9 +1,8 @@
 // Where parts end. A table keeps for each place of a term's words, as far as it reaches, where the term or datum that begins there
-// ends (0: not known); it is filled in one pass, so that no visit of a node looks for the end of a part again.
+// ends (0: not known, as one word has to do for it); it is filled in one pass, so that no visit of a node looks for the end of a part again.
 ghost use Rattle.runner.specs.Memo.{Placed, EndsAt, Memo};
 
 use core_term::nodes::shape_at;
-use words::casts::word;
 
 // The place behind the term or datum that begins at a place, by the number of parts still due: the words are a prefix code.
 fn skip(words: &[u32], place: usize) -> usize
@@ -13,7 +12,7 @@ fn skip(words: &[u32], place: usize) -> usize
     let mut at = place;
     let mut due = 1;
     while due > 0 {
-        let n = shape_at(&words[at..]);
+        let n = shape_at(&words[at..]).unwrap();
         at = at + n.own;
         due = due - 1 + n.parts;
     }
@@ -26,7 +25,7 @@ pub fn after(words: &[u32], ends: &[u32], at: usize) -> usize
     ensures { EndsAt words.now at result }
 {
     if at < ends.len() {
-        let end = word(ends[at]);
+        let end = ends[at] as usize;
         if end != 0 {
             return end;
         }
@@ -40,12 +39,10 @@ pub fn mark(words: &[u32], ends: &mut [u32], at: usize) -> usize
     requires { Memo words.now ends.old × Placed words.now at }
     ensures { Memo words.now ends.new × EndsAt words.now at result }
 {
-    let n = shape_at(&words[at..]);
+    let n = shape_at(&words[at..]).unwrap();
     let mut next = at + n.own;
-    let mut left = n.parts;
-    while left > 0 {
+    for _ in 0..n.parts {
         next = mark(words, ends, next);
-        left = left - 1;
     }
     if at < ends.len() && next < 0x1_0000_0000 {
         ends[at] = next as u32;

@@ -1,5 +1,5 @@
 // What a turn of the machine is. values + frames + cells <= units spent, always; so every row in use is within the budget.
-ghost use Rattle.std.specs.Prelude.{◌≡◌, ◌+◌, ◌*◌, ◌≤◌, length};
+ghost use Rattle.std.specs.Prelude.{◌≡◌, ◌+◌, ◌*◌, ◌≤◌, length, Ok};
 ghost use Rattle.runner.specs.Stores.{frame_set};
 ghost use Rattle.runner.specs.declared.state.Turn.TheVariants as T;
 ghost use Rattle.runner.specs.Machine.{Giving, Anywhere, Everywhere, give_fuel};
@@ -16,42 +16,37 @@ pub struct Counts {
     pub cells: usize,
 }
 
-// The node at a place begins in an environment; or a value has come, on top of the values; or a ground was met.
+// The node at a place begins in an environment; or a value has come, on top of the values.
 #[derive(Clone, Copy)]
 pub enum Turn {
     Begins(Counts, usize, u32),
     Comes(Counts),
-    Stops(u32),
 }
 
 // A value onto the stack.
 pub fn push(table: &mut [u32], s: Counts, v: Value) -> Turn
     requires { Anywhere (λ ws budget whole. Giving ws budget whole table.old s v) }
-    ensures { Everywhere (λ ws budget whole. Giving ws budget whole table.old s v) (give_fuel s) table.new result }
+    ensures { Everywhere (λ ws budget whole. Giving ws budget whole table.old s v) (give_fuel s) table.new (Ok result) }
 {
     put_value(table, s.values, v);
     Turn::Comes(Counts {
-        units: s.units,
         values: s.values + 1,
-        frames: s.frames,
-        cells: s.cells,
+        ..s
     })
 }
 
 // A frame, and then the node at a place.
-pub fn wait(table: &mut [u32], s: Counts, f: Frame, at: usize) -> Turn
+pub fn wait(table: &mut [u32], s: Counts, f: Frame, at: usize, environment: u32) -> Turn
     requires { 16 * (s.frames + 1) ≤ length table.old }
-    ensures { (result ≡ T.Begins (framed s) at f.environment) × (table.new ≡ frame_set table.old s.frames f) }
+    ensures { (result ≡ T.Begins (framed s) at environment) × (table.new ≡ frame_set table.old s.frames f) }
 {
     put_frame(table, s.frames, f);
     Turn::Begins(
         Counts {
-            units: s.units,
-            values: s.values,
             frames: s.frames + 1,
-            cells: s.cells,
+            ..s
         },
         at,
-        f.environment,
+        environment,
     )
 }

@@ -1,6 +1,9 @@
 -- One macro step on cells: the first rule that fits, then grounds 16 to 18 or the result (document 01, 'Forms').
-use Rattle.std.specs.Prelude.{◌≡◌, cond, List, [], ℕ, ◌+◌, ◌*◌, ◌≤◌, leb, take}
+use Rattle.std.specs.Prelude.{◌≡◌, Ok, Err, cond, List, [], ℕ, ◌+◌, ◌*◌, ◌≤◌, leb, take}
+use Rattle.std.specs.declared.result.Result.{Result}
 use Rattle.std.proofs.Math.Option.{Option, none, some}
+use Rattle.words.specs.Code.Ground.{number_of}
+use Rattle.words.specs.declared.ground.Ground.{Ground}
 use Rattle.words.specs.Each.{Each}
 use Rattle.recipe.specs.Tree.{Tree, size, produce}
 use Rattle.expansion.specs.Rules.{Rule}
@@ -14,7 +17,6 @@ use Rattle.environments.specs.Environment.{agree_by, result_by}
 use Rattle.environments.specs.Entries.{environment_at, Under}
 use Rattle.steps.specs.Build.{node_words}
 use Rattle.steps.specs.declared.apply.Applied.{Applied}
-use Rattle.steps.specs.declared.apply.Applied.TheVariants.{NoRule, Differ, Costly, Done}
 
 -- refused on a ground, or the transcribed tree
 pub data Outcome : Type 0 where
@@ -32,16 +34,11 @@ step_of limit used none = refused 16
 step_of limit used (some r) = applied limit used r
 
 -- what the code's answer stands for: the ground, or the cost and the root of the result
-unfoldable pub Answers : List ℕ → ℕ → Outcome → Applied → Type 0
-Answers new top (refused g) NoRule = g ≡ 16
-Answers new top (refused g) Differ = g ≡ 17
-Answers new top (refused g) Costly = g ≡ 18
-Answers new top (refused g) (Done root cost) = ⊥
-Answers new top (result t) NoRule = ⊥
-Answers new top (result t) Differ = ⊥
-Answers new top (result t) Costly = ⊥
-Answers new top (result t) (Done root cost) =
-    (cost ≡ size t) × (tree_at new root 0 ≡ produce t) × (top ≤ root) × (root ≤ top + node_words * cost)
+unfoldable pub Answers : List ℕ → ℕ → Outcome → Result Applied Ground → Type 0
+Answers new top (refused g) (Err why) = g ≡ number_of why
+Answers new top (refused g) (Ok a) = ⊥
+Answers new top (result t) (Err why) = ⊥
+Answers new top (result t) (Ok a) = (a.cost ≡ size t) × (tree_at new a.root 0 ≡ produce t) × (top ≤ a.root) × (a.root ≤ top + node_words * a.cost)
 
 -- a template in an environment, with so much fuel left
 unfoldable pub outcome_at : (work env : List ℕ) (w t limit : ℕ) → Outcome
@@ -50,7 +47,7 @@ outcome_at work env w t limit =
     let r = result_by v (template_at work t) in
     cond (agree_by v (template_at work t)) (cond (leb (size r) limit) (result r) (refused 18)) (refused 17)
 
-pub record Transcribed (old new : List ℕ) (top : ℕ) (env : List ℕ) (w t limit : ℕ) (r : Applied) : Type 0 where
+pub record Transcribed (old new : List ℕ) (top : ℕ) (env : List ℕ) (w t limit : ℕ) (r : Result Applied Ground) : Type 0 where
   pub is : Answers new top (outcome_at old env w t limit) r
   pub kept : take top new ≡ take top old
 
@@ -61,7 +58,7 @@ pub record Transcribing (work : List ℕ) (top : ℕ) (env : List ℕ) (w t limi
   pub template-below : t ≤ top
   pub room : Room work top (node_words * limit)
 
-pub record Stepped (old new : List ℕ) (top rules u w limit : ℕ) (r : Applied) : Type 0 where
+pub record Stepped (old new : List ℕ) (top rules u w limit : ℕ) (r : Result Applied Ground) : Type 0 where
   pub is : Answers new top (step_of limit (tree_at old u w) (first_fit (rules_at old rules) (tree_at old u w)).1) r
   pub kept : take top new ≡ take top old
 

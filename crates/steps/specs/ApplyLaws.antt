@@ -1,10 +1,13 @@
 -- Laws of one macro step, one for each way through the code.
-use Rattle.std.specs.Prelude.{◌≡◌, Bool, true, false, List, ℕ, zero, suc, ◌-◌, replicate}
+use Rattle.std.specs.Prelude.{◌≡◌, Some, None, Ok, Err, Bool, true, false, List, ℕ, zero, suc, ◌-◌, replicate}
+use Rattle.std.specs.declared.result.Result.{Result}
 use Rattle.std.proofs.Math.Path.{refl, sym, subst}
 use Rattle.std.proofs.Common.{ap, ◌∙◌, arith}
 use Rattle.std.proofs.Math.Option.{Option, some}
-use borrow.Author.Tests.{ne_eqb, le-leb, lt-leb}
+use borrow.Author.Tests.{le-leb, lt-leb}
 use Rattle.words.specs.Each.{Each, none_of, also, Given, missing, given, given-at}
+use Rattle.words.specs.declared.ground.Ground.{Ground}
+use Rattle.words.specs.declared.ground.Ground.TheVariants.{NoRule, UnequalLists, OutOfFuel}
 use Rattle.recipe.specs.Name.{Name}
 use Rattle.recipe.specs.Tree.{Tree, size}
 use Rattle.expansion.specs.Rules.{Rule}
@@ -22,7 +25,6 @@ use Rattle.steps.specs.Build.{result_at, agrees_at, Buildable, Gives, Stops}
 use Rattle.steps.specs.ResultLaws.{template-kept, agrees-kept}
 use Rattle.steps.specs.Apply.{applied, step_of, Answers, outcome_at, Transcribing, Transcribed, Stepping, Stepped}
 use Rattle.steps.specs.declared.apply.Applied.{Applied}
-use Rattle.steps.specs.declared.apply.Applied.TheVariants as A
 
 -- ---- the rule that is found
 
@@ -43,7 +45,7 @@ module _ (old : List ℕ) (top : ℕ) (env : List ℕ) (w t limit : ℕ) (ok : T
   transcribe-buildable = record { room = ok.room; plain = ok.plain; under = ok.under; wrap-below = ok.wrap-below; template-below = ok.template-below }
 
   module _ (new : List ℕ) where
-    pub transcribed-done : (root left : ℕ) → Gives old new top limit env w t root left → Transcribed old new top env w t limit (A.Done root (limit - left))
+    pub transcribed-done : (root left : ℕ) → Gives old new top limit env w t root left → Transcribed old new top env w t limit (Ok (record { root = root; cost = limit - left }))
     unfolding Answers outcome_at result_at agrees_at
     transcribed-done root left m =
         record {
@@ -63,11 +65,11 @@ module _ (old : List ℕ) (top : ℕ) (env : List ℕ) (w t limit : ℕ) (ok : T
       unfolding agrees_at
       agrees-is = sym (agrees-kept old new top m.kept env w t ok.wrap-below ok.template-below ok.under) ∙ sym (agrees w)
 
-      pub transcribed-differ : b ≡ false → Transcribed old new top env w t limit A.Differ
+      pub transcribed-differ : b ≡ false → Transcribed old new top env w t limit (Err UnequalLists)
       unfolding Answers outcome_at agrees_at
       transcribed-differ e = record { is = rw (agrees-is, e) refl; kept = m.kept }
 
-      pub transcribed-costly : b ≡ true → Transcribed old new top env w t limit A.Costly
+      pub transcribed-costly : b ≡ true → Transcribed old new top env w t limit (Err OutOfFuel)
       unfolding Answers outcome_at result_at agrees_at
       transcribed-costly e =
           record {
@@ -82,18 +84,18 @@ zeros-under zero top i = omega arith
 zeros-under (suc n) top zero = omega arith
 zeros-under (suc n) top (suc i) = zeros-under n top i
 
-module _ (old : List ℕ) (top rules u w limit : ℕ) (ok : Stepping old top rules u w limit) (rule : ℕ) (found : FirstFit old rules u w rule) where
+module _ (old : List ℕ) (top rules u w limit : ℕ) (ok : Stepping old top rules u w limit) where
   abbrev Used : Tree
   Used = tree_at old u w
 
-  pub apply-none : rule ≡ 0 → Stepped old old top rules u w limit A.NoRule
+  pub apply-none : FirstFit old rules u w None → Stepped old old top rules u w limit (Err NoRule)
   unfolding rule_or step_of Answers
-  apply-none e = record { is = subst (λ o. Answers old top (step_of limit Used o) A.NoRule) found.is (rw e refl); kept = refl }
+  apply-none found = record { is = subst (λ o. Answers old top (step_of limit Used o) (Err NoRule)) found.is refl; kept = refl }
 
-  module _ (some-rule : rule ≡ 0 → ⊥) (p t : ℕ) (p-is : p ≡ reference_at old rule 3) (t-is : t ≡ reference_at old rule 2) (env : List ℕ) (binds : Binds old p u (replicate table_words 0) env) where
+  module _ (rule : ℕ) (found : FirstFit old rules u w (Some rule)) (p t : ℕ) (p-is : p ≡ reference_at old rule 3) (t-is : t ≡ reference_at old rule 2) (env : List ℕ) (binds : Binds old p u (replicate table_words 0) env) where
     rule-is : (first_fit (rules_at old rules) Used).1 ≡ some (rule_at old rule)
     unfolding rule_or
-    rule-is = sym found.is ∙ rw (ne_eqb rule 0 some-rule) refl
+    rule-is = sym found.is
 
     sound-here : Sound (pattern_at old p) 0 (template_at old t)
     unfolding rule_at
@@ -119,5 +121,5 @@ module _ (old : List ℕ) (top rules u w limit : ℕ) (ok : Stepping old top rul
         rw (result-is (pattern_at old p) Used (environment_at old env w) (template_at old t) agrees-here sound-here, agree-is (pattern_at old p) Used (environment_at old env w) (template_at old t) agrees-here sound-here)
         (rw (p-is, t-is) (sym (ap (step_of limit Used) rule-is)))
 
-    pub apply-stepped : (new : List ℕ) (r : Applied) → Transcribed old new top env w t limit r → Stepped old new top rules u w limit r
+    pub apply-stepped : (new : List ℕ) (r : Result Applied Ground) → Transcribed old new top env w t limit r → Stepped old new top rules u w limit r
     apply-stepped new r x = record { is = subst (λ o. Answers new top o r) outcome-is x.is; kept = x.kept }

@@ -1,5 +1,5 @@
 -- A step's result in the arena: fresh nodes above the old top, the root last, with every name produced; each item is paid for.
-use Rattle.std.specs.Prelude.{◌≡◌, Bool, true, List, ℕ, zero, suc, ◌+◌, ◌*◌, ◌-◌, ◌≤◌, ◌<◌, length, take}
+use Rattle.std.specs.Prelude.{◌≡◌, Option, Some, None, Bool, true, List, ℕ, zero, suc, ◌+◌, ◌*◌, ◌-◌, ◌≤◌, ◌<◌, take}
 use Rattle.recipe.specs.Tree.{Tree, size, element, produce}
 use Rattle.expansion.specs.Transcribe.{copies, all_below}
 use Rattle.arena.specs.Arena.{tree_at}
@@ -8,12 +8,15 @@ use Rattle.rule_cells.specs.Cells.{template_at}
 use Rattle.environments.specs.Sound.{Plain}
 use Rattle.environments.specs.Environment.{enter, agree_by, result_by}
 use Rattle.environments.specs.Entries.{environment_at, Under}
-use Rattle.words.specs.declared.packed.Built.{Built}
-use Rattle.words.specs.declared.packed.Built.TheVariants.{At, None}
+use Rattle.steps.specs.declared.copy.Built.{Built}
 
 -- a node is three words, and a name's may have a join of three more
 abbrev pub node_words : ℕ
 node_words = 6
+
+-- what is built, and so much fuel left
+abbrev pub built : (at left : ℕ) → Option Built
+built at left = Some (record { at = at; left = left })
 
 -- r is a fresh node of one item, as a step's result has it
 pub record Fresh (tree : Tree) (old new : List ℕ) (top r : ℕ) : Type 0 where
@@ -37,8 +40,8 @@ pub record Unpaid (tree : Tree) (old new : List ℕ) (top fuel : ℕ) : Type 0 w
   pub over : fuel < size tree
   pub kept : take top new ≡ take top old
 
-abbrev pub Pays : (tree : Tree) (old new : List ℕ) (top fuel : ℕ) → Built → Type 0
-Pays tree old new top fuel (At root left) = Paid tree old new top fuel root left
+abbrev pub Pays : (tree : Tree) (old new : List ℕ) (top fuel : ℕ) → Option Built → Type 0
+Pays tree old new top fuel (Some b) = Paid tree old new top fuel b.at b.left
 Pays tree old new top fuel None = Unpaid tree old new top fuel
 
 -- a node and a wrap that stand below the top, with room for as many items as there is fuel
@@ -83,8 +86,8 @@ pub record Stops (old new : List ℕ) (top fuel : ℕ) (env : List ℕ) (w t : �
   pub over : agrees_at old env w t ≡ true → fuel < size (result_at old env w t)
   pub kept : take top new ≡ take top old
 
-abbrev pub Made : (old new : List ℕ) (top fuel : ℕ) (env : List ℕ) (w t : ℕ) → Built → Type 0
-Made old new top fuel env w t (At root left) = Gives old new top fuel env w t root left
+abbrev pub Made : (old new : List ℕ) (top fuel : ℕ) (env : List ℕ) (w t : ℕ) → Option Built → Type 0
+Made old new top fuel env w t (Some b) = Gives old new top fuel env w t b.at b.left
 Made old new top fuel env w t None = Stops old new top fuel env w t
 
 -- ---- copies, of an element or of a list's elements, by what copy i is
@@ -111,8 +114,8 @@ pub record ElementsUnpaid (old new : List ℕ) (top fuel list w c : ℕ) : Type 
   pub over : fuel < added (elements_at old list w) c
   pub kept : take top new ≡ take top old
 
-abbrev pub ElementsBackwards : (old new : List ℕ) (top fuel list w c : ℕ) → Built → Type 0
-ElementsBackwards old new top fuel list w c (At r left) = Turned (elements_at old list w) old new top fuel c r left
+abbrev pub ElementsBackwards : (old new : List ℕ) (top fuel list w c : ℕ) → Option Built → Type 0
+ElementsBackwards old new top fuel list w c (Some b) = Turned (elements_at old list w) old new top fuel c b.at b.left
 ElementsBackwards old new top fuel list w c None = ElementsUnpaid old new top fuel list w c
 
 -- ---- copies of an element
@@ -125,8 +128,8 @@ pub record CopiesStop (old new : List ℕ) (top fuel : ℕ) (env : List ℕ) (w 
   pub over : all_below (copy_agrees old env w e) c ≡ true → fuel < added (copy_at old env w e) c
   pub kept : take top new ≡ take top old
 
-abbrev pub Backwards : (old new : List ℕ) (top fuel : ℕ) (env : List ℕ) (w e c : ℕ) → Built → Type 0
-Backwards old new top fuel env w e c (At list left) = Turned (copy_at old env w e) old new top fuel c list left × CopiesAgreed old env w e c
+abbrev pub Backwards : (old new : List ℕ) (top fuel : ℕ) (env : List ℕ) (w e c : ℕ) → Option Built → Type 0
+Backwards old new top fuel env w e c (Some b) = Turned (copy_at old env w e) old new top fuel c b.at b.left × CopiesAgreed old env w e c
 Backwards old new top fuel env w e c None = CopiesStop old new top fuel env w e c
 
 -- the first c elements of a list, the last first, before a tail
@@ -145,6 +148,6 @@ pub record Before (old new : List ℕ) (top fuel : ℕ) (env : List ℕ) (w e c 
   pub means : tree_at new r 0 ≡ copies (λ i. produce (copy_at old env w e i)) 0 c (tree_at old top 0)
   pub agreed : CopiesAgreed old env w e c
 
-abbrev pub Copied : (old new : List ℕ) (top fuel : ℕ) (env : List ℕ) (w e c : ℕ) → Built → Type 0
-Copied old new top fuel env w e c (At r left) = Before old new top fuel env w e c r left
+abbrev pub Copied : (old new : List ℕ) (top fuel : ℕ) (env : List ℕ) (w e c : ℕ) → Option Built → Type 0
+Copied old new top fuel env w e c (Some b) = Before old new top fuel env w e c b.at b.left
 Copied old new top fuel env w e c None = CopiesStop old new top fuel env w e c

@@ -1,5 +1,5 @@
 -- Laws of building, one for each way through the code: fresh nodes, and trees whose items are paid for one by one.
-use Rattle.std.specs.Prelude.{◌≡◌, List, ℕ, ◌+◌, ◌*◌, ◌-◌, ◌≤◌, ◌<◌, ltb, length, take}
+use Rattle.std.specs.Prelude.{◌≡◌, Option, None, List, ℕ, ◌+◌, ◌*◌, ◌-◌, ◌≤◌, ltb, length, take}
 use Rattle.std.proofs.Math.Path.{refl, ap, ap₂}
 use Rattle.std.proofs.Common.{sym, subst, ◌∙◌, arith}
 use Rattle.recipe.specs.Name.{Name, mark_name, produce_name}
@@ -7,14 +7,12 @@ use Rattle.recipe.specs.Tree.{Tree, empty, constant, name, pair, size, on_names,
 use Rattle.recipe.specs.TreeLaws.{size-positive}
 use Rattle.arena.specs.Arena.{word_at, reference_at, step_limit, marked, give_key, is_own, rebound, wrap_at, origin_name, node_name, name_at, constant_at, tree_at}
 use Rattle.words.specs.ListLaws.{either}
-use Rattle.words.specs.Code.Packed.{packed, built_of, built-holds}
 use Rattle.arena.specs.ArenaLaws.{take_less, reference_at-most, wrap_at-none, wrap_at-keeps}
 use Rattle.arena.specs.NodeLaws.{tree_at-empty, tree_at-name, tree_at-pair, tree_at-constant}
 use Rattle.arena.specs.Cells.{Room, Wrapped, Grown}
 use Rattle.arena.specs.CellLaws.{tree-kept}
-use Rattle.words.specs.declared.packed.Built.{Built}
-use Rattle.words.specs.declared.packed.Built.TheVariants.{At, None}
-use Rattle.steps.specs.Build.{node_words, Fresh, Paid, Unpaid, Pays, Waiting}
+use Rattle.steps.specs.declared.copy.Built.{Built}
+use Rattle.steps.specs.Build.{node_words, built, Fresh, Paid, Unpaid, Pays, Waiting}
 
 -- ---- names are produced before or after what waits on them
 
@@ -89,26 +87,10 @@ room-node work top fuel h r = record { fits = omega (arith, r.fits); small = ome
 pub room-left : (old new : List ℕ) (top fuel r left n : ℕ) → length new ≡ length old → r + n ≤ top + node_words * fuel → Room old top (node_words * fuel) → Room new r n
 room-left old new top fuel r left n long h room = record { fits = omega (arith, room.fits); small = omega (arith, room.small) }
 
--- a root and what is left, in one word: no more is left than there was, and the room for that is below 2 ^ 32
-pub built-at : (P : Built → Type 0) (work : List ℕ) (top fuel p root left : ℕ) → Room work top (node_words * fuel) → left ≤ fuel → p ≡ packed root left → P (At root left) → P (built_of p)
-built-at P work top fuel p root left room h e x =
-    let small : left < 4294967295 = omega (arith, room.small) in
-    built-holds P p root left e small x
-
 -- ---- trees whose items are paid for
 
-pub pays-is : (A B : Tree) (old new : List ℕ) (top fuel : ℕ) → A ≡ B → (r : Built) → Pays A old new top fuel r → Pays B old new top fuel r
+pub pays-is : (A B : Tree) (old new : List ℕ) (top fuel : ℕ) → A ≡ B → (r : Option Built) → Pays A old new top fuel r → Pays B old new top fuel r
 pays-is A B old new top fuel e r p = subst (λ (t : Tree). Pays t old new top fuel r) e p
-
--- what an answer says
-pub paid-at : (A : Tree) (old new : List ℕ) (top fuel : ℕ) (r : Built) (root left : ℕ) → r ≡ At root left → Pays A old new top fuel r → Paid A old new top fuel root left
-paid-at A old new top fuel r root left e p = subst (Pays A old new top fuel) e p
-
-pub unpaid-at : (A : Tree) (old new : List ℕ) (top fuel : ℕ) (r : Built) → r ≡ None → Pays A old new top fuel r → Unpaid A old new top fuel
-unpaid-at A old new top fuel r e p = subst (Pays A old new top fuel) e p
-
-pub pays-packed : (A : Tree) (old new : List ℕ) (top fuel p root left : ℕ) → Room old top (node_words * fuel) → p ≡ packed root left → Paid A old new top fuel root left → Pays A old new top fuel (built_of p)
-pays-packed A old new top fuel p root left room e x = built-at (Pays A old new top fuel) old top fuel p root left room (omega (arith, x.spent)) e x
 
 -- every tree has an item
 pub unpaid-none : (A : Tree) (old : List ℕ) (top fuel : ℕ) → fuel ≡ 0 → Unpaid A old old top fuel
@@ -149,23 +131,23 @@ module _ (A B : Tree) (old one : List ℕ) (top fuel left : ℕ) (some-fuel : fu
 -- ---- copies of a tree
 
 module _ (old : List ℕ) (top fuel node w left : ℕ) (some-fuel : fuel ≡ 0 → ⊥) (left_is : left ≡ fuel - 1) (kind : ℕ) (kind-is : kind ≡ word_at old node 3) where
-  pub copied-empty : (new : List ℕ) (r : ℕ) → kind ≡ 0 → Grown (λ v. empty) old new top r → Pays (tree_at old node w) old new top fuel (At r left)
+  pub copied-empty : (new : List ℕ) (r : ℕ) → kind ≡ 0 → Grown (λ v. empty) old new top r → Pays (tree_at old node w) old new top fuel (built r left)
   unfolding size
   copied-empty new r e g =
-      pays-is empty _ old new top fuel (sym (tree_at-empty old node w (sym kind-is ∙ e))) (At r left)
+      pays-is empty _ old new top fuel (sym (tree_at-empty old node w (sym kind-is ∙ e))) (built r left)
       (paid-one empty old new top fuel r left some-fuel left_is refl (fresh-empty old new top r g))
 
-  pub copied-name : (new : List ℕ) (r : ℕ) → kind ≡ 3 → Fresh (name (name_at old node w)) old new top r → Pays (tree_at old node w) old new top fuel (At r left)
+  pub copied-name : (new : List ℕ) (r : ℕ) → kind ≡ 3 → Fresh (name (name_at old node w)) old new top r → Pays (tree_at old node w) old new top fuel (built r left)
   unfolding size
   copied-name new r e f =
-      pays-is (name (name_at old node w)) _ old new top fuel (sym (tree_at-name old node w (sym kind-is ∙ e))) (At r left)
+      pays-is (name (name_at old node w)) _ old new top fuel (sym (tree_at-name old node w (sym kind-is ∙ e))) (built r left)
       (paid-one (name (name_at old node w)) old new top fuel r left some-fuel left_is refl f)
 
-  pub copied-constant : (new : List ℕ) (r a b : ℕ) → (kind ≡ 0 → ⊥) → (kind ≡ 3 → ⊥) → (word_at old node 3 ≡ 4 → ⊥) → a ≡ word_at old node 2 → b ≡ word_at old node 1 → Grown (λ v. constant (record { kind = kind; first = a; second = b })) old new top r → Pays (tree_at old node w) old new top fuel (At r left)
+  pub copied-constant : (new : List ℕ) (r a b : ℕ) → (kind ≡ 0 → ⊥) → (kind ≡ 3 → ⊥) → (word_at old node 3 ≡ 4 → ⊥) → a ≡ word_at old node 2 → b ≡ word_at old node 1 → Grown (λ v. constant (record { kind = kind; first = a; second = b })) old new top r → Pays (tree_at old node w) old new top fuel (built r left)
   unfolding constant_at size
   copied-constant new r a b n0 n3 n4 a-is b-is g =
       pays-is (constant (record { kind = kind; first = a; second = b })) _ old new top fuel
-      (rw (kind-is, a-is, b-is) (sym (tree_at-constant old node w (λ z. n0 (kind-is ∙ z)) (λ z. n3 (kind-is ∙ z)) n4))) (At r left)
+      (rw (kind-is, a-is, b-is) (sym (tree_at-constant old node w (λ z. n0 (kind-is ∙ z)) (λ z. n3 (kind-is ∙ z)) n4))) (built r left)
       (paid-one _ old new top fuel r left some-fuel left_is refl (fresh-constant old new top r kind a b g))
 
   module _ (head tail : ℕ) (e : kind ≡ 4) (head-is : head ≡ reference_at old node 2) (tail-is : tail ≡ reference_at old node 1) (waits : Waiting old top fuel node w) where
@@ -202,14 +184,14 @@ module _ (old : List ℕ) (top fuel node w left : ℕ) (some-fuel : fuel ≡ 0 �
 
       module _ (two : List ℕ) (h g : ℕ) (a : Paid (tree_at one head w) one two t f h g) where
         head-paid : Paid (tree_at old head w) one two t f h g
-        head-paid = pays-is _ _ one two t f head-same (At h g) a
+        head-paid = pays-is _ _ one two t f head-same (built h g) a
 
         pub copied-room : length two ≡ length one → Room two h 3
         copied-room far =
             room-left old two top fuel h g 3 (far ∙ long)
             (omega (arith, pair-most (tree_at old head w) (tree_at old tail w) old one top fuel left some-fuel left_is t f b two h g head-paid)) waits.room
 
-        pub copied-pair : (new : List ℕ) (r : ℕ) → Grown (λ v. pair (tree_at two h v) (tree_at two t v)) two new h r → Pays (tree_at old node w) old new top fuel (At r g)
+        pub copied-pair : (new : List ℕ) (r : ℕ) → Grown (λ v. pair (tree_at two h v) (tree_at two t v)) two new h r → Pays (tree_at old node w) old new top fuel (built r g)
         copied-pair new r p =
-            pays-is _ _ old new top fuel pair_is (At r g)
+            pays-is _ _ old new top fuel pair_is (built r g)
             (paid-pair (tree_at old head w) (tree_at old tail w) old one top fuel left some-fuel left_is t f b two h g head-paid new r p)

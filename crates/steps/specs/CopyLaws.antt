@@ -1,5 +1,5 @@
 -- Laws of the copies of an element: built the last first along the lists that drive them, then put before the rest of their list.
-use Rattle.std.specs.Prelude.{◌≡◌, true, List, length, take}
+use Rattle.std.specs.Prelude.{◌≡◌, Option, Some, None, true, List, length, take}
 use Rattle.std.proofs.Math.Path.{refl, sym, ap, ap₂}
 use Rattle.std.proofs.Common.{subst, ◌∙◌, ne_eqb}
 use Rattle.std.proofs.Math.Option.{some}
@@ -16,7 +16,6 @@ use Rattle.arena.specs.NodeLaws.{tree_at-wrap}
 use Rattle.arena.specs.Cells.{Room, Grown}
 use Rattle.arena.specs.CellLaws.{tree-kept}
 use Rattle.words.specs.Lists.{within}
-use Rattle.words.specs.Code.Packed.{packed, built_of}
 use Rattle.arena.specs.Lists.{Means}
 use Rattle.rule_cells.specs.CellLaws.{pattern_at-variable, template_at-variable}
 use Rattle.environments.specs.Environment.{takes, entering, enter, result_by}
@@ -24,10 +23,9 @@ use Rattle.environments.specs.Entries.{field, entry_at, ellipsis_in, taking_of, 
 use Rattle.environments.specs.EntryLaws.{entry-low}
 use Rattle.environments.specs.BelowLaws.{below_true, below_at}
 use Rattle.environments.specs.TemplateCells.{leaf-agrees}
-use Rattle.words.specs.declared.packed.Built.{Built}
-use Rattle.words.specs.declared.packed.Built.TheVariants.{At, None}
-use Rattle.steps.specs.Build.{node_words, Paid, Unpaid, Waiting, result_at, agrees_at, copy_at, copy_agrees, Buildable, Gives, Stops, added, Turned, elements_at, ElementsUnpaid, ElementsBackwards, CopiesAgreed, CopiesStop, Backwards, Reversed, Copied}
-use Rattle.steps.specs.BuildLaws.{room-left, built-at, pays-is}
+use Rattle.steps.specs.declared.copy.Built.{Built}
+use Rattle.steps.specs.Build.{node_words, built, Paid, Unpaid, Waiting, result_at, agrees_at, copy_at, copy_agrees, Buildable, Gives, Stops, added, Turned, elements_at, ElementsUnpaid, ElementsBackwards, CopiesAgreed, CopiesStop, Backwards, Reversed, Copied}
+use Rattle.steps.specs.BuildLaws.{room-left, pays-is}
 use Rattle.steps.specs.ResultLaws.{copy-kept, copy-agrees-kept, buildable-left}
 
 -- ---- lists of copies
@@ -211,7 +209,7 @@ module _ (old : List ℕ) (top fuel : ℕ) (env : List ℕ) (w e c : ℕ) (ok : 
 
       module _ (two : List ℕ) (h g : ℕ) (b : Gives cur two list (left - 1) next w e h g) (far : length two ≡ length cur) where
         copy-paid : Paid (Copy k) cur two list (left - 1) h g
-        copy-paid = pays-is _ _ cur two list (left - 1) copy_is (At h g) b.paid
+        copy-paid = pays-is _ _ cur two list (left - 1) copy_is (built h g) b.paid
 
         pub copy-room : Room two h 3
         copy-room = turned-room (copy_at old env w e) old top fuel ok.room cur k list left inv.turned some-fuel two h g copy-paid (far ∙ inv.long)
@@ -234,13 +232,10 @@ module _ (old : List ℕ) (top fuel : ℕ) (env : List ℕ) (w e c : ℕ) (ok : 
                 long = end ∙ far ∙ inv.long;
               })
 
-  pub turning-ends : (cur : List ℕ) (k list left : ℕ) (table : List ℕ) → Turning old cur top fuel env w e c k list left table → c ≤ k → Backwards old cur top fuel env w e c (At list left)
+  pub turning-ends : (cur : List ℕ) (k list left : ℕ) (table : List ℕ) → Turning old cur top fuel env w e c k list left table → c ≤ k → Backwards old cur top fuel env w e c (built list left)
   turning-ends cur k list left table inv h =
       let z : k ≡ c = omega (arith, inv.among) in
       (subst (λ (n : ℕ). Turned (copy_at old env w e) old cur top fuel n list left) z inv.turned, subst (λ (n : ℕ). CopiesAgreed old env w e n) z inv.agreed)
-
-  pub backwards-packed : (new : List ℕ) (p list left : ℕ) → p ≡ packed list left → Backwards old new top fuel env w e c (At list left) → Backwards old new top fuel env w e c (built_of p)
-  backwards-packed new p list left q b = built-at (Backwards old new top fuel env w e c) old top fuel p list left ok.room (omega (arith, b.0.spent)) q b
 
 -- ---- elements of a list
 
@@ -294,7 +289,7 @@ module _ (old : List ℕ) (top fuel list w c : ℕ) (ok : Waiting old top fuel l
 
         module _ (two : List ℕ) (h g : ℕ) (b : Paid (tree_at cur first w) cur two at (left - 1) h g) (far : length two ≡ length cur) where
           element-paid : Paid (elements_at old list w k) cur two at (left - 1) h g
-          element-paid = pays-is _ _ cur two at (left - 1) element-at (At h g) b
+          element-paid = pays-is _ _ cur two at (left - 1) element-at (built h g) b
 
           pub element-room : Room two h 3
           element-room = turned-room (elements_at old list w) old top fuel ok.room cur k at left inv.turned some-fuel two h g element-paid (far ∙ inv.long)
@@ -313,9 +308,6 @@ module _ (old : List ℕ) (top fuel list w c : ℕ) (ok : Waiting old top fuel l
                 among = omega arith;
                 long = end ∙ far ∙ inv.long;
               })
-
-  pub elements-packed : (new : List ℕ) (p at left : ℕ) → p ≡ packed at left → Turned (elements_at old list w) old new top fuel c at left → ElementsBackwards old new top fuel list w c (built_of p)
-  elements-packed new p at left q t = built-at (ElementsBackwards old new top fuel list w c) old top fuel p at left ok.room (omega (arith, t.spent)) q t
 
 -- ---- a list turned round before a tail
 
@@ -402,11 +394,11 @@ module _ (old : List ℕ) (top list behind c : ℕ) (room : Room old top (3 * c)
 
 -- ---- the copies before the rest of their list
 
-module _ (old : List ℕ) (top fuel : ℕ) (env : List ℕ) (w e c : ℕ) (ok : Buildable old top fuel env w e) (mid : List ℕ) (list left : ℕ) (b : Backwards old mid top fuel env w e c (At list left)) (long : length mid ≡ length old) where
+module _ (old : List ℕ) (top fuel : ℕ) (env : List ℕ) (w e c : ℕ) (ok : Buildable old top fuel env w e) (mid : List ℕ) (list left : ℕ) (b : Backwards old mid top fuel env w e c (built list left)) (long : length mid ≡ length old) where
   pub reversed-asks : (Room mid list (3 * c)) × (list ≤ list) × (top ≤ list)
   reversed-asks = (room-left old mid top fuel list left (3 * c) long (omega (arith, b.0.most)) ok.room, omega arith, b.0.above)
 
-  copied : (new : List ℕ) (r : ℕ) → Reversed mid new list list top c r → Copied old new top fuel env w e c (At r left)
+  pub copied : (new : List ℕ) (r : ℕ) → Reversed mid new list list top c r → Copied old new top fuel env w e c (built r left)
   copied new r a =
       record {
         spent = b.0.spent;
@@ -422,9 +414,6 @@ module _ (old : List ℕ) (top fuel : ℕ) (env : List ℕ) (w e c : ℕ) (ok : 
             (tree-kept old mid top top 0 (omega arith) (omega arith) b.0.kept);
         agreed = b.1;
       }
-
-  pub copied-packed : (new : List ℕ) (r p : ℕ) → p ≡ packed r left → Reversed mid new list list top c r → Copied old new top fuel env w e c (built_of p)
-  copied-packed new r p q a = built-at (Copied old new top fuel env w e c) old top fuel p r left ok.room (omega (arith, b.0.spent)) q (copied new r a)
 
 -- ---- a variable that takes a list's elements
 
@@ -454,8 +443,8 @@ module _ (old : List ℕ) (top fuel : ℕ) (env : List ℕ) (w e c : ℕ) (ok : 
   unfolding copy_agrees
   listed-agrees = sym (below_true _ c (λ k. leaf-agrees old e _ refl (λ z. omega (arith, listed.variable)) (λ z. omega (arith, listed.variable)) _))
 
-  pub listed-backwards : (new : List ℕ) (r : Built) → ElementsBackwards old new top fuel list w c r → Backwards old new top fuel env w e c r
-  listed-backwards new (At l left) t = (
+  pub listed-backwards : (new : List ℕ) (r : Option Built) → ElementsBackwards old new top fuel list w c r → Backwards old new top fuel env w e c r
+  listed-backwards new (Some b) t = (
     record {
       spent = omega (arith, t.spent, added-cong _ _ c listed-copy);
       above = t.above;

@@ -1,5 +1,5 @@
 -- Laws of an element followed by `...`: the rest of its list is built first, then its copies before that.
-use Rattle.std.specs.Prelude.{◌≡◌, true, ◌&&◌, List, ℕ, ◌+◌, length}
+use Rattle.std.specs.Prelude.{◌≡◌, Option, Some, None, true, ◌&&◌, List, ℕ, ◌+◌, length}
 use Rattle.std.proofs.Math.Path.{refl}
 use Rattle.std.proofs.Common.{sym, ap, subst, ◌∙◌, arith}
 use Rattle.std.proofs.Math.Bool.{false}
@@ -16,9 +16,8 @@ use Rattle.environments.specs.Lengths.{driving, Copies, Differs}
 use Rattle.environments.specs.BelowLaws.{below-cong}
 use Rattle.environments.specs.TemplateCells.{ellipsis-is}
 use Rattle.environments.specs.EnvironmentLaws.{copies-cong}
-use Rattle.words.specs.declared.packed.Built.{Built}
-use Rattle.words.specs.declared.packed.Built.TheVariants.{At, None}
-use Rattle.steps.specs.Build.{result_at, agrees_at, copy_at, copy_agrees, Buildable, Gives, Stops, Made, added, Copied}
+use Rattle.steps.specs.declared.copy.Built.{Built}
+use Rattle.steps.specs.Build.{built, result_at, agrees_at, copy_at, copy_agrees, Buildable, Gives, Stops, Made, added, Copied}
 use Rattle.steps.specs.ResultLaws.{both, copy-kept, copy-agrees-kept, buildable-left}
 use Rattle.steps.specs.CopyLaws.{produce-copies, size-all-copies, added-cong}
 
@@ -80,7 +79,7 @@ module _ (old : List ℕ) (top fuel : ℕ) (env : List ℕ) (w t tag : ℕ) (tag
             kept = take_less new one top s g.paid.above a.kept ∙ g.paid.kept;
           }
 
-      made-ellipsis : (new : List ℕ) (r l : ℕ) → Copied one new s f env w head c (At r l) → Made old new top fuel env w t (At r l)
+      made-ellipsis : (new : List ℕ) (r l : ℕ) → Copied one new s f env w head c (built r l) → Made old new top fuel env w t (built r l)
       made-ellipsis new r l a =
           record {
             paid =
@@ -97,6 +96,6 @@ module _ (old : List ℕ) (top fuel : ℕ) (env : List ℕ) (w t tag : ℕ) (tag
             agrees = agrees-ellipsis ∙ rw (← agreed-kept, a.agreed, g.agrees) refl;
           }
 
-      pub made-copies : (new : List ℕ) (r : Built) → Copied one new s f env w head c r → Made old new top fuel env w t r
-      made-copies new (At r l) a = made-ellipsis new r l a
+      pub made-copies : (new : List ℕ) (r : Option Built) → Copied one new s f env w head c r → Made old new top fuel env w t r
+      made-copies new (Some b) a = made-ellipsis new b.at b.left a
       made-copies new None a = ellipsis-costly new a

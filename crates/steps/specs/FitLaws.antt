@@ -1,5 +1,5 @@
 -- Laws of matching on cells, one for each way through the code.
-use Rattle.std.specs.Prelude.{◌≡◌, Bool, true, ◌&&◌, List, ◌⊎◌, ℕ, suc, ◌≤◌, leb, length}
+use Rattle.std.specs.Prelude.{◌≡◌, Some, None, Bool, true, ◌&&◌, List, ◌⊎◌, ℕ, suc, ◌≤◌, leb, length}
 use Rattle.std.proofs.Math.Path.{refl, sym, ap}
 use Rattle.std.proofs.Common.{ap₂, ◌∙◌, inl, inr}
 use Rattle.std.proofs.Math.Bool.{false}
@@ -20,7 +20,6 @@ use Rattle.resolution.specs.Names.{Agrees}
 use Rattle.arena.specs.ListLaws.{tree-cases, no-pair, rest_some}
 use Rattle.rule_cells.specs.Cells.{constant_before, literal_at, pattern_at, rule_at, rules_at}
 use Rattle.rule_cells.specs.CellLaws.{pattern_at-variable, pattern_at-literal, pattern_at-wildcard, pattern_at-constant, pattern_at-pair, pattern_at-ellipsis, pattern_at-empty, rules_at-none, rules_at-more}
-use Rattle.environments.specs.declared.shares.Enough.TheVariants.{Yes, No}
 use Rattle.environments.specs.Parts.{LooksAhead}
 use Rattle.environments.specs.ShareLaws.{AheadBy, takes_none, takes_one, node-pair, ahead_more}
 use Rattle.steps.specs.Fits.{Fits, LiteralFits, ConstantFits, rule_or, FirstFit}
@@ -184,10 +183,10 @@ module _ (work : List ℕ) (p list w : ℕ) where
     unfolding fit enough
     counted-first = rw (pattern_at-ellipsis work p ellipsis) (both_fit-fits _ _)
 
-    pub each-short : LooksAhead work p list No → Fits work p list w false
+    pub each-short : LooksAhead work p list None → Fits work p list w false
     each-short short = sym (counted-first ∙ rw (short w) refl)
 
-    pub each-begins : (ahead : ℕ) → LooksAhead work p list (Yes ahead) → Matched work p list w list ahead
+    pub each-begins : (ahead : ℕ) → LooksAhead work p list (Some ahead) → Matched work p list w list ahead
     each-begins ahead enough = record { is = counted-first ∙ rw (enough.0 w) refl; is-ahead = enough.1.is }
 
   module _ (node ahead kind : ℕ) (kind-is : kind ≡ word_at work ahead 3) (inv : Matched work p list w node ahead) where
@@ -248,16 +247,16 @@ module _ (work : List ℕ) (rules u w : ℕ) where
   tried-begins = record { is = refl; low = omega arith }
 
   module _ (rule : ℕ) (inv : Tried work rules u w rule) where
-    pub tried-ends : rule ≡ 0 → FirstFit work rules u w 0
+    pub tried-ends : rule ≡ 0 → FirstFit work rules u w None
     unfolding rule_or first_fit
-    tried-ends e = record { is = sym (inv.is ∙ rw (rules_at-none work rule e) refl); low = omega arith }
+    tried-ends e = record { is = sym (inv.is ∙ rw (rules_at-none work rule e) refl); low = tt }
 
     module _ (p : ℕ) (b : Bool) (more : rule ≡ 0 → ⊥) (p-is : p ≡ reference_at work rule 3) (fitted : Fits work p u w b) where
-      pub tried-fits : b ≡ true → FirstFit work rules u w rule
+      pub tried-fits : b ≡ true → FirstFit work rules u w (Some rule)
       unfolding rule_or first_fit rule_at
       tried-fits e =
           record {
-            is = rw (ne_eqb rule 0 more) (sym (inv.is ∙ rw (rules_at-more work rule (omega arith)) (or_next-yes _ _ _ _ (ap (λ (q : ℕ). (fit (pattern_at work q) (tree_at work u w)).1) (sym p-is) ∙ sym fitted ∙ e))));
+            is = sym (inv.is ∙ rw (rules_at-more work rule (omega arith)) (or_next-yes _ _ _ _ (ap (λ (q : ℕ). (fit (pattern_at work q) (tree_at work u w)).1) (sym p-is) ∙ sym fitted ∙ e)));
             low = inv.low;
           }
 

@@ -1,16 +1,15 @@
 -- Laws of building what a template gives in an environment, one for each way through the code.
-use Rattle.std.specs.Prelude.{◌≡◌, Bool, true, false, ◌&&◌, List, ℕ, ◌+◌, ◌*◌, ◌-◌, ◌≤◌, length, take}
+use Rattle.std.specs.Prelude.{◌≡◌, Option, Some, None, Bool, true, false, ◌&&◌, List, ℕ, ◌+◌, ◌*◌, ◌-◌, ◌≤◌, length, take}
 use Rattle.std.proofs.Math.Path.{refl, sym, fun_ext}
 use Rattle.std.proofs.Common.{ap, subst, ◌∙◌, arith}
 use Rattle.std.proofs.lemmas.Bool.{false≢true}
 use Rattle.datum.specs.Constant.{Constant}
 use Rattle.recipe.specs.Tree.{Tree, empty, constant, name, pair, size}
-use Rattle.expansion.specs.Rules.{Template, constant_t, pair_t, ellipsis_t}
+use Rattle.expansion.specs.Rules.{constant_t}
 use Rattle.arena.specs.Arena.{word_at, reference_at, name_at, tree_at}
 use Rattle.arena.specs.ArenaLaws.{take_less, word_at-below, reference_at-most, reference_at-below}
 use Rattle.arena.specs.Cells.{Room, Grown}
 use Rattle.arena.specs.CellLaws.{tree-kept}
-use Rattle.words.specs.Code.Packed.{packed, built_of}
 use Rattle.rule_cells.specs.Cells.{constant_before, template_at}
 use Rattle.rule_cells.specs.CellLaws.{pattern_at-below, template_at-below, template_at-variable, template_at-insert, template_at-constant, template_at-empty}
 use Rattle.environments.specs.declared.environment.Entry.{Entry}
@@ -20,10 +19,9 @@ use Rattle.environments.specs.Entries.{field, entry_at, taken_in, ellipsis_in, t
 use Rattle.environments.specs.EntryLaws.{entry-low}
 use Rattle.environments.specs.LengthLaws.{taken_is}
 use Rattle.environments.specs.TemplateCells.{leaf-agrees, pair_is}
-use Rattle.words.specs.declared.packed.Built.{Built}
-use Rattle.words.specs.declared.packed.Built.TheVariants.{At, None}
-use Rattle.steps.specs.Build.{node_words, Fresh, Paid, Pays, Waiting, result_at, agrees_at, copy_at, copy_agrees, Buildable, Gives, Stops, Made}
-use Rattle.steps.specs.BuildLaws.{fresh-empty, fresh-constant, room-left, built-at, pays-is, unpaid-none, paid-one, pair-most, paid-pair}
+use Rattle.steps.specs.declared.copy.Built.{Built}
+use Rattle.steps.specs.Build.{node_words, built, Fresh, Paid, Pays, Waiting, result_at, agrees_at, copy_at, copy_agrees, Buildable, Gives, Stops, Made}
+use Rattle.steps.specs.BuildLaws.{fresh-empty, fresh-constant, room-left, pays-is, unpaid-none, paid-one, pair-most, paid-pair}
 
 -- ---- what stands below the top
 
@@ -70,16 +68,6 @@ module _ (old new : List ℕ) (top : ℕ) (kept : take top new ≡ take top old)
   unfolding copy_agrees
   copy-agrees-kept env w e i h l u = rw (environment-kept env w h u, template-kept e l) refl
 
--- what an answer says
-pub gives_at : (old new : List ℕ) (top fuel : ℕ) (env : List ℕ) (w t : ℕ) (r : Built) (root left : ℕ) → r ≡ At root left → Made old new top fuel env w t r → Gives old new top fuel env w t root left
-gives_at old new top fuel env w t r root left e m = subst (Made old new top fuel env w t) e m
-
-pub stops_at : (old new : List ℕ) (top fuel : ℕ) (env : List ℕ) (w t : ℕ) (r : Built) → r ≡ None → Made old new top fuel env w t r → Stops old new top fuel env w t
-stops_at old new top fuel env w t r e m = subst (Made old new top fuel env w t) e m
-
-pub made-packed : (old new : List ℕ) (top fuel : ℕ) (env : List ℕ) (w t p root left : ℕ) → Buildable old top fuel env w t → p ≡ packed root left → Gives old new top fuel env w t root left → Made old new top fuel env w t (built_of p)
-made-packed old new top fuel env w t p root left ok e g = built-at (Made old new top fuel env w t) old top fuel p root left ok.room (omega (arith, g.paid.spent)) e g
-
 -- both of two tests
 pub both : (a b : Bool) → (a && b) ≡ true → (a ≡ true) × (b ≡ true)
 both true b e = (refl, e)
@@ -110,9 +98,9 @@ module _ (old : List ℕ) (top fuel : ℕ) (env : List ℕ) (w t tag : ℕ) (tag
   Of s = result_at old env w s
 
   -- a tree that a cell without parts gives
-  made_of : (A : Tree) → (A ≡ Of t) → (tag ≡ 6 → ⊥) → (tag ≡ 7 → ⊥) → (new : List ℕ) (r : Built) → Pays A old new top fuel r → Made old new top fuel env w t r
+  made_of : (A : Tree) → (A ≡ Of t) → (tag ≡ 6 → ⊥) → (tag ≡ 7 → ⊥) → (new : List ℕ) (r : Option Built) → Pays A old new top fuel r → Made old new top fuel env w t r
   unfolding agrees_at
-  made_of A e n6 n7 new (At root left) p = record { paid = pays-is A (Of t) old new top fuel e (At root left) p; agrees = sym (leaf-agrees old t tag tag_is n6 n7 _) }
+  made_of A e n6 n7 new (Some b) p = record { paid = pays-is A (Of t) old new top fuel e (Some b) p; agrees = sym (leaf-agrees old t tag tag_is n6 n7 _) }
   made_of A e n6 n7 new None p = record { over = λ a. (pays-is A (Of t) old new top fuel e None p).over; kept = p.kept }
 
   module _ (k d node : ℕ) (e : tag ≡ 1) (k-is : k ≡ word_at old t 3) (d-is : d ≡ word_at old t 2) (node-is : node ≡ taken_in env k d) where
@@ -124,27 +112,27 @@ module _ (old : List ℕ) (top fuel : ℕ) (env : List ℕ) (w t tag : ℕ) (tag
     unfolding taken_in field
     variable-waits = record { room = ok.room; node-below = rw node-is (ok.under _); wrap-below = ok.wrap-below }
 
-    pub made-variable : (new : List ℕ) (r : Built) → Pays (tree_at old node w) old new top fuel r → Made old new top fuel env w t r
+    pub made-variable : (new : List ℕ) (r : Option Built) → Pays (tree_at old node w) old new top fuel r → Made old new top fuel env w t r
     made-variable new r p = made_of (tree_at old node w) variable-is (λ z. omega arith) (λ z. omega arith) new r p
 
   pub made_none : fuel ≡ 0 → Made old old top fuel env w t None
   made_none e = record { over = λ a. (unpaid-none (Of t) old top fuel e).over; kept = refl }
 
   module _ (left : ℕ) (some-fuel : fuel ≡ 0 → ⊥) (left_is : left ≡ fuel - 1) where
-    made_one : (A : Tree) (new : List ℕ) (r : ℕ) → (size A ≡ 1) → (A ≡ Of t) → (tag ≡ 6 → ⊥) → (tag ≡ 7 → ⊥) → Fresh A old new top r → Made old new top fuel env w t (At r left)
-    made_one A new r one e n6 n7 f = made_of A e n6 n7 new (At r left) (paid-one A old new top fuel r left some-fuel left_is one f)
+    made_one : (A : Tree) (new : List ℕ) (r : ℕ) → (size A ≡ 1) → (A ≡ Of t) → (tag ≡ 6 → ⊥) → (tag ≡ 7 → ⊥) → Fresh A old new top r → Made old new top fuel env w t (built r left)
+    made_one A new r one e n6 n7 f = made_of A e n6 n7 new (built r left) (paid-one A old new top fuel r left some-fuel left_is one f)
 
-    pub made-insert : (node v : ℕ) (new : List ℕ) (r : ℕ) → tag ≡ 2 → node ≡ reference_at old t 3 → v ≡ reference_at old t 2 → Fresh (name (name_at old node v)) old new top r → Made old new top fuel env w t (At r left)
+    pub made-insert : (node v : ℕ) (new : List ℕ) (r : ℕ) → tag ≡ 2 → node ≡ reference_at old t 3 → v ≡ reference_at old t 2 → Fresh (name (name_at old node v)) old new top r → Made old new top fuel env w t (built r left)
     unfolding result_at result_by size
     made-insert node v new r e node-is v-is f =
         made_one (name (name_at old node v)) new r refl (rw (template_at-insert old t (sym tag_is ∙ e), ← node-is, ← v-is) refl) (λ z. omega arith) (λ z. omega arith) f
 
-    pub made-constant : (k a b : ℕ) (new : List ℕ) (r : ℕ) → tag ≡ 4 → k ≡ word_at old t 4 → a ≡ word_at old t 3 → b ≡ word_at old t 2 → Grown (λ v. constant (record { kind = k; first = a; second = b })) old new top r → Made old new top fuel env w t (At r left)
+    pub made-constant : (k a b : ℕ) (new : List ℕ) (r : ℕ) → tag ≡ 4 → k ≡ word_at old t 4 → a ≡ word_at old t 3 → b ≡ word_at old t 2 → Grown (λ v. constant (record { kind = k; first = a; second = b })) old new top r → Made old new top fuel env w t (built r left)
     unfolding result_at result_by constant_before size
     made-constant k a b new r e k-is a-is b-is g =
         made_one (constant (record { kind = k; first = a; second = b })) new r refl (rw (template_at-constant old t (sym tag_is ∙ e), k-is, a-is, b-is) refl) (λ z. omega arith) (λ z. omega arith) (fresh-constant old new top r k a b g)
 
-    pub made-empty : (new : List ℕ) (r : ℕ) → (tag ≡ 1 → ⊥) → (tag ≡ 2 → ⊥) → (tag ≡ 4 → ⊥) → (tag ≡ 6 → ⊥) → (tag ≡ 7 → ⊥) → Grown (λ v. empty) old new top r → Made old new top fuel env w t (At r left)
+    pub made-empty : (new : List ℕ) (r : ℕ) → (tag ≡ 1 → ⊥) → (tag ≡ 2 → ⊥) → (tag ≡ 4 → ⊥) → (tag ≡ 6 → ⊥) → (tag ≡ 7 → ⊥) → Grown (λ v. empty) old new top r → Made old new top fuel env w t (built r left)
     unfolding result_at result_by size
     made-empty new r n1 n2 n4 n6 n7 g =
         made_one empty new r refl
@@ -215,17 +203,17 @@ module _ (old : List ℕ) (top fuel : ℕ) (env : List ℕ) (w t tag : ℕ) (tag
 
         module _ (two : List ℕ) (h g : ℕ) (a : Gives one two s f env w head h g) where
           head-made : Paid (result_at old env w head) one two s f h g
-          head-made = pays-is _ _ one two s f of-head (At h g) a.paid
+          head-made = pays-is _ _ one two s f of-head (built h g) a.paid
 
           pub pair-room : length two ≡ length one → Room two h 3
           pair-room far =
               room-left old two top fuel h g 3 (far ∙ long) (omega (arith, pair-most (result_at old env w head) (result_at old env w rest) old one top fuel left some-fuel left_is s f b.paid two h g head-made)) ok.room
 
-          pub made_pair : (new : List ℕ) (r : ℕ) → Grown (λ v. pair (tree_at two h v) (tree_at two s v)) two new h r → Made old new top fuel env w t (At r g)
+          pub made_pair : (new : List ℕ) (r : ℕ) → Grown (λ v. pair (tree_at two h v) (tree_at two s v)) two new h r → Made old new top fuel env w t (built r g)
           made_pair new r p =
               record {
                 paid =
-                    pays-is _ _ old new top fuel of_pair (At r g)
+                    pays-is _ _ old new top fuel of_pair (built r g)
                     (paid-pair (result_at old env w head) (result_at old env w rest) old one top fuel left some-fuel left_is s f b.paid two h g head-made new r p);
                 agrees = agrees-pair ∙ rw (← agrees-head, a.agrees, b.agrees) refl;
               }

@@ -5,16 +5,13 @@ ghost use Rattle.steps.specs.Apply.{Transcribing, Transcribed, Stepping, Stepped
 use crate::{build, fits};
 use arena::cells;
 use environments::{agree, bind, environment};
-use words::packed;
-use words::packed::Built;
+use words::ground::Ground;
 
-// Grounds 16, 17 and 18, or the result's root and its items.
+// A result: its root, and how many items it has.
 #[derive(Clone, Copy)]
-pub enum Applied {
-    NoRule,
-    Differ,
-    Costly,
-    Done(u32, u32),
+pub struct Applied {
+    pub root: u32,
+    pub cost: u32,
 }
 
 // A template in an environment; `limit` is the fuel left. Where there is no result, all lengths are compared before the fuel is
@@ -26,28 +23,37 @@ fn transcribe(
     w: u32,
     t: u32,
     limit: u32,
-) -> Applied
+) -> Result<Applied, Ground>
     requires { Transcribing work.old top env.now w t limit }
     ensures { Transcribed work.old work.new top env.now w t limit result }
 {
-    let Built::At(root, left) = packed::parts(build::build(work, top, limit, env, w, t)) else {
+    let Some(built) = build::build(work, top, limit, env, w, t) else {
         if agree::lengths_agree(work, env, t) {
-            return Applied::Costly;
+            return Err(Ground::OutOfFuel);
         }
-        return Applied::Differ;
+        return Err(Ground::UnequalLists);
     };
-    Applied::Done(root, limit - left)
+    Ok(Applied {
+        root: built.at,
+        cost: limit - built.left,
+    })
 }
 
 // The rules at a use, which waits under w with the step's mark; `limit` is the fuel left.
-pub fn apply(work: &mut [u32], top: u32, rules: u32, u: u32, w: u32, limit: u32) -> Applied
+pub fn apply(
+    work: &mut [u32],
+    top: u32,
+    rules: u32,
+    u: u32,
+    w: u32,
+    limit: u32,
+) -> Result<Applied, Ground>
     requires { Stepping work.old top rules u w limit }
     ensures { Stepped work.old work.new top rules u w limit result }
 {
-    let rule = fits::first_fit(work, rules, u, w);
-    if rule == 0 {
-        return Applied::NoRule;
-    }
+    let Some(rule) = fits::first_fit(work, rules, u, w) else {
+        return Err(Ground::NoRule);
+    };
     let p = cells::reference(work, rule, rule_cells::cells::PATTERN);
     let t = cells::reference(work, rule, rule_cells::cells::TEMPLATE);
     let mut env = [0u32; environment::WORDS];

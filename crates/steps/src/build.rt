@@ -1,21 +1,17 @@
 // A step's result, built into fresh nodes above the top, the root last, while there is fuel for each item of it (ground 18) and
 // the lists that drive copies are of one length (ground 17). An inserted name gets the wrap of its cell, joined with its own.
 //
-// The answer is one word of 64 bits, handed back in a register: the root's reference, which is the new top, over the fuel that is
-// left (`packed::pair`); or `packed::NONE`, where there is not fuel enough or driving lists differ in length: which of the two, who
-// asks finds out (ground 17 before 18).
+// There is no result where there is not fuel enough or driving lists differ in length: which of the two, who asks finds out (ground 17
+// before 18).
 
 ghost use Rattle.std.specs.Prelude.{◌≡◌};
 ghost use Rattle.arena.specs.Arena.{word_at};
-ghost use Rattle.words.specs.Code.Packed.{built_of};
 ghost use Rattle.steps.specs.Build.{Buildable, Made, Backwards, Copied};
 
 use crate::copy;
+use crate::copy::Built;
 use arena::cells;
-use environments::lengths::Count;
 use environments::{environment, lengths};
-use words::packed;
-use words::packed::Built;
 
 // What a template's cell without parts gives.
 fn build_leaf(
@@ -25,9 +21,9 @@ fn build_leaf(
     env: &[u32; environment::WORDS],
     w: u32,
     t: u32,
-) -> u64
+) -> Option<Built>
     requires { (Buildable work.old top fuel env.now w t) × (word_at work.old t 1 ≡ 6 → ⊥) × (word_at work.old t 1 ≡ 7 → ⊥) }
-    ensures { Made work.old work.new top fuel env.now w t (built_of result) }
+    ensures { Made work.old work.new top fuel env.now w t result }
 {
     let tag = cells::word(work, t, rule_cells::cells::TAG);
     if tag == rule_cells::cells::VARIABLE {
@@ -36,22 +32,28 @@ fn build_leaf(
         let node = environment::taken(env, k, d);
         return copy::copy_tree(work, top, fuel, node, w);
     }
-    if fuel == 0 {
-        return packed::NONE;
-    }
-    let left = fuel - 1;
+    let left = fuel.checked_sub(1)?;
     if tag == rule_cells::cells::NAME {
         let node = cells::reference(work, t, rule_cells::cells::NODE);
         let wrap = cells::reference(work, t, rule_cells::cells::WRAP);
-        return packed::pair(copy::copy_name(work, top, node, wrap), left);
+        return Some(Built {
+            at: copy::copy_name(work, top, node, wrap),
+            left,
+        });
     }
     if tag == rule_cells::cells::CONSTANT {
         let kind = cells::word(work, t, rule_cells::cells::KIND);
         let a = cells::word(work, t, rule_cells::cells::FIRST);
         let b = cells::word(work, t, rule_cells::cells::SECOND);
-        return packed::pair(cells::put_constant(work, top, kind, a, b), left);
+        return Some(Built {
+            at: cells::put_constant(work, top, kind, a, b),
+            left,
+        });
     }
-    packed::pair(cells::put_empty(work, top), left)
+    Some(Built {
+        at: cells::put_empty(work, top),
+        left,
+    })
 }
 
 // What a part of a template gives. A cell without parts is built in place, without a call more.
@@ -63,9 +65,9 @@ fn build_part(
     env: &[u32; environment::WORDS],
     w: u32,
     t: u32,
-) -> u64
+) -> Option<Built>
     requires { Buildable work.old top fuel env.now w t }
-    ensures { Made work.old work.new top fuel env.now w t (built_of result) }
+    ensures { Made work.old work.new top fuel env.now w t result }
 {
     let tag = cells::word(work, t, rule_cells::cells::TAG);
     if tag < rule_cells::cells::PAIR {
@@ -86,9 +88,9 @@ pub fn build(
     env: &[u32; environment::WORDS],
     w: u32,
     t: u32,
-) -> u64
+) -> Option<Built>
     requires { Buildable work.old top fuel env.now w t }
-    ensures { Made work.old work.new top fuel env.now w t (built_of result) }
+    ensures { Made work.old work.new top fuel env.now w t result }
 {
     let tag = cells::word(work, t, rule_cells::cells::TAG);
     if tag == rule_cells::cells::ELLIPSIS {
@@ -97,18 +99,15 @@ pub fn build(
     if tag != rule_cells::cells::PAIR {
         return build_leaf(work, top, fuel, env, w, t);
     }
-    if fuel == 0 {
-        return packed::NONE;
-    }
+    let spare = fuel.checked_sub(1)?;
     let first = cells::reference(work, t, rule_cells::cells::HEAD);
     let rest = cells::reference(work, t, rule_cells::cells::REST);
-    let Built::At(tail, left) = packed::parts(build_part(work, top, fuel - 1, env, w, rest)) else {
-        return packed::NONE;
-    };
-    let Built::At(head, spare) = packed::parts(build_part(work, tail, left, env, w, first)) else {
-        return packed::NONE;
-    };
-    packed::pair(cells::put_pair(work, head, head, tail), spare)
+    let tail = build_part(work, top, spare, env, w, rest)?;
+    let head = build_part(work, tail.at, tail.left, env, w, first)?;
+    Some(Built {
+        at: cells::put_pair(work, head.at, head.at, tail.at),
+        left: head.left,
+    })
 }
 
 // What an element followed by `...` gives, before the rest of its list.
@@ -120,19 +119,17 @@ fn build_ellipsis(
     env: &[u32; environment::WORDS],
     w: u32,
     t: u32,
-) -> u64
+) -> Option<Built>
     requires { (Buildable work.old top fuel env.now w t) × (word_at work.old t 1 ≡ 7) }
-    ensures { Made work.old work.new top fuel env.now w t (built_of result) }
+    ensures { Made work.old work.new top fuel env.now w t result }
 {
     let first = cells::reference(work, t, rule_cells::cells::HEAD);
     let rest = cells::reference(work, t, rule_cells::cells::REST);
-    let Count::Of(c) = lengths::copies(work, env, first) else {
-        return packed::NONE;
+    let Ok(c) = lengths::copies(work, env, first) else {
+        return None;
     };
-    let Built::At(tail, left) = packed::parts(build_part(work, top, fuel, env, w, rest)) else {
-        return packed::NONE;
-    };
-    build_copies(work, tail, left, env, w, first, c)
+    let tail = build_part(work, top, fuel, env, w, rest)?;
+    build_copies(work, tail.at, tail.left, env, w, first, c)
 }
 
 // The copies of an element, the last first.
@@ -145,29 +142,22 @@ fn build_backwards(
     w: u32,
     e: u32,
     c: u32,
-) -> u64
+) -> Option<Built>
     requires { Buildable work.old top fuel env.now w e }
-    ensures { Backwards work.old work.new top fuel env.now w e c (built_of result) }
+    ensures { Backwards work.old work.new top fuel env.now w e c result }
 {
     let mut table = [0u32; environment::WORDS];
     let moving = environment::begin(env, &mut table);
     let mut list = top;
     let mut left = fuel;
-    let mut k = 0;
-    while k < c {
-        if left == 0 {
-            return packed::NONE;
-        }
+    for _ in 0..c {
+        let spare = left.checked_sub(1)?;
         environment::enter(work, &mut table, moving);
-        let word = build_part(work, list, left - 1, &table, w, e);
-        let Built::At(head, spare) = packed::parts(word) else {
-            return packed::NONE;
-        };
-        list = cells::put_pair(work, head, head, list);
-        left = spare;
-        k += 1;
+        let head = build_part(work, list, spare, &table, w, e)?;
+        list = cells::put_pair(work, head.at, head.at, list);
+        left = head.left;
     }
-    packed::pair(list, left)
+    Some(Built { at: list, left })
 }
 
 // The copies of an element, the last first. Those of a variable that is itself an element of the pattern are its list's elements.
@@ -180,9 +170,9 @@ fn build_elements(
     w: u32,
     e: u32,
     c: u32,
-) -> u64
+) -> Option<Built>
     requires { Buildable work.old top fuel env.now w e }
-    ensures { Backwards work.old work.new top fuel env.now w e c (built_of result) }
+    ensures { Backwards work.old work.new top fuel env.now w e c result }
 {
     if !environment::is_listed(work, env, e) {
         return build_backwards(work, top, fuel, env, w, e, c);
@@ -202,12 +192,13 @@ fn build_copies(
     w: u32,
     e: u32,
     c: u32,
-) -> u64
+) -> Option<Built>
     requires { Buildable work.old top fuel env.now w e }
-    ensures { Copied work.old work.new top fuel env.now w e c (built_of result) }
+    ensures { Copied work.old work.new top fuel env.now w e c result }
 {
-    let Built::At(list, left) = packed::parts(build_elements(work, top, fuel, env, w, e, c)) else {
-        return packed::NONE;
-    };
-    packed::pair(copy::put_reversed(work, list, list, top, c), left)
+    let list = build_elements(work, top, fuel, env, w, e, c)?;
+    Some(Built {
+        at: copy::put_reversed(work, list.at, list.at, top, c),
+        left: list.left,
+    })
 }

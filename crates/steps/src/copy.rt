@@ -1,16 +1,20 @@
 // Trees of the use, copied into fresh nodes above the top while there is fuel for each item (ground 18), and lists turned round.
-// A name from the use gets the use's pending wrap, joined with its own. The answer is one word, as in `build`.
+// A name from the use gets the use's pending wrap, joined with its own.
 
 ghost use Rattle.std.specs.Prelude.{◌≡◌, ◌*◌, ◌≤◌};
 ghost use Rattle.recipe.specs.Tree.{name};
 ghost use Rattle.arena.specs.Arena.{word_at, name_at, tree_at};
 ghost use Rattle.arena.specs.Cells.{Room};
-ghost use Rattle.words.specs.Code.Packed.{built_of};
 ghost use Rattle.steps.specs.Build.{Fresh, Waiting, Pays, ElementsBackwards, Reversed};
 
 use arena::{cells, lists, origins};
-use words::packed;
-use words::packed::Built;
+
+// The root of what was built, which is the new top, and the fuel that is left. There is none where there is not fuel enough.
+#[derive(Clone, Copy)]
+pub struct Built {
+    pub at: u32,
+    pub left: u32,
+}
 
 // A fresh name from a name's node and a wrap that waits on it.
 pub fn copy_name(work: &mut [u32], top: u32, node: u32, w: u32) -> u32
@@ -27,31 +31,37 @@ pub fn copy_name(work: &mut [u32], top: u32, node: u32, w: u32) -> u32
 }
 
 // A fresh copy of a node that is no pair.
-fn copy_leaf(work: &mut [u32], top: u32, fuel: u32, node: u32, w: u32) -> u64
+fn copy_leaf(work: &mut [u32], top: u32, fuel: u32, node: u32, w: u32) -> Option<Built>
     requires { (Waiting work.old top fuel node w) × (word_at work.old node 3 ≡ 4 → ⊥) }
-    ensures { Pays (tree_at work.old node w) work.old work.new top fuel (built_of result) }
+    ensures { Pays (tree_at work.old node w) work.old work.new top fuel result }
 {
-    if fuel == 0 {
-        return packed::NONE;
-    }
-    let left = fuel - 1;
+    let left = fuel.checked_sub(1)?;
     let kind = cells::word(work, node, cells::KIND);
     if kind == cells::EMPTY {
-        return packed::pair(cells::put_empty(work, top), left);
+        return Some(Built {
+            at: cells::put_empty(work, top),
+            left,
+        });
     }
     if kind == cells::NAME {
-        return packed::pair(copy_name(work, top, node, w), left);
+        return Some(Built {
+            at: copy_name(work, top, node, w),
+            left,
+        });
     }
     let a = cells::word(work, node, cells::FIRST);
     let b = cells::word(work, node, cells::SECOND);
-    packed::pair(cells::put_constant(work, top, kind, a, b), left)
+    Some(Built {
+        at: cells::put_constant(work, top, kind, a, b),
+        left,
+    })
 }
 
 // A fresh copy of a part of a tree. A part that is no pair is copied in place, without a call more.
 #[cycle(copy_part_copy_tree)]
-fn copy_part(work: &mut [u32], top: u32, fuel: u32, node: u32, w: u32) -> u64
+fn copy_part(work: &mut [u32], top: u32, fuel: u32, node: u32, w: u32) -> Option<Built>
     requires { Waiting work.old top fuel node w }
-    ensures { Pays (tree_at work.old node w) work.old work.new top fuel (built_of result) }
+    ensures { Pays (tree_at work.old node w) work.old work.new top fuel result }
 {
     if cells::word(work, node, cells::KIND) == cells::PAIR {
         return copy_tree(work, top, fuel, node, w);
@@ -61,50 +71,48 @@ fn copy_part(work: &mut [u32], top: u32, fuel: u32, node: u32, w: u32) -> u64
 
 // A fresh copy of a tree, its tail before its head.
 #[cycle(copy_part_copy_tree)]
-pub fn copy_tree(work: &mut [u32], top: u32, fuel: u32, node: u32, w: u32) -> u64
+pub fn copy_tree(work: &mut [u32], top: u32, fuel: u32, node: u32, w: u32) -> Option<Built>
     requires { Waiting work.old top fuel node w }
-    ensures { Pays (tree_at work.old node w) work.old work.new top fuel (built_of result) }
+    ensures { Pays (tree_at work.old node w) work.old work.new top fuel result }
 {
     if cells::word(work, node, cells::KIND) != cells::PAIR {
         return copy_leaf(work, top, fuel, node, w);
     }
-    if fuel == 0 {
-        return packed::NONE;
-    }
+    let spare = fuel.checked_sub(1)?;
     let first = cells::reference(work, node, cells::HEAD);
     let rest = cells::reference(work, node, cells::TAIL);
-    let Built::At(tail, left) = packed::parts(copy_part(work, top, fuel - 1, rest, w)) else {
-        return packed::NONE;
-    };
-    let Built::At(head, spare) = packed::parts(copy_part(work, tail, left, first, w)) else {
-        return packed::NONE;
-    };
-    packed::pair(cells::put_pair(work, head, head, tail), spare)
+    let tail = copy_part(work, top, spare, rest, w)?;
+    let head = copy_part(work, tail.at, tail.left, first, w)?;
+    Some(Built {
+        at: cells::put_pair(work, head.at, head.at, tail.at),
+        left: head.left,
+    })
 }
 
 // The first c elements of a list, copied, the last first.
-pub fn copy_elements(work: &mut [u32], top: u32, fuel: u32, list: u32, w: u32, c: u32) -> u64
+pub fn copy_elements(
+    work: &mut [u32],
+    top: u32,
+    fuel: u32,
+    list: u32,
+    w: u32,
+    c: u32,
+) -> Option<Built>
     requires { Waiting work.old top fuel list w }
-    ensures { ElementsBackwards work.old work.new top fuel list w c (built_of result) }
+    ensures { ElementsBackwards work.old work.new top fuel list w c result }
 {
     let mut at = top;
     let mut node = list;
     let mut left = fuel;
-    let mut k = 0;
-    while k < c {
-        if left == 0 {
-            return packed::NONE;
-        }
+    for _ in 0..c {
+        let spare = left.checked_sub(1)?;
         let first = lists::first(work, node);
-        let Built::At(head, spare) = packed::parts(copy_part(work, at, left - 1, first, w)) else {
-            return packed::NONE;
-        };
+        let head = copy_part(work, at, spare, first, w)?;
         node = lists::rest(work, node);
-        at = cells::put_pair(work, head, head, at);
-        left = spare;
-        k += 1;
+        at = cells::put_pair(work, head.at, head.at, at);
+        left = head.left;
     }
-    packed::pair(at, left)
+    Some(Built { at, left })
 }
 
 // The first c elements of a list, each in front of the ones before it and of a tail.
@@ -115,13 +123,11 @@ pub fn put_reversed(work: &mut [u32], top: u32, list: u32, tail: u32, c: u32) ->
     let mut at = top;
     let mut node = list;
     let mut rest = tail;
-    let mut k = 0;
-    while k < c {
+    for _ in 0..c {
         let first = lists::first(work, node);
         at = cells::put_pair(work, at, first, rest);
         rest = at;
         node = lists::rest(work, node);
-        k += 1;
     }
     rest
 }

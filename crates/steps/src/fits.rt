@@ -7,7 +7,6 @@ ghost use Rattle.steps.specs.Fits.{Fits, LiteralFits, ConstantFits, FirstFit};
 use arena::cells;
 use datum::constants;
 use environments::shares;
-use environments::shares::Enough;
 use resolution::names;
 
 // A literal fits a name whose lookup finds what its own has found.
@@ -111,7 +110,7 @@ fn each_fits(work: &[u32], p: u32, list: u32, w: u32) -> bool
     requires { word_at work.now p 1 ≡ 7 }
     ensures { Fits work.now p list w result }
 {
-    let Enough::Yes(behind) = shares::look_ahead(work, p, list) else {
+    let Some(behind) = shares::look_ahead(work, p, list) else {
         return false;
     };
     let element = cells::reference(work, p, rule_cells::cells::HEAD);
@@ -129,8 +128,8 @@ fn each_fits(work: &[u32], p: u32, list: u32, w: u32) -> bool
     fits(work, rest, node, w)
 }
 
-// The first of the rules that fits the use, 0 where none does.
-pub fn first_fit(work: &[u32], rules: u32, u: u32, w: u32) -> u32
+// The first of the rules that fits the use.
+pub fn first_fit(work: &[u32], rules: u32, u: u32, w: u32) -> Option<u32>
     ensures { FirstFit work.now rules u w result }
 {
     let mut rule = rules;
@@ -141,9 +140,9 @@ pub fn first_fit(work: &[u32], rules: u32, u: u32, w: u32) -> u32
             u,
             w,
         ) {
-            return rule;
+            return Some(rule);
         }
         rule = cells::reference(work, rule, rule_cells::cells::NEXT);
     }
-    0
+    None
 }

@@ -1,12 +1,12 @@
 -- Laws of a lambda's formals: the walk through their list.
-use Rattle.std.specs.Prelude.{◌≡◌, Bool, true, false, not, List, [], ◌∷◌, ◌++◌, ℕ, zero, suc, ◌+◌, ◌*◌, ◌-◌, ◌≤◌, ◌<◌, eqb, length, get_or, set}
+use Rattle.std.specs.Prelude.{◌≡◌, Bool, true, false, not, List, [], ◌∷◌, ◌++◌, ℕ, zero, suc, ◌+◌, ◌*◌, ◌-◌, ◌≤◌, ◌<◌, eqb, length, get_or, set, Some}
 use Rattle.std.proofs.Math.Path.{refl, ap}
 use Rattle.std.proofs.Common.{sym, subst, ◌∙◌, append_assoc, append-nil, arith, length-set}
 use Rattle.std.proofs.Math.Option.{Option, none, some}
 use Rattle.std.proofs.Math.ListN.{length-append}
 use borrow.Author.Tests.{eq-eqb, ne_eqb, eqb-true, eqb-false, lt-ltb, le-ltb, le-leb, lt-leb, not-true}
 use Rattle.words.specs.ListLaws.{either}
-use Rattle.words.specs.Limits.{formals_most, names_most}
+use Rattle.words.specs.Limits.{formals_most}
 use Rattle.words.specs.Lists.{all_of, any_of}
 use Rattle.words.specs.Options.{only_if, map_some}
 use Rattle.words.specs.TestLaws.{and_left, and_right, and_both, and-none-left, and-none-right, or_left, or_right, all_append, any_append}
@@ -15,11 +15,11 @@ use Rattle.recipe.specs.Table.{kind_at}
 use Rattle.recipe.specs.TreeFrom.{head_at, tail_at}
 use Rattle.comparison.specs.Grammar.{is_free, distinct, are_formals, names, after, formals}
 use Rattle.comparison.specs.Agrees.{bind}
-use Rattle.supplier.specs.declared.grammar.Bound.TheVariants.{Formals}
 use Rattle.supplier.specs.Items.{DatumAt, Held}
 use Rattle.supplier.specs.ItemsLaws.{as-datum, pair-datum, name-datum, empty-datum, name-kind, none_is, more-is, as-list, datum-in, ListAt}
 use Rattle.supplier.specs.Scope.{name_in, scope_of, innermost, Kept}
-use Rattle.supplier.specs.ScopeLaws.{found-past, none-past, Own, own_name, own-scope, own-more, kept_set, kept-scope}
+use Rattle.supplier.specs.declared.scope.Formal.{Formal}
+use Rattle.supplier.specs.ScopeLaws.{found-past, none-past, formal, Own, own_name, own-scope, own-more, kept_set, kept-scope}
 use Rattle.supplier.specs.Forms.{FormalsAre}
 
 -- the names of a list, where it is one of names
@@ -187,7 +187,7 @@ module _ (ws : List ℕ) (i j : ℕ) (ps : List ℕ) (p : Passing ws i j ps) whe
 
 -- ---- the walk with its scope
 
-pub record Taking (ws : List ℕ) (i : ℕ) (before : List ℕ) (top v : ℕ) (scope : List ℕ) (j n : ℕ) : Type 0 where
+pub record Taking (ws : List ℕ) (i : ℕ) (before : List Formal) (top v : ℕ) (scope : List Formal) (j n : ℕ) : Type 0 where
   pub held : Held ws j
   pub passed : List ℕ
   pub passing : Passing ws i j passed
@@ -198,7 +198,7 @@ pub record Taking (ws : List ℕ) (i : ℕ) (before : List ℕ) (top v : ℕ) (s
   pub kept : Kept top before scope
   pub sized : length scope ≡ length before
 
-pub taking-start : (ws : List ℕ) (i : ℕ) (scope : List ℕ) (top v : ℕ) → Held ws i → Taking ws i scope top v scope i 0
+pub taking-start : (ws : List ℕ) (i : ℕ) (scope : List Formal) (top v : ℕ) → Held ws i → Taking ws i scope top v scope i 0
 unfolding are_formals all_of distinct
 taking-start ws i scope top v h = record {
   held = h;
@@ -212,7 +212,7 @@ taking-start ws i scope top v h = record {
   sized = refl;
 }
 
-module _ (ws : List ℕ) (i : ℕ) (before : List ℕ) (top v : ℕ) (scope : List ℕ) (j n : ℕ) (t : Taking ws i before top v scope j n) where
+module _ (ws : List ℕ) (i : ℕ) (before : List Formal) (top v : ℕ) (scope : List Formal) (j n : ℕ) (t : Taking ws i before top v scope j n) where
   pub taking-in : 3 * j + 2 < length ws
   taking-in = datum-in ws j t.held.0 t.held.1
 
@@ -228,9 +228,6 @@ module _ (ws : List ℕ) (i : ℕ) (before : List ℕ) (top v : ℕ) (scope : Li
       taking-head-in = datum-in ws at taking-pair.pair.first taking-head
 
       module _ (m : kind_at ws at ≡ 3) (name : ℕ) (e : name ≡ head_at ws at) where
-        pub taking-small : name < names_most
-        taking-small = omega (arith, e, (name-datum ws at taking-pair.pair.first taking-head m).1)
-
         pub taking-none : ((ns : List ℕ) → are_formals (t.passed ++ (name ∷ ns)) ≡ false) → (d : Datum) → DatumAt ws i d → formals d ≡ none
         taking-none f = passing-none ws i j t.passed t.passing k at a m (λ ns. ap (λ x. are_formals (t.passed ++ (x ∷ ns))) (sym e) ∙ f ns)
 
@@ -243,7 +240,7 @@ module _ (ws : List ℕ) (i : ℕ) (before : List ℕ) (top v : ℕ) (scope : Li
             taking-none (formals-twice t.passed name (p.0 - top) u (sym (own_name scope top v t.passed t.own (p.0 - top) u) ∙ ap (name_in scope) s ∙ p.1.2))
 
         pub taking-next : 3 ≤ name → innermost name scope (top + n) ≤ top → (n ≡ 8 → ⊥) → top + 8 ≤ length before → (next : ℕ) → next ≡ tail_at ws j
-            → (w : ℕ) → w ≡ v → Taking ws i before top v (set scope (top + n) (names_most * (w + n) + name)) next (n + 1)
+            → (w : ℕ) → w ≡ v → Taking ws i before top v (set scope (top + n) (formal name (w + n))) next (n + 1)
         taking-next l b c r next x w y =
             let few : n < 8 = omega (arith, t.few, c) in
             let far : (y : ℕ) → y < length t.passed → get_or t.passed y 0 ≡ name → ⊥ = λ y h q. none-past name scope top (top + n) b (top + y) (omega arith) (omega (arith, t.count)) (own_name scope top v t.passed t.own y h ∙ q) in
@@ -255,9 +252,9 @@ module _ (ws : List ℕ) (i : ℕ) (before : List ℕ) (top v : ℕ) (scope : Li
               count = omega (arith, t.count, length-append t.passed (name ∷ []));
               few = omega arith;
               good = formals-more t.passed t.good name l far (omega (arith, t.count));
-              own = subst (λ u. Own (set scope (top + n) (names_most * (u + n) + name)) top v (t.passed ++ (name ∷ []))) (sym y) (own-more t.passed name top v n scope t.count (omega (arith, t.sized)) taking-small t.own);
-              kept = kept_set top n (names_most * (w + n) + name) before scope t.kept;
-              sized = length-set scope (top + n) (names_most * (w + n) + name) ∙ t.sized;
+              own = subst (λ u. Own (set scope (top + n) (formal name (u + n))) top v (t.passed ++ (name ∷ []))) (sym y) (own-more t.passed name top v n scope t.count (omega (arith, t.sized)) t.own);
+              kept = kept_set top n (formal name (w + n)) before scope t.kept;
+              sized = length-set scope (top + n) (formal name (w + n)) ∙ t.sized;
             }
 
   -- there are eight already
@@ -267,7 +264,7 @@ module _ (ws : List ℕ) (i : ℕ) (before : List ℕ) (top v : ℕ) (scope : Li
       (λ q. taking-none k (head_at ws j) refl (eqb-true _ 3 q) (head_at ws (head_at ws j)) refl (formals-many t.passed (head_at ws (head_at ws j)) (sym t.count ∙ e)))
       (λ q. passing-other ws i j t.passed t.passing (head_at ws j) k refl (eqb-false _ 3 q))
 
-  pub taking-end : kind_at ws j ≡ 0 → (d : Datum) → DatumAt ws i d → FormalsAre d top v before scope (Formals n)
+  pub taking-end : kind_at ws j ≡ 0 → (d : Datum) → DatumAt ws i d → FormalsAre d top v before scope (Some n)
   taking-end k d h = (
     t.passed,
     passing-end ws i j t.passed t.passing k t.good d h,

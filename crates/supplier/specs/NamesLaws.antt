@@ -1,7 +1,8 @@
 -- Laws of names by spelling.
-use Rattle.std.specs.Prelude.{◌≡◌, Bool, true, false, ◌||◌, ltb, leb, replicate}
+use Rattle.std.specs.List.{list_any}
+use Rattle.std.specs.Prelude.{◌≡◌, Bool, true, ◌||◌, ltb, leb, replicate}
 use Rattle.std.proofs.Math.Path.{refl, sym, ap}
-use Rattle.std.proofs.Common.{◌∙◌, arith, drop-cons}
+use Rattle.std.proofs.Common.{◌∙◌, arith}
 use mathlib.Core.List.{List, [], ◌∷◌, ◌++◌, map}
 use Prim.Native.Nat.{ℕ, zero, suc, ◌+◌, ◌-◌, ◌*◌, ◌≤◌, ◌<◌}
 use Rattle.std.proofs.Math.ListN.{length, get_or, take, drop}
@@ -72,32 +73,9 @@ module _ (names : List (List ℕ)) (short : all_of is_short names ≡ true) (z :
       either (ltb n (length names)) (λ t. name-at names (replicate z 0) n short (ltb-true n (length names) t))
       (λ t. let h = ltb-false n (length names) t in ap (λ m. take m (drop (suc (64 * n)) table)) (past-length n h) ∙ sym (past-name names n h))
 
--- ---- any from place k on
+-- ---- any of them, as the code finds it
 
-module _ (f : List ℕ → Bool) (g : ℕ → List ℕ) (l : List ℕ) where
-  unfoldable pub any_from : ℕ → Bool
-  any_from k = any_of f (map g (drop k l))
-
-  pub any-start : any_from 0 ≡ any_of f (map g l)
-  unfolding any_from
-  any-start = refl
-
-  step : (k : ℕ) → k < length l → any_from k ≡ (f (g (get_or l k 0)) || any_from (suc k))
-  unfolding any_from any_of
-  step k h = ap (λ m. any_of f (map g m)) (drop-cons l k 0 h)
-
-  pub any_found : (k : ℕ) → k < length l → f (g (get_or l k 0)) ≡ true → any_from k ≡ true
-  any_found k h e = step k h ∙ rw e
-
-  pub any_next : (k j : ℕ) → k < length l → j ≡ k + 1 → f (g (get_or l k 0)) ≡ false → any_from k ≡ any_from j
-  any_next k j h i e = let s : suc k ≡ j = omega (arith, i) in step k h ∙ rw e (ap any_from s)
-
-  pub any-end : (k : ℕ) → length l ≤ k → any_from k ≡ false
-  unfolding any_from any_of
-  any-end k h = ap (λ m. any_of f (map g m)) (drop_past l k h)
-    where
-      drop_past : (m : List ℕ) (j : ℕ) → length m ≤ j → drop j m ≡ []
-      drop_past [] zero i = refl
-      drop_past [] (suc j) i = refl
-      drop_past (x ∷ m) zero i = absurd (omega arith)
-      drop_past (x ∷ m) (suc j) i = drop_past m j (omega arith)
+pub list_any-any_of : (f : List ℕ → Bool) (g : ℕ → List ℕ) (l : List ℕ) → list_any (λ k. f (g k)) l ≡ any_of f (map g l)
+unfolding any_of
+list_any-any_of f g [] = refl
+list_any-any_of f g (n ∷ l) = ap (λ b. f (g n) || b) (list_any-any_of f g l)

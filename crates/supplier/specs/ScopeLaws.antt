@@ -1,34 +1,60 @@
 -- Laws of the code's scope.
-use Rattle.std.specs.Prelude.{◌≡◌, true, false, List, [], ◌∷◌, ◌++◌, eqb, length, get_or, set}
+use Rattle.std.specs.Prelude.{◌≡◌, List, [], ◌∷◌, ◌++◌, eqb, length, take, get_or, set, Option, None, Some}
 use Rattle.std.proofs.Math.Path.{refl, sym}
 use Rattle.std.proofs.Common.{ap, ap₂, ◌∙◌, length-append, get_or-set_same, get_or-set_other}
 use Rattle.std.proofs.Math.Option.{none, some}
-use Prim.Native.Nat.{ℕ, zero, suc, ◌+◌, ◌-◌, ◌*◌, ◌/◌, ◌%◌, ◌≤◌, ◌<◌}
+use Prim.Native.Nat.{ℕ, zero, suc, ◌+◌, ◌-◌, ◌≤◌, ◌<◌}
 use native.Mathlib.Omega.{arith}
 use Rattle.std.proofs.Math.ListN.{get_or-append}
-use Rattle.std.proofs.lemmas.List.{get_or_at}
+use Rattle.std.proofs.lemmas.List.{get_or_at, get_or-take, length-take-le}
 use borrow.Author.Tests.{eq-eqb, ne_eqb, eqb-true, eqb-false}
 use Rattle.words.specs.ListLaws.{either}
-use Rattle.words.specs.Limits.{names_most}
 use Rattle.comparison.specs.Agrees.{meant, bind}
-use Rattle.supplier.specs.Scope.{name_in, variable_in, scope_of, innermost, Kept}
+use Rattle.supplier.specs.declared.scope.Formal.{Formal}
+use Rattle.supplier.specs.Scope.{nobody, name_in, variable_in, scope_of, place_after, innermost, Kept}
 
-module _ (n : ℕ) (scope : List ℕ) where
+module _ (n : ℕ) (scope : List Formal) where
   -- ---- the search from the innermost
 
-  pub innermost-found : (k : ℕ) → 0 < k → name_in scope (k - 1) ≡ n → innermost n scope k ≡ k
+  innermost-last : (top k : ℕ) → k < top → name_in scope k ≡ n → ((j : ℕ) → k < j → j < top → name_in scope j ≡ n → ⊥) → innermost n scope top ≡ suc k
   unfolding innermost
-  innermost-found zero h e = absurd (omega arith)
-  innermost-found (suc k) h e =
-      let s : suc k - 1 ≡ k = omega arith in
-      rw (eq-eqb n (name_in scope k) (sym (ap (λ j. name_in scope j) (sym s) ∙ e)))
+  innermost-last zero k l e f = absurd (omega arith)
+  innermost-last (suc m) k l e f =
+      either (eqb m k)
+      (λ q. let i : m ≡ k = eqb-true m k q in rw (eq-eqb n (name_in scope m) (sym (ap (name_in scope) i ∙ e)), i) refl)
+      (λ q. let i : m ≡ k → ⊥ = eqb-false m k q in
+      let a : name_in scope m ≡ n → ⊥ = f m (omega (arith, i)) (omega arith) in
+      rw (ne_eqb n (name_in scope m) (λ z. a (sym z))) (innermost-last m k (omega (arith, i)) e (λ j x y. f j x (omega arith))))
 
-  pub innermost-next : (k : ℕ) → 0 < k → (name_in scope (k - 1) ≡ n → ⊥) → innermost n scope k ≡ innermost n scope (k - 1)
+  innermost-nowhere : (top : ℕ) → ((j : ℕ) → j < top → name_in scope j ≡ n → ⊥) → innermost n scope top ≡ 0
   unfolding innermost
-  innermost-next zero h e = absurd (omega arith)
-  innermost-next (suc k) h e =
-      let s : suc k - 1 ≡ k = omega arith in
-      rw (s, ne_eqb n (name_in scope k) (λ q. e (ap (λ j. name_in scope j) s ∙ sym q)))
+  innermost-nowhere zero f = refl
+  innermost-nowhere (suc m) f = rw (ne_eqb n (name_in scope m) (λ z. f m (omega arith) (sym z))) (innermost-nowhere m (λ j l. f j (omega arith)))
+
+  -- that of a search backwards through the first `top`
+  module _ (top : ℕ) (h : top ≤ length scope) where
+    abbrev within : List Formal
+    within = take top scope
+
+    abbrev Named : ℕ → Type 0
+    Named k = (get_or within k nobody).name ≡ n
+
+    same-name : (k : ℕ) → k < top → name_in scope k ≡ n → Named k
+    same-name k l e = ap (λ f. f.name) (get_or-take top scope k nobody l) ∙ e
+
+    pub place-found : (r : Option ℕ) (k : ℕ) → r ≡ Some k → k < length within → Named k → ((j : ℕ) → k + 1 ≤ j → j < length within → Named j → ⊥) → place_after r ≡ innermost n scope top
+    unfolding place_after
+    place-found r k e l named after =
+        let s : length within ≡ top = length-take-le top scope h in
+        let m : k < top = omega (arith, l, s) in
+        ap place_after e
+        ∙ sym (innermost-last top k m (sym (ap (λ f. f.name) (get_or-take top scope k nobody m)) ∙ named) (λ j x y z. after j (omega (arith, x)) (omega (arith, y, s)) (same-name j y z)))
+
+    pub place-nowhere : (r : Option ℕ) → r ≡ None → ((j : ℕ) → j < length within → Named j → ⊥) → place_after r ≡ innermost n scope top
+    unfolding place_after
+    place-nowhere r e none' =
+        let s : length within ≡ top = length-take-le top scope h in
+        ap place_after e ∙ sym (innermost-nowhere top (λ j y z. none' j (omega (arith, y, s)) (same-name j y z)))
 
   -- ---- what it finds
 
@@ -55,15 +81,15 @@ module _ (n : ℕ) (scope : List ℕ) where
 
 -- ---- kept scopes
 
-pub kept-scope : (top : ℕ) (before after : List ℕ) → Kept top before after → scope_of after top ≡ scope_of before top
+pub kept-scope : (top : ℕ) (before after : List Formal) → Kept top before after → scope_of after top ≡ scope_of before top
 unfolding scope_of
 kept-scope zero before after k = refl
-kept-scope (suc top) before after k = ap₂ ◌∷◌ (ap (λ e. (e % names_most, e / names_most)) (k top (omega arith))) (kept-scope top before after (λ j h. k j (omega arith)))
+kept-scope (suc top) before after k = ap₂ ◌∷◌ (ap (λ e. (e.name, e.variable)) (k top (omega arith))) (kept-scope top before after (λ j h. k j (omega arith)))
 
 -- ---- one lambda's formals behind the first `top`
 
 -- what the search finds past `top` stands there
-module _ (n : ℕ) (scope : List ℕ) (top : ℕ) where
+module _ (n : ℕ) (scope : List Formal) (top : ℕ) where
   pub found-past : (k : ℕ) → top < innermost n scope k → (j : ℕ) × ((top ≤ j) × (j < k) × (name_in scope j ≡ n))
   unfolding innermost
   found-past zero h = absurd (omega arith)
@@ -82,17 +108,20 @@ module _ (n : ℕ) (scope : List ℕ) (top : ℕ) where
       (λ r. eqb-false n (name_in scope k) q (sym (ap (name_in scope) (sym (eqb-true j k r)) ∙ e)))
       (λ r. let u : j ≡ k → ⊥ = eqb-false j k r in none-past k (rw q at h) j l (omega (arith, u)) e))
 
+abbrev pub formal : ℕ → ℕ → Formal
+formal n v = record { name = n; variable = v }
+
 -- the scope holds these formals behind its first `top`, for variables from v on
-abbrev pub Own : List ℕ → ℕ → ℕ → List ℕ → Type 0
-Own scope top v ns = (k : ℕ) → k < length ns → (get_or scope (top + k) 0 ≡ names_most * (v + k) + get_or ns k 0) × (get_or ns k 0 < names_most)
+abbrev pub Own : List Formal → ℕ → ℕ → List ℕ → Type 0
+Own scope top v ns = (k : ℕ) → k < length ns → get_or scope (top + k) nobody ≡ formal (get_or ns k 0) (v + k)
 
-pub own_name : (scope : List ℕ) (top v : ℕ) (ns : List ℕ) → Own scope top v ns → (k : ℕ) → k < length ns → name_in scope (top + k) ≡ get_or ns k 0
-own_name scope top v ns o k l = omega (arith, (o k l).0, (o k l).1)
+pub own_name : (scope : List Formal) (top v : ℕ) (ns : List ℕ) → Own scope top v ns → (k : ℕ) → k < length ns → name_in scope (top + k) ≡ get_or ns k 0
+own_name scope top v ns o k l = ap (λ e. e.name) (o k l)
 
-own-variable : (scope : List ℕ) (top v : ℕ) (ns : List ℕ) → Own scope top v ns → (k : ℕ) → k < length ns → variable_in scope (top + k) ≡ v + k
-own-variable scope top v ns o k l = omega (arith, (o k l).0, (o k l).1)
+own-variable : (scope : List Formal) (top v : ℕ) (ns : List ℕ) → Own scope top v ns → (k : ℕ) → k < length ns → variable_in scope (top + k) ≡ v + k
+own-variable scope top v ns o k l = ap (λ e. e.variable) (o k l)
 
-pub own-scope : (ns : List ℕ) (top v : ℕ) (scope : List ℕ) → Own scope top v ns → scope_of scope (top + length ns) ≡ bind ns v (scope_of scope top)
+pub own-scope : (ns : List ℕ) (top v : ℕ) (scope : List Formal) → Own scope top v ns → scope_of scope (top + length ns) ≡ bind ns v (scope_of scope top)
 unfolding scope_of bind
 own-scope [] top v scope o = let e : top + 0 ≡ top = omega arith in rw e
 own-scope (n ∷ ns) top v scope o =
@@ -104,22 +133,22 @@ own-scope (n ∷ ns) top v scope o =
     let o' : Own scope (suc top) (suc v) ns = λ k h.
     let m : suc top + k ≡ top + suc k = omega arith in
     let w : suc v + k ≡ v + suc k = omega arith in
-    (ap (λ x. get_or scope x 0) m ∙ (o (suc k) (omega arith)).0 ∙ ap (λ x. names_most * x + get_or ns k 0) (sym w), (o (suc k) (omega arith)).1) in
+    ap (λ x. get_or scope x nobody) m ∙ o (suc k) (omega arith) ∙ ap (formal (get_or ns k 0)) (sym w) in
     ap (scope_of scope) s ∙ own-scope ns (suc top) (suc v) scope o' ∙ ap₂ (λ x w. bind ns (suc v) ((x, w) ∷ scope_of scope top)) f g
 
 -- one formal more
-pub own-more : (ns : List ℕ) (n top v k : ℕ) (scope : List ℕ) → k ≡ length ns → top + k < length scope → n < names_most → Own scope top v ns
-    → Own (set scope (top + k) (names_most * (v + k) + n)) top v (ns ++ (n ∷ []))
-own-more ns n top v k scope e l m o j h =
-    let w = names_most * (v + k) + n in
+pub own-more : (ns : List ℕ) (n top v k : ℕ) (scope : List Formal) → k ≡ length ns → top + k < length scope → Own scope top v ns
+    → Own (set scope (top + k) (formal n (v + k))) top v (ns ++ (n ∷ []))
+own-more ns n top v k scope e l o j h =
+    let w = formal n (v + k) in
     either (eqb j k)
     (λ q. let i : j ≡ k = eqb-true j k q in
     let at : get_or (ns ++ (n ∷ [])) j 0 ≡ n = get_or_at ns n [] 0 j (sym (i ∙ e)) in
-    (ap (λ x. get_or (set scope (top + k) w) (top + x) 0) i ∙ get_or-set_same scope (top + k) w 0 l ∙ ap₂ (λ x y. names_most * (v + x) + y) (sym i) (sym at), omega (arith, at, m)))
+    ap (λ x. get_or (set scope (top + k) w) (top + x) nobody) i ∙ get_or-set_same scope (top + k) w nobody l ∙ ap₂ (λ x y. formal y (v + x)) (sym i) (sym at))
     (λ q. let i : j ≡ k → ⊥ = eqb-false j k q in
     let b : j < length ns = omega (arith, i, e, length-append ns (n ∷ [])) in
     let at : get_or (ns ++ (n ∷ [])) j 0 ≡ get_or ns j 0 = get_or-append ns (n ∷ []) 0 j b in
-    (get_or-set_other scope (top + k) (top + j) w 0 (λ z. i (omega (arith, z))) ∙ (o j b).0 ∙ ap (λ y. names_most * (v + j) + y) (sym at), omega (arith, at, (o j b).1)))
+    get_or-set_other scope (top + k) (top + j) w nobody (λ z. i (omega (arith, z))) ∙ o j b ∙ ap (λ y. formal y (v + j)) (sym at))
 
-pub kept_set : (top k n : ℕ) (before scope : List ℕ) → Kept top before scope → Kept top before (set scope (top + k) n)
-kept_set top k n before scope h j l = get_or-set_other scope (top + k) j n 0 (λ z. omega (arith, z)) ∙ h j l
+pub kept_set : (top k : ℕ) (n : Formal) (before scope : List Formal) → Kept top before scope → Kept top before (set scope (top + k) n)
+kept_set top k n before scope h j l = get_or-set_other scope (top + k) j n nobody (λ z. omega (arith, z)) ∙ h j l

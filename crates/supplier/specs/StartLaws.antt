@@ -1,11 +1,11 @@
 -- Laws of how the walk through a list begins, one for each way through the code.
-use Rattle.std.specs.Prelude.{◌≡◌, refl, Bool, cond, List, [], ◌∷◌, ℕ, suc, ◌+◌, ◌-◌, ◌*◌, ◌≤◌, ◌<◌, eqb, ltb, length, drop}
+use Rattle.std.specs.Prelude.{◌≡◌, refl, Bool, cond, List, [], ◌∷◌, ℕ, ◌+◌, ◌*◌, ◌≤◌, ◌<◌, eqb, ltb, length, Option, Some, None, Err}
 use Rattle.std.proofs.Math.Path.{sym, ap, ap₂, subst}
-use Rattle.std.proofs.Common.{◌∙◌, length-drop}
+use Rattle.std.proofs.Common.{◌∙◌}
 use Rattle.std.proofs.Math.Bool.{true, false}
-use Rattle.std.proofs.Math.Option.{Option, none, some}
+use Rattle.std.proofs.Math.Option.{none, some}
 use native.Mathlib.Omega.{arith}
-use borrow.Author.Tests.{eq-eqb, ne_eqb, eqb-true, ltb-true}
+use borrow.Author.Tests.{eq-eqb, ne_eqb, eqb-true}
 use Rattle.words.specs.ListLaws.{either, never}
 use Rattle.words.specs.Options.{only_if}
 use Rattle.words.specs.TestLaws.{or_left, or_right}
@@ -19,21 +19,20 @@ use Rattle.comparison.specs.Grammar.{first, after, formals}
 use Rattle.comparison.specs.Agrees.{bind}
 use Rattle.comparison.specs.Written.{name_data}
 use Rattle.comparison.proofs.WrittenLaws.{formals-back}
-use Rattle.supplier.specs.declared.grammar.Bound.{Bound}
-use Rattle.supplier.specs.declared.grammar.Bound.TheVariants.{Formals, No}
 use Rattle.supplier.specs.declared.grammar.Place.{Place}
 use Rattle.supplier.specs.declared.grammar.Start.{Start}
-use Rattle.supplier.specs.declared.front.Walked.{Walked}
+use Rattle.supplier.specs.declared.front.Difference.TheVariants.{Outside}
 use Rattle.supplier.specs.declared.front.Front.{Front}
 use Rattle.supplier.specs.Items.{DatumAt, DataAt, Held, HeldAll, PairAt}
 use Rattle.supplier.specs.ItemsLaws.{pair-kind, none-kind, as-list, name-datum, constant-datum, empty-datum, pair-datum}
 use Rattle.supplier.specs.ListLaws.{count-pair}
 use Rattle.supplier.specs.Scope.{scope_of, Kept}
+use Rattle.supplier.specs.declared.scope.Formal.{Formal}
 use Rattle.supplier.specs.ScopeLaws.{kept-scope}
-use Rattle.supplier.specs.Walk.{Found, outside, same, left_of, joined, constant_here, quoted_name, name_here, takes, if_sort, list_sort, lambda_sort, application_sort, ours_of, form_of, quotes, plan, quote_plan, if_plan, lambda_plan, formals_of, headed_plan, plan_of, walk, walk_from}
-use Rattle.supplier.specs.Told.{found_of, Stands, Told, ours_in, Fronted}
+use Rattle.supplier.specs.Walk.{Found, outside, same, left_of, joined, constant_here, quoted_name, name_here, takes, if_sort, list_sort, lambda_sort, application_sort, ours_of, form_of, quotes, quote_plan, if_plan, lambda_plan, formals_of, headed_plan, plan_of, walk, walk_from}
+use Rattle.supplier.specs.Told.{Walked, found_of, Within, Told, ours_in, Fronted}
 use Rattle.supplier.specs.ToldLaws.{told-as}
-use Rattle.supplier.specs.Forms.{FormalsAre, Joined, Begun, Goes, Started, LambdaStarted, planned}
+use Rattle.supplier.specs.Forms.{FormalsAre, Goes, Started, LambdaStarted, planned}
 
 -- ---- the form at the head
 
@@ -45,12 +44,6 @@ unfolding form_of
 form-name (constant_d a) m e h = absurd (omega (arith, e))
 form-name (name_d n) m e h = ap name_d (form-is n m e h)
 form-name (list_d ds) m e h = absurd (omega (arith, e))
-
-form-most : (d : Datum) → form_of d ≤ 3
-unfolding form_of
-form-most (constant_d a) = omega arith
-form-most (name_d n) = either (ltb n 3) (λ l. rw l (omega (arith, ltb-true n 3 l))) (λ l. rw l (omega arith))
-form-most (list_d ds) = omega arith
 
 -- ---- the items of formals
 
@@ -66,13 +59,13 @@ formals-items f ns e = ap datum_items (sym (formals-back f ns e).0) ∙ names-it
 -- ---- a start, by its numbers
 
 abbrev pub begun_at : ℕ → ℕ → Bool → Walked → Start
-begun_at i top q w = record { i = i; top = top; quoted = q; rank = w.rank; taken = w.taken }
+begun_at i top q w = record { place = record { i = i; top = top; quoted = q }; found = w }
 
-goes_on : (words scope : List ℕ) (at : Place) (i : ℕ) (q : Bool) (w : Walked) → 2 * at.top ≤ at.i → at.i ≤ i → Stands words w.rank w.taken
+goes_on : (words : List ℕ) (scope : List Formal) (at : Place) (i : ℕ) (q : Bool) (w : Walked) → 2 * at.top ≤ at.i → at.i ≤ i → Within words w
     → Goes words scope scope at (begun_at i at.top q w)
-goes_on words scope at i q w room later st = record { kept = λ k l. refl; stands = st; room = omega arith; later = later; more = omega arith }
+goes_on words scope at i q w room later st = record { kept = λ k l. refl; within = st; room = omega arith; later = later; more = omega arith }
 
-module _ (items words scope : List ℕ) (at : Place) (room : 2 * at.top ≤ at.i) (w : Walked) where
+module _ (items words : List ℕ) (scope : List Formal) (at : Place) (room : 2 * at.top ≤ at.i) (w : Walked) where
   abbrev Starts : Start → Type 0
   Starts = Started items words scope scope at
 
@@ -88,21 +81,21 @@ module _ (items words scope : List ℕ) (at : Place) (room : 2 * at.top ≤ at.i
           walked = λ theirs ours operations.
               rw q (ap (walk_from theirs ours operations ds 0 true (scope_of scope at.top)) (ap (λ k. takes list_sort k (ours_of (node_at words))) (sym (counts ds o)) ∙ sym t.is));
         }),
-        goes_on words scope at at.i true w room (omega arith) t.stands,
+        goes_on words scope at at.i true w room (omega arith) t.within,
       )
 
   module _ (q : at.quoted ≡ false) (k : ℕ) (kind : k ≡ kind_at items at.i) where
     -- the empty list
-    pub start_none : (k ≡ 4 → ⊥) → Told words (found_of words 3 0) w → (r : Start) → r ≡ begun_at at.i at.top false w → Starts r
+    pub start_none : (k ≡ 4 → ⊥) → (r : Start) → r ≡ begun_at at.i at.top false (Err Outside) → Starts r
     unfolding walk plan_of found_of
-    start_none f t r e =
+    start_none f r e =
         subst Starts (sym e) (
           (λ ds o. record {
             elements = none_d;
             list = subst (DataAt items at.i) (none-kind items at.i ds o (λ z. f (kind ∙ z))) o;
-            walked = λ theirs ours operations. rw (q, none-kind items at.i ds o (λ z. f (kind ∙ z))) (sym t.is);
+            walked = λ theirs ours operations. rw (q, none-kind items at.i ds o (λ z. f (kind ∙ z)));
           }),
-          goes_on words scope at at.i false w room (omega arith) t.stands,
+          goes_on words scope at at.i false (Err Outside) room (omega arith) tt,
         )
 
     module _ (pair : k ≡ 4) (head : ℕ) (a : head ≡ head_at items at.i) (form : ℕ) (forms : (d : Datum) → DatumAt items head d → form ≡ form_of d) (next : ℕ) (b : next ≡ tail_at items at.i) where
@@ -139,7 +132,7 @@ module _ (items words scope : List ℕ) (at : Place) (room : 2 * at.top ≤ at.i
               walked = λ theirs ours operations.
                   by_form 0 z ds o theirs ours operations ∙ (ap (walk_from theirs ours operations (pair-at ds o).rest 0 true (scope_of scope at.top)) (sym (t (pair-at ds o).rest (rest_at ds o)).is));
             }),
-            goes_on words scope at next true w room (omega (arith, (next-later h).1)) (t (next-later h).0.0 (next-later h).0.1).stands,
+            goes_on words scope at next true w room (omega (arith, (next-later h).1)) (t (next-later h).0.0 (next-later h).0.1).within,
           )
 
       pub start-if : form ≡ 1 → HeldAll items at.i → ((ds : Data) → DataAt items next ds → Told words (cond (eqb (D.count ds) 3) (takes if_sort 0 (ours_of (node_at words))) outside) w)
@@ -153,17 +146,16 @@ module _ (items words scope : List ℕ) (at : Place) (room : 2 * at.top ≤ at.i
               walked = λ theirs ours operations.
                   by_form 1 z ds o theirs ours operations ∙ (ap (walk_from theirs ours operations (pair-at ds o).rest 0 false (scope_of scope at.top)) (sym (t (pair-at ds o).rest (rest_at ds o)).is));
             }),
-            goes_on words scope at next false w room (omega (arith, (next-later h).1)) (t (next-later h).0.0 (next-later h).0.1).stands,
+            goes_on words scope at next false w room (omega (arith, (next-later h).1)) (t (next-later h).0.0 (next-later h).0.1).within,
           )
 
-      pub start-application : (form ≡ 0 → ⊥) → (form ≡ 1 → ⊥) → (form ≡ 2 → ⊥) → HeldAll items at.i → (n : ℕ) → ((ds : Data) → DataAt items next ds → n ≡ D.count ds)
+      pub start-application : form ≡ 3 → HeldAll items at.i → (n : ℕ) → ((ds : Data) → DataAt items next ds → n ≡ D.count ds)
           → Told words (takes application_sort n (ours_of (node_at words))) w → (r : Start) → r ≡ begun_at at.i at.top false w → Starts r
       unfolding walk headed_plan
-      start-application x y z h n counts t r e =
+      start-application three h n counts t r e =
           subst Starts (sym e) (
             (λ ds o.
                 let p = pair-at ds o in
-                let three : form ≡ 3 = omega (arith, x, y, z, form-at ds o, form-most p.first) in
                 record {
                   elements = ds;
                   list = o;
@@ -172,10 +164,10 @@ module _ (items words scope : List ℕ) (at : Place) (room : 2 * at.top ≤ at.i
                       ∙ (ap₂ (λ l f. walk_from theirs ours operations l 0 false (scope_of scope at.top) f) (sym p.is)
                       (ap (λ k. takes application_sort k (ours_of (node_at words))) (sym (counts p.rest (rest_at ds o))) ∙ sym t.is));
                 }),
-            goes_on words scope at at.i false w room (omega arith) t.stands,
+            goes_on words scope at at.i false w room (omega arith) t.within,
           )
 
-      pub start-lambda : form ≡ 2 → HeldAll items at.i → (scope' : List ℕ) (there : Place) → there.i ≡ next → there.top ≡ at.top → (r : Start)
+      pub start-lambda : form ≡ 2 → HeldAll items at.i → (scope' : List Formal) (there : Place) → there.i ≡ next → there.top ≡ at.top → (r : Start)
           → LambdaStarted items words scope scope' there r → Started items words scope scope' at r
       unfolding headed_plan
       start-lambda z h scope' there x y r l = (
@@ -192,7 +184,7 @@ module _ (items words scope : List ℕ) (at : Place) (room : 2 * at.top ≤ at.i
             }),
         (record {
           kept = λ k m. l.1.kept k (omega (arith, y));
-          stands = l.1.stands;
+          within = l.1.within;
           room = l.1.room;
           later = omega (arith, x, (next-later h).1, l.1.later);
           more = omega (arith, y, l.1.more);
@@ -201,17 +193,17 @@ module _ (items words scope : List ℕ) (at : Place) (room : 2 * at.top ≤ at.i
 
 -- ---- what stands behind lambda
 
-module _ (items words scope : List ℕ) (at : Place) (room : 2 * at.top ≤ at.i) (held : HeldAll items at.i) (n : ℕ) (counts : (ds : Data) → DataAt items at.i ds → n ≡ D.count ds) (w : Walked) where
-  pub lambda-not-two : (n ≡ 2 → ⊥) → Told words (found_of words 3 0) w → (r : Start) → r ≡ begun_at at.i at.top false w → LambdaStarted items words scope scope at r
+module _ (items words : List ℕ) (scope : List Formal) (at : Place) (room : 2 * at.top ≤ at.i) (held : HeldAll items at.i) (n : ℕ) (counts : (ds : Data) → DataAt items at.i ds → n ≡ D.count ds) (w : Walked) where
+  pub lambda-not-two : (n ≡ 2 → ⊥) → (r : Start) → r ≡ begun_at at.i at.top false (Err Outside) → LambdaStarted items words scope scope at r
   unfolding walk lambda_plan formals_of only_if found_of
-  lambda-not-two f t r e =
+  lambda-not-two f r e =
       subst (LambdaStarted items words scope scope at) (sym e) (
         (λ ds o. record {
           elements = ds;
           list = o;
-          walked = λ theirs ours operations. rw (ne_eqb (D.count ds) 2 (λ z. f (counts ds o ∙ z))) (ap (walk_from theirs ours operations ds 0 false (scope_of scope at.top)) (sym t.is));
+          walked = λ theirs ours operations. rw (ne_eqb (D.count ds) 2 (λ z. f (counts ds o ∙ z)));
         }),
-        goes_on words scope at at.i false w room (omega arith) t.stands,
+        goes_on words scope at at.i false (Err Outside) room (omega arith) tt,
       )
 
   module _ (two : n ≡ 2) (head : ℕ) (a : head ≡ head_at items at.i) where
@@ -228,23 +220,23 @@ module _ (items words scope : List ℕ) (at : Place) (room : 2 * at.top ≤ at.i
     unfolding formals_of only_if after first
     formals-are ds o = rw (eq-eqb (D.count ds) 2 (sym (counts ds o) ∙ two)) (ap (λ x. after (first x) formals) (pair_of ds o).is)
 
-    module _ (v : ℕ) (scope' : List ℕ) (b : Bound) (are : (d : Datum) → DatumAt items head d → FormalsAre d at.top v scope scope' b) (kept : Kept at.top scope scope') where
-      pub lambda-no-formals : b ≡ No → Told words (found_of words 3 0) w → (r : Start) → r ≡ begun_at at.i at.top false w → LambdaStarted items words scope scope' at r
+    module _ (v : ℕ) (scope' : List Formal) (b : Option ℕ) (are : (d : Datum) → DatumAt items head d → FormalsAre d at.top v scope scope' b) (kept : Kept at.top scope scope') where
+      pub lambda-no-formals : b ≡ None → (r : Start) → r ≡ begun_at at.i at.top false (Err Outside) → LambdaStarted items words scope scope' at r
       unfolding walk lambda_plan found_of
-      lambda-no-formals e t r g =
+      lambda-no-formals e r g =
           subst (LambdaStarted items words scope scope' at) (sym g) (
             (λ ds o.
                 let f : formals_of ds ≡ none = formals-are ds o ∙ subst (FormalsAre (pair_of ds o).first at.top v scope scope') e (are (pair_of ds o).first (formals-at ds o)) in
                 record {
                   elements = ds;
                   list = o;
-                  walked = λ theirs ours operations. rw f (ap₂ (walk_from theirs ours operations ds 0 false) (sym (kept-scope at.top scope scope' kept)) (sym t.is));
+                  walked = λ theirs ours operations. rw f (ap (λ s. walk_from theirs ours operations ds 0 false s outside) (sym (kept-scope at.top scope scope' kept)));
                 }),
-            record { kept = kept; stands = t.stands; room = room; later = omega arith; more = omega arith },
+            record { kept = kept; within = tt; room = room; later = omega arith; more = omega arith },
           )
 
-      module _ (m : ℕ) (e : b ≡ Formals m) where
-        bound : (ds : Data) (o : DataAt items at.i ds) → FormalsAre (pair_of ds o).first at.top v scope scope' (Formals m)
+      module _ (m : ℕ) (e : b ≡ Some m) where
+        bound : (ds : Data) (o : DataAt items at.i ds) → FormalsAre (pair_of ds o).first at.top v scope scope' (Some m)
         bound ds o = subst (FormalsAre (pair_of ds o).first at.top v scope scope') e (are (pair_of ds o).first (formals-at ds o))
 
         -- each formal takes two items
@@ -273,7 +265,7 @@ module _ (items words scope : List ℕ) (at : Place) (room : 2 * at.top ≤ at.i
                   }),
               record {
                 kept = kept;
-                stands = t.stands;
+                within = t.within;
                 room = (body-room next c).1;
                 later = omega (arith, (body-room next c).0);
                 more = omega arith;
@@ -283,55 +275,55 @@ module _ (items words scope : List ℕ) (at : Place) (room : 2 * at.top ≤ at.i
 -- ---- element by element
 
 -- the list from place j on, and what was found before it
-abbrev pub Walking : (theirs ours operations items : List ℕ) (q : Bool) (scope : List ℕ) (top i j : ℕ) (before now : Found) → Type 0
+abbrev pub Walking : (theirs ours operations items : List ℕ) (q : Bool) (scope : List Formal) (top i j : ℕ) (before now : Found) → Type 0
 Walking theirs ours operations items q scope top i j before now =
     (ds : Data) → DataAt items i ds
     → (es : Data) × (DataAt items j es × (walk_from theirs ours operations ds 0 q (scope_of scope top) before ≡ walk_from theirs ours operations es 0 q (scope_of scope top) now))
 
-module _ (theirs ours operations items words : List ℕ) (q : Bool) (scope : List ℕ) (top i : ℕ) (before : Found) where
+module _ (theirs ours operations items words : List ℕ) (q : Bool) (scope : List Formal) (top i : ℕ) (before : Found) where
   abbrev Walks : ℕ → Found → Type 0
   Walks j now = Walking theirs ours operations items q scope top i j before now
 
   pub walking_start : Walks i before
   walking_start ds o = (ds, (o, refl))
 
-  module _ (j : ℕ) (found : Walked) (p : Walks j (found_of words found.rank found.taken)) (k : ℕ) (kind : k ≡ kind_at items j) where
-    pub walking-end : (k ≡ 4 → ⊥) → Stands words found.rank found.taken → (ds : Data) → DataAt items i ds
+  module _ (j : ℕ) (found : Walked) (p : Walks j (found_of words found)) (k : ℕ) (kind : k ≡ kind_at items j) where
+    pub walking-end : (k ≡ 4 → ⊥) → Within words found → (ds : Data) → DataAt items i ds
         → Told words (walk_from theirs ours operations ds 0 q (scope_of scope top) before) found
     unfolding walk
     walking-end f st ds o =
         let g = p ds o in
         record {
-          is = sym (g.1.1 ∙ ap (λ es. walk_from theirs ours operations es 0 q (scope_of scope top) (found_of words found.rank found.taken)) (none-kind items j g.0 g.1.0 (λ e. f (kind ∙ e))));
-          stands = st;
+          is = sym (g.1.1 ∙ ap (λ es. walk_from theirs ours operations es 0 q (scope_of scope top) (found_of words found)) (none-kind items j g.0 g.1.0 (λ e. f (kind ∙ e))));
+          within = st;
         }
 
-    module _ (pair : k ≡ 4) (at : ℕ) (a : at ≡ head_at items j) (st : Stands words found.rank found.taken) (scope₁ : List ℕ) (kept : Kept top scope scope₁) (l : List ℕ) (e : l ≡ drop found.taken words)
+    module _ (pair : k ≡ 4) (at : ℕ) (a : at ≡ head_at items j) (scope₁ : List Formal) (kept : Kept top scope scope₁) (l : List ℕ) (e : l ≡ left_of (found_of words found))
         (next : Walked) (told : (d : Datum) → DatumAt items at d → Told l (walk theirs ours operations d q (scope_of scope₁ top) l) next) where
-      pub next-within : Held items at → next.taken ≤ length words - found.taken
-      next-within h = omega (arith, (told h.0 h.1).stands.within, ap length e ∙ length-drop found.taken words)
+      pub next-within : Held items at → Within (left_of (found_of words found)) next
+      next-within h = subst (λ x. Within x next) e (told h.0 h.1).within
 
-      pub walking-next : (both : Walked) → Joined found next (length words) both → (t : ℕ) → t ≡ tail_at items j → Walks t (found_of words both.rank both.taken)
+      pub walking-next : (both : Walked) → Told words (joined (found_of words found) (found_of (left_of (found_of words found)) next)) both → (t : ℕ) → t ≡ tail_at items j → Walks t (found_of words both)
       unfolding walk
       walking-next both joins t b ds o =
           let g = p ds o in
           let r = pair-kind items j g.0 g.1.0 (sym kind ∙ pair) in
           let told' = told r.first (subst (λ x. DatumAt items x r.first) (sym a) r.head) in
-          let is : walk theirs ours operations r.first q (scope_of scope top) (left_of (found_of words found.rank found.taken)) ≡ found_of (drop found.taken words) next.rank next.taken
-          = ap (walk theirs ours operations r.first q (scope_of scope top)) (st.left ∙ sym e) ∙ ap (λ s. walk theirs ours operations r.first q s l) (sym (kept-scope top scope scope₁ kept)) ∙ sym told'.is
-          ∙ ap (λ x. found_of x next.rank next.taken) e in (
+          let is : walk theirs ours operations r.first q (scope_of scope top) (left_of (found_of words found)) ≡ found_of (left_of (found_of words found)) next
+          = ap (walk theirs ours operations r.first q (scope_of scope top)) (sym e) ∙ ap (λ s. walk theirs ours operations r.first q s l) (sym (kept-scope top scope scope₁ kept)) ∙ sym told'.is
+          ∙ ap (λ x. found_of x next) e in (
             r.rest,
             (
               subst (λ x. DataAt items x r.rest) (sym b) r.tail,
-              g.1.1 ∙ ap (λ es. walk_from theirs ours operations es 0 q (scope_of scope top) (found_of words found.rank found.taken)) r.is
-                  ∙ ap (λ f. walk_from theirs ours operations r.rest 0 q (scope_of scope top) (joined (found_of words found.rank found.taken) f)) is
-                  ∙ ap (walk_from theirs ours operations r.rest 0 q (scope_of scope top)) (sym (joins words refl).0),
+              g.1.1 ∙ ap (λ es. walk_from theirs ours operations es 0 q (scope_of scope top) (found_of words found)) r.is
+                  ∙ ap (λ f. walk_from theirs ours operations r.rest 0 q (scope_of scope top) (joined (found_of words found) f)) is
+                  ∙ ap (walk_from theirs ours operations r.rest 0 q (scope_of scope top)) (sym joins.is),
             ),
           )
 
 -- ---- an element, by the kind of its item
 
-module _ (theirs ours operations items words : List ℕ) (q : Bool) (scope : List ℕ) (top i k : ℕ) (kind : k ≡ kind_at items i) (w : Walked) where
+module _ (theirs ours operations items words : List ℕ) (q : Bool) (scope : List Formal) (top i k : ℕ) (kind : k ≡ kind_at items i) (w : Walked) where
   abbrev Element : Type 0
   Element = (d : Datum) → DatumAt items i d → Told words (walk theirs ours operations d q (scope_of scope top) words) w
 
@@ -369,11 +361,11 @@ module _ (theirs ours operations items words : List ℕ) (q : Bool) (scope : Lis
   pub list_held : is_list_kind k ≡ true → Held items i → HeldAll items i
   list_held h o = let l = list-is h o.0 o.1 in (l.0, l.2)
 
-  module _ (list : is_list_kind k ≡ true) (at : Place) (x : at.i ≡ i) (y : at.top ≡ top) (z : at.quoted ≡ q) (scope' : List ℕ) (r : Start) (s : Started items words scope scope' at r) where
-    pub start-held : Held items i → HeldAll items r.i
+  module _ (list : is_list_kind k ≡ true) (at : Place) (x : at.i ≡ i) (y : at.top ≡ top) (z : at.quoted ≡ q) (scope' : List Formal) (r : Start) (s : Started items words scope scope' at r) where
+    pub start-held : Held items i → HeldAll items r.place.i
     start-held h = let l = list-is list h.0 h.1 in let g = s.0 l.0 (subst (λ j. DataAt items j l.0) (sym x) l.2) in (g.elements, g.list)
 
-    pub walks-list : ((ds : Data) → DataAt items r.i ds → Told words (walk_from theirs ours operations ds 0 r.quoted (scope_of scope' r.top) (found_of words r.rank r.taken)) w) → Element
+    pub walks-list : ((ds : Data) → DataAt items r.place.i ds → Told words (walk_from theirs ours operations ds 0 r.place.quoted (scope_of scope' r.place.top) (found_of words r.found)) w) → Element
     walks-list told d o =
         let l = list-is list d o in
         let g = s.0 l.0 (subst (λ j. DataAt items j l.0) (sym x) l.2) in

@@ -1,8 +1,8 @@
 -- What the walk finds is what the definition says: none of the grammar is outside it, no closed expression is open, and what agrees
 -- with our term is the same, with the words behind that term left.
-use Rattle.std.specs.Prelude.{◌≡◌, Bool, cond, ◌&&◌, ◌||◌, eqb, ltb, get_or}
+use Rattle.std.specs.Prelude.{◌≡◌, Bool, cond, ◌&&◌, ◌||◌, eqb, get_or}
 use Rattle.std.proofs.Math.Path.{refl, sym, ap}
-use Rattle.std.proofs.Common.{ap₂, subst, ◌∙◌}
+use Rattle.std.proofs.Common.{subst, ◌∙◌}
 use Rattle.std.proofs.Math.Bool.{true, false}
 use mathlib.Core.List.{List, [], ◌∷◌, ◌++◌, map, append_assoc, append-nil}
 use Rattle.std.proofs.Math.Option.{Option, none, some, some-injective, none-ne-some, some-ne-none}
@@ -31,7 +31,7 @@ use Rattle.comparison.specs.Agrees.{Scope, meant, bind, on_variable, on_operatio
 use Rattle.comparison.specs.Compare.{Verdict, yes, no, refused_on, decided}
 use Rattle.comparison.specs.BindersLaws.{names_in}
 use Rattle.comparison.proofs.BindersLaws.{bind-names}
-use Rattle.supplier.specs.Walk.{Found, outside, open', other, same, left_of, joined, met, Ours, our, constant_sort, variable_sort, operation_sort, name_sort, list_sort, if_sort, lambda_sort, application_sort, no_sort, ours_of, takes, constant_here, form_of, quotes, plan, quote_plan, if_plan, lambda_plan, formals_of, headed_plan, plan_of, is_operation, quoted_name, is_place, free, reference, name_here, walk, walk_from}
+use Rattle.supplier.specs.Walk.{Found, outside, open', other, same, left_of, joined, met, Ours, our, constant_sort, variable_sort, operation_sort, name_sort, list_sort, if_sort, lambda_sort, application_sort, no_sort, ours_of, takes, constant_here, form_of, quotes, quote_plan, if_plan, lambda_plan, formals_of, headed_plan, plan_of, is_operation, quoted_name, is_place, free, reference, name_here, walk, walk_from}
 
 no_true : (b : Bool) → (b ≡ true → ⊥) → b ≡ false
 no_true true h = absurd (h refl)

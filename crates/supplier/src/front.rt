@@ -5,62 +5,48 @@ ghost use Rattle.core_term.specs.Node.{node_at};
 ghost use Rattle.core_term.specs.Code.Opened.{node_in};
 ghost use Rattle.core_term.specs.declared.nodes.Node.TheVariants.{Lambda};
 ghost use Rattle.supplier.specs.Walk.{ours_of, takes, constant_here};
-ghost use Rattle.supplier.specs.Told.{found_of, Fronted, Told};
+ghost use Rattle.supplier.specs.Told.{sort_number, Fronted, Told};
 
 use core_term::nodes::{Node, opened};
 
-// What is found: the same so far, another, open (22), outside the grammar (21); the later goes before the earlier.
-pub const SAME: u32 = 0;
-
-pub const OTHER: u32 = 1;
-
-pub const OPEN: u32 = 2;
-
-pub const OUTSIDE: u32 = 3;
-
-// With the words of ours that are taken: all of them after a difference.
-#[derive(Clone, Copy)]
-pub struct Walked {
-    pub rank: u32,
-    pub taken: usize,
+// What keeps a text from being our term: something else stands there, a name is open (22), something is outside the grammar (21); the later
+// goes before the earlier.
+#[derive(Clone, Copy, PartialEq, Eq, PartialOrd, Ord)]
+pub enum Difference {
+    Other,
+    Open,
+    Outside,
 }
 
-// Sorts of nodes.
-const CONSTANT: u32 = 0;
+// How many words of ours are taken, where the text is the same so far.
+pub type Walked = Result<usize, Difference>;
 
-pub const VARIABLE: u32 = 1;
+// Sorts of nodes, and none.
+#[derive(Clone, Copy, PartialEq, Eq)]
+pub enum Sort {
+    Constant,
+    Variable,
+    Operation,
+    Name,
+    List,
+    If,
+    Lambda,
+    Application,
+    None,
+}
 
-pub const OPERATION: u32 = 2;
-
-pub const NAME: u32 = 3;
-
-pub const LIST: u32 = 4;
-
-pub const IF: u32 = 5;
-
-pub const LAMBDA: u32 = 6;
-
-pub const APPLICATION: u32 = 7;
-
-const NONE: u32 = 8;
-
-// Of a constant its kind and two words, of a lambda how many variables and the first, of others their number; its own words.
+// Of a constant its kind and two words, of a lambda how many variables and the first, of others their number; its own words. No enum with
+// fields, since `takes` compares sort and number alike for each sort.
 #[derive(Clone, Copy)]
 pub struct Front {
-    pub sort: u32,
+    pub sort: Sort,
     pub first: u32,
     pub second: u32,
     pub third: u32,
     pub size: usize,
 }
 
-pub fn wide(n: u32) -> usize
-    ensures { result ≡ n }
-{
-    n as usize
-}
-
-fn of(sort: u32, first: u32, second: u32, third: u32, size: usize) -> Front
+fn of(sort: Sort, first: u32, second: u32, third: u32, size: usize) -> Front
     ensures { result ≡ record { sort = sort; first = first; second = second; third = third; size = size } }
 {
     Front {
@@ -78,56 +64,44 @@ fn lambda(words: &[u32], first: u32, count: u32) -> Front
     ensures { Fronted words.now result }
 {
     let names = words.len() - 3;
-    if wide(count) < names {
-        return of(LAMBDA, count, first, 0, wide(count) + 3);
+    if (count as usize) < names {
+        return of(Sort::Lambda, count, first, 0, count as usize + 3);
     }
-    of(LAMBDA, names as u32, first, 0, words.len())
+    of(Sort::Lambda, names as u32, first, 0, words.len())
 }
 
 pub fn own(words: &[u32]) -> Front
     ensures { Fronted words.now result }
 {
-    match opened(words) {
-        Node::Variable(n) => of(VARIABLE, n, 0, 0, 2),
-        Node::Operation(n) => of(OPERATION, n, 0, 0, 2),
-        Node::Integer(w) => of(CONSTANT, 1, w, 0, 2),
-        Node::Boolean(w) => of(CONSTANT, 2, w, 0, 2),
-        Node::Decimal(w, places) => of(CONSTANT, 5, w, places, 3),
-        Node::Name(n) => of(NAME, n, 0, 0, 2),
-        Node::List(n) => of(LIST, n, 0, 0, 2),
-        Node::If => of(IF, 0, 0, 0, 1),
+    let Some(node) = opened(words) else {
+        return of(Sort::None, 0, 0, 0, words.len());
+    };
+    match node {
+        Node::Variable(n) => of(Sort::Variable, n, 0, 0, 2),
+        Node::Operation(n) => of(Sort::Operation, n, 0, 0, 2),
+        Node::Integer(w) => of(Sort::Constant, 1, w, 0, 2),
+        Node::Boolean(w) => of(Sort::Constant, 2, w, 0, 2),
+        Node::Decimal(w, places) => of(Sort::Constant, 5, w, places, 3),
+        Node::Name(n) => of(Sort::Name, n, 0, 0, 2),
+        Node::List(n) => of(Sort::List, n, 0, 0, 2),
+        Node::If => of(Sort::If, 0, 0, 0, 1),
         Node::Lambda(first, count) => lambda(words, first, count),
-        Node::Application(n) => of(APPLICATION, n, 0, 0, 2),
-        Node::None => of(NONE, 0, 0, 0, words.len()),
-    }
-}
-
-// After a difference no words are left.
-pub fn lost(words: &[u32], rank: u32) -> Walked
-    requires { 1 ≤ rank }
-    ensures { Told words.now (found_of words.now rank 0) result }
-{
-    Walked {
-        rank: rank,
-        taken: words.len(),
+        Node::Application(n) => of(Sort::Application, n, 0, 0, 2),
     }
 }
 
 // A node of this sort and number.
-pub fn takes(words: &[u32], sort: u32, number: usize) -> Walked
-    ensures { Told words.now (takes sort number (ours_of (node_at words.now))) result }
+pub fn takes(words: &[u32], sort: Sort, number: usize) -> Walked
+    ensures { Told words.now (takes (sort_number sort) number (ours_of (node_at words.now))) result }
 {
     let node = own(words);
     if node.sort != sort {
-        return lost(words, OTHER);
+        return Err(Difference::Other);
     }
-    if wide(node.first) != number {
-        return lost(words, OTHER);
+    if node.first as usize != number {
+        return Err(Difference::Other);
     }
-    Walked {
-        rank: SAME,
-        taken: node.size,
-    }
+    Ok(node.size)
 }
 
 // A constant, by its kind and two words.
@@ -135,20 +109,17 @@ pub fn constant(words: &[u32], kind: u32, first: usize, second: usize) -> Walked
     ensures { Told words.now (constant_here (record { kind = kind; first = first; second = second }) (ours_of (node_at words.now))) result }
 {
     let node = own(words);
-    if node.sort != CONSTANT {
-        return lost(words, OTHER);
+    if node.sort != Sort::Constant {
+        return Err(Difference::Other);
     }
     if node.first != kind {
-        return lost(words, OTHER);
+        return Err(Difference::Other);
     }
-    if wide(node.second) != first {
-        return lost(words, OTHER);
+    if node.second as usize != first {
+        return Err(Difference::Other);
     }
-    if wide(node.third) != second {
-        return lost(words, OTHER);
+    if node.third as usize != second {
+        return Err(Difference::Other);
     }
-    Walked {
-        rank: SAME,
-        taken: node.size,
-    }
+    Ok(node.size)
 }

@@ -6,22 +6,21 @@ ghost use Rattle.supplier.specs.Items.{DatumAt, DataAt, Held, HeldAll};
 ghost use Rattle.supplier.specs.Scope.{Kept};
 ghost use Rattle.supplier.specs.Walk.{outside, same, quotes, form_of, takes, if_sort, ours_of};
 ghost use Rattle.supplier.specs.Told.{Told};
-ghost use Rattle.supplier.specs.Forms.{FormalsAre, Room, Started, LambdaStarted};
+ghost use Rattle.supplier.specs.Forms.{form_number, FormalsAre, Room, Started, LambdaStarted};
 
-use crate::front;
-use crate::front::{Walked, lost, own, takes, wide};
-use crate::scope::innermost;
+use crate::front::{Difference, Sort, Walked, own, takes};
+use crate::scope::{Formal, is_bound};
 use layout::item::{EMPTY, NAME, PAIR, head, kind, tail};
-use words::NAMES;
 
 // Formals of one lambda.
 pub const FORMALS: usize = words::FORMALS as usize;
 
-// How many formals a lambda has, where it may bind them.
+// The forms that an element may head.
 #[derive(Clone, Copy)]
-pub enum Bound {
-    Formals(usize),
-    No,
+pub enum Form {
+    Quote,
+    If,
+    Lambda,
 }
 
 // An element or a list of the text: its item, how many formals are round it, whether it is quoted.
@@ -32,17 +31,14 @@ pub struct Place {
     pub quoted: bool,
 }
 
-// The same of a list whose elements are walked through, and what was found before them.
+// A list whose elements are walked through, and what was found before them.
 #[derive(Clone, Copy)]
 pub struct Start {
-    pub i: usize,
-    pub top: usize,
-    pub quoted: bool,
-    pub rank: u32,
-    pub taken: usize,
+    pub place: Place,
+    pub found: Walked,
 }
 
-// How many elements a list has.
+// How many elements a list has: a loop along its cells, which no iterator yields.
 pub fn count(items: &[u32], i: usize) -> usize
     requires { HeldAll items.now i }
     ensures { (ds : Data) → DataAt items.now i ds → result ≡ count ds }
@@ -77,8 +73,15 @@ fn is_quotation(items: &[u32], i: usize) -> bool
     false
 }
 
-// The formals of a lambda, from item i on, put into the scope behind its first `top`, for our variables from `first` on.
-pub fn formals(items: &[u32], i: usize, scope: &mut [usize], top: usize, first: u32) -> Bound
+// How many formals a lambda has, where it may bind them: from item i on, put into the scope behind its first `top`, for our variables from
+// `first` on.
+pub fn formals(
+    items: &[u32],
+    i: usize,
+    scope: &mut [Formal],
+    top: usize,
+    first: u32,
+) -> Option<usize>
     requires { Held items.now i × (top + 8 ≤ length scope.old) }
     ensures formals { (d : Datum) → DatumAt items.now i d → FormalsAre d top first scope.old scope.new result }
     ensures kept { Kept top scope.old scope.new }
@@ -87,53 +90,45 @@ pub fn formals(items: &[u32], i: usize, scope: &mut [usize], top: usize, first: 
     let mut n = 0;
     while kind(items, j) == PAIR {
         if n == FORMALS {
-            return Bound::No;
+            return None;
         }
         let at = head(items, j);
         if kind(items, at) != NAME {
-            return Bound::No;
+            return None;
         }
         let name = head(items, at);
         if name < 3 {
-            return Bound::No;
+            return None;
         }
-        if innermost(scope, top + n, name) > top {
-            return Bound::No;
+        if is_bound(scope, top, top + n, name) {
+            return None;
         }
-        scope[top + n] = NAMES * (wide(first) + n) + name;
+        scope[top + n] = Formal {
+            name,
+            variable: first as usize + n,
+        };
         n = n + 1;
         j = tail(items, j);
     }
     if kind(items, j) != EMPTY {
-        return Bound::No;
+        return None;
     }
-    Bound::Formals(n)
+    Some(n)
 }
 
-// The form that an item heads: quote 0, if 1, lambda 2; 3 where it is none of them.
-pub fn form(items: &[u32], i: usize) -> usize
+// The form that an item heads, by the fixed numbers of the forms' names.
+pub fn form_at(items: &[u32], i: usize) -> Option<Form>
     requires { Held items.now i }
-    ensures { (d : Datum) → DatumAt items.now i d → result ≡ form_of d }
+    ensures { (d : Datum) → DatumAt items.now i d → form_number result ≡ form_of d }
 {
     if kind(items, i) != NAME {
-        return 3;
+        return None;
     }
-    let n = head(items, i);
-    if n < 3 {
-        return n;
-    }
-    3
-}
-
-fn begun(at: Place, quoted: bool, state: Walked) -> Start
-    ensures { result ≡ record { i = at.i; top = at.top; quoted = quoted; rank = state.rank; taken = state.taken } }
-{
-    Start {
-        i: at.i,
-        top: at.top,
-        quoted: quoted,
-        rank: state.rank,
-        taken: state.taken,
+    match head(items, i) {
+        0 => Some(Form::Quote),
+        1 => Some(Form::If),
+        2 => Some(Form::Lambda),
+        _ => None,
     }
 }
 
@@ -143,12 +138,9 @@ fn quotation(items: &[u32], i: usize, words: &[u32]) -> Walked
     ensures { (ds : Data) → DataAt items.now i ds → Told words.now (cond (quotes ds) (same words.now) outside) result }
 {
     if is_quotation(items, i) {
-        return Walked {
-            rank: front::SAME,
-            taken: 0,
-        };
+        return Ok(0);
     }
-    lost(words, front::OUTSIDE)
+    Err(Difference::Outside)
 }
 
 fn conditional(items: &[u32], i: usize, words: &[u32]) -> Walked
@@ -156,60 +148,79 @@ fn conditional(items: &[u32], i: usize, words: &[u32]) -> Walked
     ensures { (ds : Data) → DataAt items.now i ds → Told words.now (cond (eqb (count ds) 3) (takes if_sort 0 (ours_of (node_at words.now))) outside) result }
 {
     if count(items, i) != 3 {
-        return lost(words, front::OUTSIDE);
+        return Err(Difference::Outside);
     }
-    takes(words, front::IF, 0)
+    takes(words, Sort::If, 0)
 }
 
 // What stands behind lambda: its formals and its body. Our name words are not heeded.
-fn lambda(items: &[u32], words: &[u32], scope: &mut [usize], at: Place) -> Start
+fn lambda(items: &[u32], words: &[u32], scope: &mut [Formal], at: Place) -> Start
     requires { HeldAll items.now at.i × Room items.now scope.old at.top at.i }
     ensures { LambdaStarted items.now words.now scope.old scope.new at result }
 {
+    let at = Place {
+        quoted: false,
+        ..at
+    };
+    let outside = Start {
+        place: at,
+        found: Err(Difference::Outside),
+    };
     if count(items, at.i) != 2 {
-        return begun(at, false, lost(words, front::OUTSIDE));
+        return outside;
     }
     let node = own(words);
-    let Bound::Formals(n) = formals(items, head(items, at.i), scope, at.top, node.second) else {
-        return begun(at, false, lost(words, front::OUTSIDE));
+    let Some(n) = formals(items, head(items, at.i), scope, at.top, node.second) else {
+        return outside;
     };
-    let body = Place {
+    let place = Place {
         i: tail(items, at.i),
         top: at.top + n,
-        quoted: false,
+        ..at
     };
-    begun(body, false, takes(words, front::LAMBDA, n))
+    Start {
+        place,
+        found: takes(words, Sort::Lambda, n),
+    }
 }
 
 // How the walk through a list begins: behind the own words of our node, where there is one for it.
-pub fn list(items: &[u32], words: &[u32], scope: &mut [usize], at: Place) -> Start
+pub fn list(items: &[u32], words: &[u32], scope: &mut [Formal], at: Place) -> Start
     requires { HeldAll items.now at.i × Room items.now scope.old at.top at.i }
     ensures { Started items.now words.now scope.old scope.new at result }
 {
     if at.quoted {
-        return begun(at, true, takes(words, front::LIST, count(items, at.i)));
+        return Start {
+            place: at,
+            found: takes(words, Sort::List, count(items, at.i)),
+        };
     }
     if kind(items, at.i) != PAIR {
-        return begun(at, false, lost(words, front::OUTSIDE));
+        return Start {
+            place: at,
+            found: Err(Difference::Outside),
+        };
     }
-    let form = form(items, head(items, at.i));
     let next = Place {
         i: tail(items, at.i),
-        top: at.top,
-        quoted: false,
+        ..at
     };
-    if form == 0 {
-        return begun(next, true, quotation(items, next.i, words));
+    match form_at(items, head(items, at.i)) {
+        Some(Form::Quote) => Start {
+            place: Place {
+                quoted: true,
+                ..next
+            },
+            found: quotation(items, next.i, words),
+        },
+        Some(Form::If) => Start {
+            place: next,
+            found: conditional(items, next.i, words),
+        },
+        Some(Form::Lambda) => lambda(items, words, scope, next),
+        None => Start {
+            place: at,
+            found: takes(words, Sort::Application, count(items, next.i)),
+        },
     }
-    if form == 1 {
-        return begun(next, false, conditional(items, next.i, words));
-    }
-    if form == 2 {
-        return lambda(items, words, scope, next);
-    }
-    begun(
-        at,
-        false,
-        takes(words, front::APPLICATION, count(items, next.i)),
-    )
 }

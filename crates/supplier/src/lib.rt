@@ -13,25 +13,20 @@ ghost use Rattle.supplier.specs.Items.{Held};
 ghost use Rattle.words.specs.Limits.{item_words_least};
 ghost use Rattle.supplier.specs.Forms.{Spelling};
 ghost use Rattle.supplier.specs.Text.{OperationSlots, ElementRight, TextRight};
-ghost use Rattle.supplier.specs.Service.{verdict_of, is_refusal, Compared};
+ghost use Rattle.supplier.specs.Service.{Compared};
 
 use core_term::is_term;
+use front::Difference;
 use grammar::{FORMALS, Place};
 use layout::{is_layout, operation};
 use names::all_named;
-use reader::{Reading, read_elements};
-use words::tables::{zero_bytes, zero_words};
+use reader::read_elements;
+use scope::Formal;
+use words::ground::Ground;
 use words::{ITEM, MOST_ITEMS, NAMES, OPERATIONS};
 
-// The answer: our term or another, or the ground.
-#[derive(Clone, Copy)]
-pub enum Comparison {
-    Yes,
-    No,
-    Refused(u32),
-}
-
-// Formals round an expression: a lambda's eight behind those of the lambdas round it, two items of the text for each.
+// Formals round an expression: a lambda's eight behind those of the lambdas round it, two items of the text for each; there
+// is no heap for a scope that grows.
 const SCOPE: usize = MOST_ITEMS / 2 + FORMALS;
 
 // The element of a text that was read, which item 1 begins: grounds 21 and 22, then yes or no.
@@ -41,36 +36,26 @@ fn decided(
     words: &[u32],
     ours: &[u8],
     operations: &[u16],
-) -> Comparison
+) -> Result<bool, Ground>
     requires { Held items.now 1 × (length items.now ≤ item_words_least) × Spelling theirs.now ours.now operations.now }
     ensures { ElementRight items.now theirs.now words.now ours.now operations.now result }
 {
-    let mut scope = [0usize; SCOPE];
+    let nobody = Formal {
+        name: 0,
+        variable: 0,
+    };
+    let mut scope = [nobody; SCOPE];
     let at = Place {
         i: 1,
         top: 0,
         quoted: false,
     };
     let found = walk::expression(items, words, theirs, ours, operations, &mut scope, at);
-    if found.rank == front::SAME {
-        return Comparison::Yes;
-    }
-    if found.rank == front::OTHER {
-        return Comparison::No;
-    }
-    if found.rank == front::OPEN {
-        return Comparison::Refused(22);
-    }
-    Comparison::Refused(21)
-}
-
-fn is_refused(v: Comparison) -> bool
-    ensures { result ≡ is_refusal (verdict_of v) }
-{
-    match v {
-        Comparison::Refused(ground) => true,
-        Comparison::Yes => false,
-        Comparison::No => false,
+    match found {
+        Ok(_) => Ok(true),
+        Err(Difference::Other) => Ok(false),
+        Err(Difference::Open) => Err(Ground::OpenName),
+        Err(Difference::Outside) => Err(Ground::OutsideGrammar),
     }
 }
 
@@ -82,23 +67,23 @@ fn held(
     text: &[u8],
     items: &mut [u32],
     names: &mut [u8],
-) -> Comparison
+) -> Result<bool, Ground>
     requires { OperationSlots ours.now operations.now }
     ensures { TextRight words.now ours.now operations.now text.now items.old items.new names.old names.new result }
 {
-    match read_elements(text, items, names, 1) {
-        Reading::Read { items: i, names: n } => {
-            let end = ITEM * i;
-            let answer = decided(&items[..end], names, words, ours, operations);
-            if is_refused(answer) {
-                zero_words(items);
-                zero_bytes(names);
-                return answer;
-            }
-            answer
-        }
-        Reading::Refused(ground) => Comparison::Refused(ground),
+    let counts = read_elements(text, items, names, 1)?;
+    let answer = decided(
+        &items[..ITEM * counts.items],
+        names,
+        words,
+        ours,
+        operations,
+    );
+    if answer.is_err() {
+        items.fill(0);
+        names.fill(0);
     }
+    answer
 }
 
 // Whether a supplier's text is our term up to the choice of bound names: the recipe's item and name tables, our words,
@@ -110,23 +95,23 @@ pub fn compare(
     text: &[u8],
     items: &mut [u32],
     names: &mut [u8],
-) -> Comparison
+) -> Result<bool, Ground>
     ensures { Compared recipe.now ours.now words.now text.now items.old items.new names.old names.new result }
 {
     if !is_layout(recipe) {
-        return Comparison::Refused(7);
+        return Err(Ground::BadLayout);
     }
     let mut places = [0u16; NAMES];
     if !operation::operations(recipe, &mut places) {
-        return Comparison::Refused(10);
+        return Err(Ground::BadOperations);
     }
     let mut list = [0u16; OPERATIONS as usize];
     let count = operation::numbers(recipe, &mut list);
     if !is_term(words, count as u32, ours) {
-        return Comparison::Refused(19);
+        return Err(Ground::NoTerm);
     }
     if !all_named(ours, &list[..count]) {
-        return Comparison::Refused(19);
+        return Err(Ground::NoTerm);
     }
     held(words, ours, &list[..count], text, items, names)
 }

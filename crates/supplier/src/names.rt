@@ -8,18 +8,6 @@ use core_term::has_name;
 use reader::names::spells;
 use words::SLOT;
 
-fn length_of(b: u8) -> usize
-    ensures { result ≡ b }
-{
-    b as usize
-}
-
-pub fn small(n: u16) -> usize
-    ensures { result ≡ n }
-{
-    n as usize
-}
-
 // Name n of one table is spelled as name m of the other.
 pub fn same_name(theirs: &[u8], n: usize, ours: &[u8], m: usize) -> bool
     requires { Slot theirs.now n × Slot ours.now m }
@@ -27,7 +15,7 @@ pub fn same_name(theirs: &[u8], n: usize, ours: &[u8], m: usize) -> bool
 {
     let start = SLOT * n;
     let from = start + 1;
-    let to = from + length_of(theirs[start]);
+    let to = from + usize::from(theirs[start]);
     spells(ours, m, &theirs[from..to])
 }
 
@@ -36,26 +24,14 @@ pub fn any_name(theirs: &[u8], n: usize, ours: &[u8], numbers: &[u16]) -> bool
     requires { Slot theirs.now n × ((k : ℕ) → k < length numbers.now → Slot ours.now (get_or numbers.now k 0)) }
     ensures { result ≡ any_of (equal (name_at theirs.now n)) (map (name_at ours.now) numbers.now) }
 {
-    let mut k = 0;
-    while k < numbers.len() {
-        if same_name(theirs, n, ours, small(numbers[k])) {
-            return true;
-        }
-        k = k + 1;
-    }
-    false
+    numbers
+        .iter()
+        .any(|&m| same_name(theirs, n, ours, usize::from(m)))
 }
 
 // Each of these numbers is that of a name in the table.
 pub fn all_named(names: &[u8], numbers: &[u16]) -> bool
     ensures { result ≡ all_of (has_name names.now) numbers.now }
 {
-    let mut k = 0;
-    while k < numbers.len() {
-        if !has_name(names, small(numbers[k])) {
-            return false;
-        }
-        k = k + 1;
-    }
-    true
+    numbers.iter().all(|&n| has_name(names, usize::from(n)))
 }

@@ -1,27 +1,36 @@
-// The formals of the lambdas round an expression, the innermost last: of each its name in the text and our variable, in one number.
-ghost use Rattle.std.specs.Prelude.{◌≡◌, ◌≤◌, ◌<◌, length};
-ghost use Rattle.supplier.specs.Scope.{innermost, variable_in};
+// The formals of the lambdas round an expression, the innermost last.
+ghost use Rattle.std.specs.Prelude.{◌≡◌, ◌≤◌, ◌<◌, ltb, length};
+ghost use Rattle.supplier.specs.Scope.{place_after, innermost, variable_in};
 
-use words::NAMES;
-
-// The place after the innermost formal of this name among the first `top`, 0 where none has it.
-pub fn innermost(scope: &[usize], top: usize, name: usize) -> usize
-    requires { top ≤ length scope.now }
-    ensures { result ≡ innermost name scope.now top }
-{
-    let mut k = top;
-    while k > 0 {
-        if scope[k - 1] % NAMES == name {
-            return k;
-        }
-        k = k - 1;
-    }
-    0
+// Its name in the text and our variable.
+#[derive(Clone, Copy)]
+pub struct Formal {
+    pub name: usize,
+    pub variable: usize,
 }
 
-pub fn variable(scope: &[usize], k: usize) -> usize
+// The innermost formal of this name among the first `top`.
+pub fn innermost(scope: &[Formal], top: usize, name: usize) -> Option<usize>
+    requires { top ≤ length scope.now }
+    ensures { place_after result ≡ innermost name scope.now top }
+{
+    scope[..top].iter().rposition(|f| f.name == name)
+}
+
+// One of the formals from place `from` on has this name, among the first `top`.
+pub fn is_bound(scope: &[Formal], from: usize, top: usize, name: usize) -> bool
+    requires { top ≤ length scope.now }
+    ensures { result ≡ ltb from (innermost name scope.now top) }
+{
+    match innermost(scope, top, name) {
+        Some(k) => from <= k,
+        None => false,
+    }
+}
+
+pub fn variable(scope: &[Formal], k: usize) -> usize
     requires { k < length scope.now }
     ensures { result ≡ variable_in scope.now k }
 {
-    scope[k] / NAMES
+    scope[k].variable
 }

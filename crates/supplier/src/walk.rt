@@ -1,20 +1,19 @@
 // The walk: a text's element against the words of our term, in one recursion. Its meaning stands in specs/Walk.antt.
-ghost use Rattle.std.specs.Prelude.{◌≡◌, false, List, ℕ, ◌-◌, ◌<◌, ◌≤◌, length, drop};
+ghost use Rattle.std.specs.Prelude.{◌≡◌, false, List, ℕ, ◌<◌, ◌≤◌, length};
 ghost use Rattle.words.specs.Limits.{names_most};
 ghost use Rattle.datum.specs.Datum.{Data, Datum};
 ghost use Rattle.core_term.specs.Node.{node_at};
 ghost use Rattle.supplier.specs.Items.{DatumAt, DataAt, Held, HeldAll};
 ghost use Rattle.supplier.specs.Names.{Slot};
 ghost use Rattle.supplier.specs.Scope.{Kept, scope_of};
-ghost use Rattle.supplier.specs.Walk.{joined, ours_of, is_place, quoted_name, free, name_here, walk, walk_from};
-ghost use Rattle.supplier.specs.Told.{found_of, Fronted, Stands, Told};
-ghost use Rattle.supplier.specs.Forms.{Room, Spelling, Joined};
+ghost use Rattle.supplier.specs.Walk.{left_of, joined, ours_of, is_place, quoted_name, free, name_here, walk, walk_from};
+ghost use Rattle.supplier.specs.Told.{found_of, Fronted, Within, Told};
+ghost use Rattle.supplier.specs.Forms.{Room, Spelling};
 
-use crate::front;
-use crate::front::{Front, Walked, constant, lost, own, takes, wide};
+use crate::front::{Difference, Front, Sort, Walked, constant, own, takes};
 use crate::grammar::{Place, Start, list};
-use crate::names::{any_name, same_name, small};
-use crate::scope::{innermost, variable};
+use crate::names::{any_name, same_name};
+use crate::scope::{Formal, innermost, variable};
 use core_term::has_name;
 use layout::item::{NAME, PAIR, head, is_list_kind, kind, tail};
 
@@ -24,20 +23,17 @@ fn quoted_name(words: &[u32], theirs: &[u8], ours: &[u8], n: usize) -> Walked
     ensures { (operations : List ℕ) → Told words.now (quoted_name theirs.now ours.now operations n (ours_of (node_at words.now))) result }
 {
     let node = own(words);
-    if node.sort != front::NAME {
-        return lost(words, front::OTHER);
+    if node.sort != Sort::Name {
+        return Err(Difference::Other);
     }
-    let m = wide(node.first);
+    let m = node.first as usize;
     if !has_name(ours, m) {
-        return lost(words, front::OTHER);
+        return Err(Difference::Other);
     }
     if same_name(theirs, n, ours, m) {
-        return Walked {
-            rank: front::SAME,
-            taken: node.size,
-        };
+        return Ok(node.size);
     }
-    lost(words, front::OTHER)
+    Err(Difference::Other)
 }
 
 // Our node is an operation of this spelling.
@@ -45,14 +41,14 @@ fn is_place(node: Front, theirs: &[u8], ours: &[u8], operations: &[u16], n: usiz
     requires { Spelling theirs.now ours.now operations.now × (n < names_most) }
     ensures { (ws : List ℕ) → Fronted ws node → result ≡ is_place theirs.now ours.now operations.now n (ours_of (node_at ws)) }
 {
-    if node.sort != front::OPERATION {
+    if node.sort != Sort::Operation {
         return false;
     }
-    let p = wide(node.first);
+    let p = node.first as usize;
     if operations.len() <= p {
         return false;
     }
-    same_name(theirs, n, ours, small(operations[p]))
+    same_name(theirs, n, ours, usize::from(operations[p]))
 }
 
 // A name that no formal has: an operation of its spelling.
@@ -62,15 +58,12 @@ fn free(words: &[u32], theirs: &[u8], ours: &[u8], operations: &[u16], n: usize)
 {
     let node = own(words);
     if is_place(node, theirs, ours, operations, n) {
-        return Walked {
-            rank: front::SAME,
-            taken: node.size,
-        };
+        return Ok(node.size);
     }
     if any_name(theirs, n, ours, operations) {
-        return lost(words, front::OTHER);
+        return Err(Difference::Other);
     }
-    lost(words, front::OPEN)
+    Err(Difference::Open)
 }
 
 // A name as an expression: the variable of its innermost formal, or free.
@@ -79,7 +72,7 @@ fn reference(
     theirs: &[u8],
     ours: &[u8],
     operations: &[u16],
-    scope: &[usize],
+    scope: &[Formal],
     top: usize,
     n: usize,
 ) -> Walked
@@ -87,35 +80,39 @@ fn reference(
     ensures { Told words.now (name_here theirs.now ours.now operations.now false (scope_of scope.now top) n (ours_of (node_at words.now))) result }
 {
     if n < 3 {
-        return lost(words, front::OUTSIDE);
+        return Err(Difference::Outside);
     }
-    let k = innermost(scope, top, n);
-    if k == 0 {
-        return free(words, theirs, ours, operations, n);
+    match innermost(scope, top, n) {
+        Some(k) => takes(words, Sort::Variable, variable(scope, k)),
+        None => free(words, theirs, ours, operations, n),
     }
-    takes(words, front::VARIABLE, variable(scope, k - 1))
 }
 
-// One thing found behind another, of `most` words: 21 before 22 before no.
-fn joined(before: Walked, found: Walked, most: usize) -> Walked
-    requires { (before.taken ≤ most) × (found.taken ≤ most - before.taken) }
-    ensures { Joined before found most result }
+// The words of ours that are left: none after a difference.
+fn left(words: &[u32], found: Walked) -> &[u32]
+    requires { Within words.now found }
+    ensures { result.now ≡ left_of (found_of words.now found) }
 {
-    if before.rank < found.rank {
-        return Walked {
-            rank: found.rank,
-            taken: most,
-        };
-    }
-    if before.rank > front::SAME {
-        return Walked {
-            rank: before.rank,
-            taken: most,
-        };
-    }
-    Walked {
-        rank: front::SAME,
-        taken: before.taken + found.taken,
+    let taken = found.unwrap_or(words.len());
+    &words[taken..]
+}
+
+// One thing found behind another: 21 before 22 before no.
+fn joined(words: &[u32], before: Walked, found: Walked) -> Walked
+    requires { Within words.now before × Within (left_of (found_of words.now before)) found }
+    ensures { Told words.now (joined (found_of words.now before) (found_of (left_of (found_of words.now before)) found)) result }
+{
+    match before {
+        Ok(taken) => Ok(taken + found?),
+        Err(first) => match found {
+            Ok(_) => Err(first),
+            Err(second) => {
+                if first < second {
+                    return Err(second);
+                }
+                Err(first)
+            }
+        },
     }
 }
 
@@ -127,7 +124,7 @@ pub fn expression(
     theirs: &[u8],
     ours: &[u8],
     operations: &[u16],
-    scope: &mut [usize],
+    scope: &mut [Formal],
     at: Place,
 ) -> Walked
     requires { Held items.now at.i × Room items.now scope.old at.top at.i × Spelling theirs.now ours.now operations.now }
@@ -157,27 +154,23 @@ fn all(
     theirs: &[u8],
     ours: &[u8],
     operations: &[u16],
-    scope: &mut [usize],
+    scope: &mut [Formal],
     from: Start,
 ) -> Walked
-    requires { HeldAll items.now from.i × Room items.now scope.old from.top from.i × Spelling theirs.now ours.now operations.now × Stands words.now from.rank from.taken }
-    ensures walked { (ds : Data) → DataAt items.now from.i ds → Told words.now (walk_from theirs.now ours.now operations.now ds 0 from.quoted (scope_of scope.old from.top) (found_of words.now from.rank from.taken)) result }
-    ensures kept { Kept from.top scope.old scope.new }
+    requires { HeldAll items.now from.place.i × Room items.now scope.old from.place.top from.place.i × Spelling theirs.now ours.now operations.now × Within words.now from.found }
+    ensures walked { (ds : Data) → DataAt items.now from.place.i ds → Told words.now (walk_from theirs.now ours.now operations.now ds 0 from.place.quoted (scope_of scope.old from.place.top) (found_of words.now from.found)) result }
+    ensures kept { Kept from.place.top scope.old scope.new }
 {
-    let mut j = from.i;
-    let mut found = Walked {
-        rank: from.rank,
-        taken: from.taken,
-    };
+    let mut j = from.place.i;
+    let mut found = from.found;
     while kind(items, j) == PAIR {
         let at = Place {
             i: head(items, j),
-            top: from.top,
-            quoted: from.quoted,
+            ..from.place
         };
-        let taken = found.taken;
-        let next = expression(items, &words[taken..], theirs, ours, operations, scope, at);
-        found = joined(found, next, words.len());
+        let rest = left(words, found);
+        let next = expression(items, rest, theirs, ours, operations, scope, at);
+        found = joined(words, found, next);
         j = tail(items, j);
     }
     found

@@ -3,56 +3,43 @@
 // input cannot be read, standard error says why, and nothing is printed.
 #![tactic(auto)]
 
-ghost use Rattle.std.specs.Prelude.{◌≤◌, length, IfOk};
+ghost use Rattle.std.specs.Prelude.{◌≤◌, length};
 
-use lexer::token::skip;
-use lexer::token_reader::{ground, past, token_from};
+use input::read_full;
+use lexer::token::Lexeme;
+use lexer::token_reader::token_from;
 use std::io;
-use std::io::Read;
+use words::ground::Ground;
 
 // Bytes of a buffer that any text fits, and that a text which is too long fills.
 const BUFFER: usize = words::TEXT_BYTES + 1;
 
-// Reads until the buffer is full or the input ends; how many bytes stand at its beginning.
-fn read_full(input: &mut impl Read, bytes: &mut [u8]) -> io::Result<usize>
-    ensures { IfOk result (λ n. n ≤ length bytes.new) }
-{
-    let mut done = 0;
-    while done < bytes.len() {
-        let n = input.read(&mut bytes[done..])?;
-        if n == 0 {
-            break;
-        }
-        done += n;
-    }
-    Ok(done)
+// An offset, then the ground on which reading turns the text back there.
+fn print_ground(rt: &impl Print, from: usize, ground: Ground) -> io::Result<()> {
+    println!(rt; "{from} ground {ground}")
 }
 
-// An offset, then the bytes from there to another, or the ground.
-fn print_line(rt: &impl Print, text: &[u8], from: usize, to: usize, ground: u32) -> io::Result<()>
-    requires { (from ≤ to) × (to ≤ length text.now) }
+// An offset, then the bytes of the token there, or its ground.
+fn print_lexeme(rt: &impl Print, text: &[u8], lexeme: Lexeme) -> io::Result<()>
+    requires { (lexeme.from ≤ lexeme.next) × (lexeme.next ≤ length text.now) }
 {
-    if ground == 0 {
-        print!(rt; "{from} ")?;
-        rt.write_all(&text[from..to])?;
-    } else {
-        print!(rt; "{from} ground {ground}")?;
+    if let Err(ground) = lexeme.token {
+        return print_ground(rt, lexeme.from, ground);
     }
+    let from = lexeme.from;
+    print!(rt; "{from} ")?;
+    rt.write_all(&text[from..lexeme.next])?;
     rt.write_all(b"\n")
 }
 
 // One token after another.
 fn print_tokens(rt: &impl Print, text: &[u8]) -> io::Result<()> {
     let mut at = 0;
-    loop {
-        let token = token_from(text, at);
-        let next = past(token, at);
-        if next == at {
-            return Ok(());
-        }
-        print_line(rt, text, skip(text, at), next, ground(token))?;
-        at = next;
+    while let Some(lexeme) = token_from(text, at) {
+        print_lexeme(rt, text, lexeme)?;
+        at = lexeme.next;
     }
+    Ok(())
 }
 
 fn main(rt: HostRuntime) -> io::Result<()> {
@@ -63,7 +50,7 @@ fn main(rt: HostRuntime) -> io::Result<()> {
     };
     print_tokens(&rt, &text[..n])?;
     if words::TEXT_BYTES < n {
-        print_line(&rt, &text, words::TEXT_BYTES, n, 2)?;
+        print_ground(&rt, words::TEXT_BYTES, Ground::LongText)?;
     }
     Ok(())
 }

@@ -5,7 +5,7 @@ use Rattle.recipe.specs.Tree.{Tree, name, pair, size}
 use Rattle.expansion.specs.Lookup.{form, form_of, lookup}
 use Rattle.arena.specs.Arena.{tree_at}
 use Rattle.turns.specs.declared.answers.Reached.{Reached}
-use Rattle.turns.specs.declared.answers.Turn.{Turn}
+use Rattle.turns.specs.Answers.{TurnEnd}
 use Rattle.turns.specs.Memory.{Tables, tables, CoreRoom, Placed, Ready}
 use Rattle.turns.specs.Turns.{Turned}
 use Rattle.turns.specs.Scopes.{Roomy, QuoteRoom}
@@ -36,10 +36,10 @@ pub record FormRoom (work core macros : List ℕ) (node w : ℕ) (r : Reached) :
   pub reads : MacroRoom work macros node w r
 
 -- a turn, whatever the operations and the fuel; `limit` is that of macros in the form at hand
-abbrev pub Turns : (limit : ℕ) (tree : Tree) (r : Reached) (before after : Tables) → Turn → Type 0
+abbrev pub Turns : (limit : ℕ) (tree : Tree) (r : Reached) (before after : Tables) → TurnEnd → Type 0
 Turns limit tree r before after a = (operations : List ℕ) (fuel : ℕ) → Ready fuel (size tree) r before → Turned limit operations fuel tree r before after a
 
 -- a turn of an application whose head is no name, whatever waits on it
-abbrev pub Applies : (limit : ℕ) (work : List ℕ) (node tail w : ℕ) (r : Reached) (core core' : List ℕ) → Turn → Type 0
+abbrev pub Applies : (limit : ℕ) (work : List ℕ) (node tail w : ℕ) (r : Reached) (core core' : List ℕ) → TurnEnd → Type 0
 Applies limit work node tail w r core core' a =
     (macros : List ℕ) → Placed work r.top node w → OtherHead work node tail w → Turns limit (tree_at work node w) r (tables work core macros) (tables work core' macros) a

@@ -1,5 +1,5 @@
 -- Laws of the dispatch, one for each way through it: what the code leaves is a turn of the definition.
-use Rattle.std.specs.Prelude.{◌≡◌, Bool, cond, List, [], ◌∷◌, ℕ, zero, suc, ◌*◌, ◌≤◌, length}
+use Rattle.std.specs.Prelude.{◌≡◌, Bool, cond, List, [], ◌∷◌, ℕ, zero, suc, ◌*◌, ◌≤◌, length, Ok, Err}
 use Rattle.std.proofs.Math.Path.{refl, ap}
 use Rattle.std.proofs.Common.{sym, subst, ◌∙◌, arith, eqb-true}
 use Rattle.std.proofs.Math.Bool.{true, false}
@@ -27,17 +27,16 @@ use Rattle.arena.specs.declared.nodes.Node.{Node}
 use Rattle.arena.specs.declared.nodes.Node.TheVariants.{Empty}
 use Rattle.arena.specs.Lists.{Counts}
 use Rattle.turns.specs.declared.answers.Reached.{Reached}
-use Rattle.turns.specs.declared.answers.Ended.{Ended}
-use Rattle.turns.specs.declared.answers.Ended.TheVariants.{Done, Refused}
+use Rattle.turns.specs.declared.answers.Refused.{Refused}
+use Rattle.turns.specs.Answers.{Ended, TurnEnd, Refuses}
 use Rattle.resolution.specs.Names.{means_of, lookup_in}
 use Rattle.resolution.specs.declared.names.Meaning.TheVariants.{Variable, Macro, Form, Operation}
-use Rattle.turns.specs.declared.answers.Turn.{Turn}
 use Rattle.turns.specs.declared.answers.Turn.TheVariants.{Again, Operands, Over}
 use Rattle.turns.specs.Ends.{End, refused_end, end_of, needs}
 use Rattle.turns.specs.EndLaws.{if-end}
 use Rattle.turns.specs.Memory.{tables, macros_at, CoreRoom, Moved, HeaderMoved, Proper, Ready, Placed}
 use Rattle.turns.specs.Turns.{turn_of, Ends, Spreads, Turned}
-use Rattle.turns.specs.Leaves.{Refuses, Leaf, name_end, constant_end, ConstantLeft}
+use Rattle.turns.specs.Leaves.{Leaf, name_end, constant_end, ConstantLeft}
 use Rattle.turns.specs.LeafLaws.{form-found, leaf-ends, headed, refused-ends}
 use Rattle.turns.specs.SpreadLaws.{spread-named, spread-other, spread-if}
 use Rattle.turns.specs.Scopes.{quote_end, QuoteLeft, IfLeft, LambdaLeft}
@@ -57,15 +56,15 @@ opened-as work node n m e o = subst (λ (z : Node). Opens work node z) e o
 -- ---- no list
 
 leaf-more : (E : State → End (Term Name)) (m n : ℕ) (r : Reached) (core core' : List ℕ) (a : Ended) → m ≤ n → Leaf E m r core core' a → Leaf E n r core core' a
-leaf-more E m n r core core' (Done q) h l = record { term = l.term; is = l.is; short = omega (arith, l.short); moves = l.moves }
-leaf-more E m n r core core' (Refused g k s) h l = l
+leaf-more E m n r core core' (Ok q) h l = record { term = l.term; is = l.is; short = omega (arith, l.short); moves = l.moves }
+leaf-more E m n r core core' (Err x) h l = l
 
 two-words : (t : Tree) → (2 ≤ core_rate * size t) × (core_rate ≤ core_rate * size t)
 two-words t = (omega (arith, size-positive t), omega (arith, size-positive t))
 
 module _ (limit : ℕ) (operations : List ℕ) (work core macros : List ℕ) (fuel node w : ℕ) (r : Reached) (ready : Ready fuel (size (tree_at work node w)) r (tables work core macros)) where
-  pub empty-over : Opens work node Empty → (a : Ended) → Refuses 13 r a → Ends limit operations fuel (tree_at work node w) r (tables work core macros) (tables work core macros) a
-  empty-over o a e = refused-ends limit operations fuel (tree_at work node w) r (tables work core macros) (tables work core macros) 13 (λ expand s. rw (o w) (empty-turn limit operations fuel expand s)) a e
+  pub empty-over : Opens work node Empty → (x : Refused) → Refuses 13 r x → Ends limit operations fuel (tree_at work node w) r (tables work core macros) (tables work core macros) (Err x)
+  empty-over o x e = refused-ends limit operations fuel (tree_at work node w) r (tables work core macros) (tables work core macros) 13 (λ expand s. rw (o w) (empty-turn limit operations fuel expand s)) x e
 
   pub name-over : (core' : List ℕ) (item own : ℕ) → OpensName work node item own → (a : Ended) → Leaf (name_end (lookup operations (name_at work node w))) 2 r core core' a
       → Ends limit operations fuel (tree_at work node w) r (tables work core macros) (tables work core' macros) a
@@ -145,10 +144,10 @@ tail-placed work top node tail w x h placed =
 
 module _ (limit : ℕ) (operations : List ℕ) (work core macros : List ℕ) (fuel node list w : ℕ) (r : Reached) (x : Name) (h : Headed work node list w x) (placed : Placed work r.top node w)
     (ready : Ready fuel (size (tree_at work node w)) r (tables work core macros)) where
-  pub nothing-turned : (a : Ended) → nothing ≡ lookup operations x → Refuses 11 r a → Ends limit operations fuel (tree_at work node w) r (tables work core macros) (tables work core macros) a
-  nothing-turned a e f =
+  pub nothing-turned : (y : Refused) → nothing ≡ lookup operations x → Refuses 11 r y → Ends limit operations fuel (tree_at work node w) r (tables work core macros) (tables work core macros) (Err y)
+  nothing-turned y e f =
       refused-ends limit operations fuel (tree_at work node w) r (tables work core macros) (tables work core macros) 11
-      (λ expand s. rw h.tree (nothing-turn limit operations fuel expand s x (tree_at work list w) (sym e))) a f
+      (λ expand s. rw h.tree (nothing-turn limit operations fuel expand s x (tree_at work list w) (sym e))) y f
 
   pair-ready : Ready fuel (size (pair (name x) (tree_at work list w))) r (tables work core macros)
   pair-ready = subst (λ (z : Tree). Ready fuel (size z) r (tables work core macros)) h.tree ready
@@ -174,14 +173,15 @@ module _ (limit : ℕ) (operations : List ℕ) (work core macros : List ℕ) (fu
       let t = tree_at work list w in
       of_pair core' q (spread-named (operation_c p) 1 p refl limit operations fuel x t r q work core core' macros list w pair-ready list-placed refl (m w) (λ expand s. operation-turn limit operations fuel expand s x t p (sym e)))
 
-  pub macro-turned : (n : ℕ) (work' : List ℕ) (a : Turn) → means_of (Macro n) ≡ lookup operations x → length work' ≡ length work
+  pub macro-turned : (n : ℕ) (work' : List ℕ) (a : TurnEnd) → means_of (Macro n) ≡ lookup operations x → length work' ≡ length work
       → UseLeft (outcome_of (macros_at work macros r.macros) n fuel (tree_at work node w) r) fuel r work work' a → Turned limit operations fuel (tree_at work node w) r (tables work core macros) (tables work' core macros) a
   unfolding means_of
-  macro-turned n work' (Again k v q) e long u =
+  macro-turned n work' (Ok (Again k v q)) e long u =
       use-follows limit operations fuel n (tree_at work node w) r work work' core macros (λ expand s. rw h.tree (macro-turn limit operations fuel expand s x (tree_at work list w) n (sym e))) ready k v q u placed.proper long
-  macro-turned n work' (Operands l v q) e long u = absurd u
-  macro-turned n work' (Over a) e long u =
-      use-refused limit operations fuel n (tree_at work node w) r work work' core macros (λ expand s. rw h.tree (macro-turn limit operations fuel expand s x (tree_at work list w) n (sym e))) ready a u
+  macro-turned n work' (Ok (Operands l v q)) e long u = absurd u
+  macro-turned n work' (Ok (Over q)) e long u = absurd u
+  macro-turned n work' (Err y) e long u =
+      use-refused limit operations fuel n (tree_at work node w) r work work' core macros (λ expand s. rw h.tree (macro-turn limit operations fuel expand s x (tree_at work list w) n (sym e))) ready y u
 
 -- ---- a list whose head finds base form k
 
@@ -211,15 +211,16 @@ module _ (limit : ℕ) (work core macros : List ℕ) (node list w k : ℕ) (r : 
   form-is : (operations : List ℕ) (g : U.Form) → form_of k ≡ g → lookup operations f.head ≡ form g
   form-is operations g e = sym (f.finds operations) ∙ ap form e
 
-  pub quote-turned : (core' : List ℕ) (a : Ended) → k ≡ 0 → QuoteLeft work node r core core' a → Turns limit tree r (tables work core macros) (tables work core' macros) (Over a)
+  pub quote-turned : (core' : List ℕ) (a : Ended) → k ≡ 0 → QuoteLeft work node r core core' a → (operations : List ℕ) (fuel : ℕ) → Ready fuel (size tree) r (tables work core macros)
+      → Ends limit operations fuel tree r (tables work core macros) (tables work core' macros) a
   unfolding form_of
   quote-turned core' a e l operations fuel ready =
       leaf-ends limit operations fuel tree r work core core' macros (quote_end tree) (λ expand s. rw tree_is (quote-turn limit operations fuel expand s f.head t (form-is operations quote (ap form_of e)))) ready a (l w)
 
-  pub auxiliary-turned : (a : Ended) → (k ≡ 0 → ⊥) → (k ≡ 1 → ⊥) → (k ≡ 2 → ⊥) → (k ≡ 3 → ⊥) → (k ≡ 4 → ⊥) → Refuses 12 r a → Turns limit tree r (tables work core macros) (tables work core macros) (Over a)
-  auxiliary-turned a n0 n1 n2 n3 n4 x operations fuel ready =
+  pub auxiliary-turned : (y : Refused) → (k ≡ 0 → ⊥) → (k ≡ 1 → ⊥) → (k ≡ 2 → ⊥) → (k ≡ 3 → ⊥) → (k ≡ 4 → ⊥) → Refuses 12 r y → Turns limit tree r (tables work core macros) (tables work core macros) (Err y)
+  auxiliary-turned y n0 n1 n2 n3 n4 x operations fuel ready =
       refused-ends limit operations fuel tree r (tables work core macros) (tables work core macros) 12
-      (λ expand s. rw tree_is (auxiliary-turn limit operations fuel expand s f.head t (form-is operations auxiliary (form_of-past k n0 n1 n2 n3 n4)))) a x
+      (λ expand s. rw tree_is (auxiliary-turn limit operations fuel expand s f.head t (form-is operations auxiliary (form_of-past k n0 n1 n2 n3 n4)))) y x
 
   if-unshaped : is_list_of 4 tree ≡ false → k ≡ 1 → (operations : List ℕ) (fuel : ℕ) (expand : Tree → M (Term Name)) (s : State) → turn_of limit operations fuel expand tree s ≡ refused_end 13 s
   unfolding form_of expand_list needs
@@ -235,37 +236,40 @@ module _ (limit : ℕ) (work core macros : List ℕ) (node list w k : ℕ) (r : 
   macros-turn false e operations fuel expand s = rw tree_is (let-syntax-turn limit operations fuel expand s f.head t (form-is operations let-syntax e))
 
   module _ (placed : Placed work r.top node w) where
-    pub if-turned : (core' : List ℕ) (a : Turn) → k ≡ 1 → IfLeft work node list w r core core' a → Turns limit tree r (tables work core macros) (tables work core' macros) a
+    pub if-turned : (core' : List ℕ) (a : TurnEnd) → k ≡ 1 → IfLeft work node list w r core core' a → Turns limit tree r (tables work core macros) (tables work core' macros) a
     unfolding form_of
-    if-turned core' (Again n v q) e x operations fuel ready = absurd x
-    if-turned core' (Operands l v q) e x operations fuel ready =
+    if-turned core' (Ok (Again n v q)) e x operations fuel ready = absurd x
+    if-turned core' (Ok (Over q)) e x operations fuel ready = absurd x
+    if-turned core' (Ok (Operands l v q)) e x operations fuel ready =
         rw (x.0, x.1)
         (subst (λ (z : Tree). Spreads limit operations fuel z r (tables work core macros) (tables work core' macros) list w q) (sym tree_is)
         (spread-if limit operations fuel f.head t r q work core core' macros list w (subst (λ (z : Tree). Ready fuel (size z) r (tables work core macros)) tree_is ready)
         (tail-placed work r.top node list w f.head f.headed placed) refl x.3 (ap (is_list_of 4) (sym tree_is) ∙ x.2 w) (form-is operations if (ap form_of e))))
-    if-turned core' (Over a) e x operations fuel ready = refused-ends limit operations fuel tree r (tables work core macros) (tables work core' macros) 13 (if-unshaped (x.0 w) e operations fuel) a x.1
+    if-turned core' (Err y) e x operations fuel ready = refused-ends limit operations fuel tree r (tables work core macros) (tables work core' macros) 13 (if-unshaped (x.0 w) e operations fuel) y x.1
 
     module _ (work' : List ℕ) (long : length work' ≡ length work) where
-      pub lambda-turned : (core' : List ℕ) (a : Turn) → k ≡ 2 → LambdaLeft tree r work work' core core' a → Turns limit tree r (tables work core macros) (tables work' core' macros) a
+      pub lambda-turned : (core' : List ℕ) (a : TurnEnd) → k ≡ 2 → LambdaLeft tree r work work' core core' a → Turns limit tree r (tables work core macros) (tables work' core' macros) a
       unfolding form_of
-      lambda-turned core' (Again n v q) e x operations fuel ready =
+      lambda-turned core' (Ok (Again n v q)) e x operations fuel ready =
           lambda-follows limit operations fuel tree r work work' core core' macros (λ expand s. rw tree_is (lambda-turn limit operations fuel expand s f.head t (form-is operations lambda (ap form_of e)))) n v q x placed.proper ready long
-      lambda-turned core' (Operands l v q) e x operations fuel ready = absurd x
-      lambda-turned core' (Over a) e x operations fuel ready =
-          lambda-refused limit operations fuel tree r work work' core core' macros (λ expand s. rw tree_is (lambda-turn limit operations fuel expand s f.head t (form-is operations lambda (ap form_of e)))) a x
+      lambda-turned core' (Ok (Operands l v q)) e x operations fuel ready = absurd x
+      lambda-turned core' (Ok (Over q)) e x operations fuel ready = absurd x
+      lambda-turned core' (Err y) e x operations fuel ready =
+          lambda-refused limit operations fuel tree r work work' core core' macros (λ expand s. rw tree_is (lambda-turn limit operations fuel expand s f.head t (form-is operations lambda (ap form_of e)))) y x
 
       module _ (macros' : List ℕ) (macros-long : length macros' ≡ length macros) where
-        macros-turned : (inside : Bool) (a : Turn) → form_of k ≡ cond inside letrec-syntax let-syntax → MacrosLeft limit tree inside r work work' macros macros' a
+        macros-turned : (inside : Bool) (a : TurnEnd) → form_of k ≡ cond inside letrec-syntax let-syntax → MacrosLeft limit tree inside r work work' macros macros' a
             → Turns limit tree r (tables work core macros) (tables work' core macros') a
-        macros-turned inside (Again n v q) e x operations fuel ready =
+        macros-turned inside (Ok (Again n v q)) e x operations fuel ready =
             macros-follows limit operations fuel tree inside f.head r work work' core macros macros' (macros-turn inside e operations fuel) n v q x placed.proper ready long macros-long
-        macros-turned inside (Operands l v q) e x operations fuel ready = absurd x
-        macros-turned inside (Over a) e x operations fuel ready = macros-refused limit operations fuel tree inside f.head r work work' core macros macros' (macros-turn inside e operations fuel) a x
+        macros-turned inside (Ok (Operands l v q)) e x operations fuel ready = absurd x
+        macros-turned inside (Ok (Over q)) e x operations fuel ready = absurd x
+        macros-turned inside (Err y) e x operations fuel ready = macros-refused limit operations fuel tree inside f.head r work work' core macros macros' (macros-turn inside e operations fuel) y x
 
-        pub let-syntax-turned : (a : Turn) → k ≡ 3 → MacrosLeft limit tree false r work work' macros macros' a → Turns limit tree r (tables work core macros) (tables work' core macros') a
+        pub let-syntax-turned : (a : TurnEnd) → k ≡ 3 → MacrosLeft limit tree false r work work' macros macros' a → Turns limit tree r (tables work core macros) (tables work' core macros') a
         unfolding form_of
         let-syntax-turned a e x = macros-turned false a (ap form_of e) x
 
-        pub letrec-syntax-turned : (a : Turn) → k ≡ 4 → MacrosLeft limit tree true r work work' macros macros' a → Turns limit tree r (tables work core macros) (tables work' core macros') a
+        pub letrec-syntax-turned : (a : TurnEnd) → k ≡ 4 → MacrosLeft limit tree true r work work' macros macros' a → Turns limit tree r (tables work core macros) (tables work' core macros') a
         unfolding form_of
         letrec-syntax-turned a e x = macros-turned true a (ap form_of e) x

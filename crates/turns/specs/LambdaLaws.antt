@@ -1,5 +1,5 @@
 -- Laws of a lambda's turn: its names are bound, and its body stands for it.
-use Rattle.std.specs.Prelude.{◌≡◌, true, false, List, [], ◌∷◌, map, ℕ, ◌+◌, ◌*◌, ◌^◌, ◌≤◌, ◌<◌}
+use Rattle.std.specs.Prelude.{◌≡◌, true, false, List, [], ◌∷◌, map, ℕ, ◌+◌, ◌*◌, ◌^◌, ◌≤◌, ◌<◌, Ok, Err}
 use Rattle.std.proofs.Math.Path.{refl, ap, ap₂, subst}
 use Rattle.std.proofs.Common.{sym, ◌∙◌, arith}
 use Rattle.std.proofs.Math.ListN.{length, length-map}
@@ -17,13 +17,14 @@ use Rattle.expansion.specs.Forms.{is_lambda, formals, expand_lambda}
 use Rattle.arena.specs.Arena.{tree_at}
 use Rattle.arena.specs.Lists.{Means, Counts}
 use Rattle.forms.specs.Binders as F
+use Rattle.forms.specs.declared.shapes.Bound.TheVariants.{Formals}
 use Rattle.forms.specs.Binders.{AllNames, names_in, Space, Scoped}
 use Rattle.forms.proofs.ScopeLaws.{scoped-tree, proper, lambda-names, formals-are, formals-count}
 use Rattle.forms.specs.NumberLaws.{numbers_in}
 use Rattle.forms.specs.Quotes.{Written}
 use Rattle.forms.specs.QuoteLaws.{written_then}
 use Rattle.turns.specs.declared.answers.Reached.{Reached}
-use Rattle.turns.specs.declared.answers.Ended.{Ended}
+use Rattle.turns.specs.declared.answers.Refused.{Refused}
 use Rattle.turns.specs.declared.answers.Turn.{Turn}
 use Rattle.turns.specs.declared.answers.Turn.TheVariants.{Again, Operands, Over}
 use Rattle.turns.specs.Ends.{End, finished, refused_end, halted, end_of, then, needs, with_variables}
@@ -32,7 +33,7 @@ use Rattle.turns.specs.Numbers.{widened}
 use Rattle.turns.specs.Memory.{tables, state_at, CoreRoom, work_need, core_need, variable_need, macro_need, Proper, Ready, Kept}
 use Rattle.turns.specs.MemoryLaws.{macros_at-settled, macros-kept, put-long}
 use Rattle.turns.specs.Turns.{Left, turn_of, Ends, Follows}
-use Rattle.turns.specs.Leaves.{Refuses}
+use Rattle.turns.specs.Answers.{Refuses}
 use Rattle.turns.specs.LeafLaws.{refused-ends}
 use Rattle.turns.specs.SpreadLaws.{cons, listed, Prefixed, left_after}
 use Rattle.turns.specs.Scopes.{Roomy, lambda_words, Bound, BoundLeft, LambdaBound, LambdaRefused, LambdaLeft}
@@ -83,18 +84,18 @@ module _ (work core : List ℕ) (node w : ℕ) (r : Reached) (roomy : Roomy work
     pub lambda-few : r.variables + count < 2 ^ 32
     lambda-few = omega (arith, lambda-count, lambda-sizes tree shape, roomy.few)
 
-    names-are : names_in false (tree_at work list w) ≡ formals tree
-    names-are = ap (names_in false) (list-is.is w) ∙ formals-are tree shape lambda-proper
+    names-are : names_in Formals (tree_at work list w) ≡ formals tree
+    names-are = ap (names_in Formals) (list-is.is w) ∙ formals-are tree shape lambda-proper
 
-    all-names : AllNames false (tree_at work list w)
-    all-names = subst (AllNames false) (sym (list-is.is w)) (lambda-names tree shape)
+    all-names : AllNames Formals (tree_at work list w)
+    all-names = subst (AllNames Formals) (sym (list-is.is w)) (lambda-names tree shape)
 
     -- room for the numbers, behind three words
     module _ (core₁ : List ℕ) (at : ℕ) (header : Written (lambda_code ∷ r.variables ∷ count ∷ []) core core₁ r.at at) where
-      pub numbers-room : length core₁ ≡ length core → (v : ℕ) × (AllNames false (tree_at work list v)) × (at + length (names_in false (tree_at work list v)) ≤ length core₁)
+      pub numbers-room : length core₁ ≡ length core → (v : ℕ) × (AllNames Formals (tree_at work list v)) × (at + length (names_in Formals (tree_at work list v)) ≤ length core₁)
       numbers-room e = (w, all-names, omega (arith, e, header.end, ap length names-are, lambda-sizes tree shape, roomy.core-fits))
 
-      module _ (core' : List ℕ) (end : ℕ) (numbers : (v : ℕ) → AllNames false (tree_at work list v) → Written (numbers_in (tree_at work list v)) core₁ core' at end) where
+      module _ (core' : List ℕ) (end : ℕ) (numbers : (v : ℕ) → AllNames Formals (tree_at work list v) → Written (numbers_in (tree_at work list v)) core₁ core' at end) where
         named : Written (map (λ x. x.number) (formals tree)) core₁ core' at end
         named = subst (λ (xs : List Name). Written (map (λ x. x.number) xs) core₁ core' at end) names-are (numbers w all-names)
 
@@ -132,11 +133,11 @@ lambda-prefixed first xs halted = tt
 
 module _ (limit : ℕ) (operations : List ℕ) (fuel : ℕ) (t : Tree) (r : Reached) (work work' core core' macros : List ℕ)
     (turn : (expand : Tree → M (Term Name)) (s : State) → turn_of limit operations fuel expand t s ≡ end_of (expand_lambda limit operations fuel expand t s)) where
-  pub lambda-refused : (a : Ended) → LambdaRefused t r a → Ends limit operations fuel t r (tables work core macros) (tables work' core' macros) a
-  lambda-refused a x =
+  pub lambda-refused : (y : Refused) → LambdaRefused t r y → Ends limit operations fuel t r (tables work core macros) (tables work' core' macros) (Err y)
+  lambda-refused y x =
       refused-ends limit operations fuel t r (tables work core macros) (tables work' core' macros) x.ground_number
       (λ expand s. turn expand s ∙ lambda-end limit operations fuel expand t s ∙ x.is _ s)
-      a x.refuses
+      y x.refuses
 
   module _ (node w : ℕ) (q : Reached) (x : LambdaBound t r work work' core core' node w q) (good : Proper t)
       (ready : Ready fuel (size t) r (tables work core macros)) (long : length work' ≡ length work) where
@@ -214,15 +215,15 @@ module _ (limit : ℕ) (operations : List ℕ) (fuel : ℕ) (t : Tree) (r : Reac
 -- ---- the tests
 
 module _ (t : Tree) (r : Reached) where
-  pub lambda-unshaped : (a : Ended) → is_lambda t ≡ false → Refuses 13 r a → LambdaRefused t r a
+  pub lambda-unshaped : (x : Refused) → is_lambda t ≡ false → Refuses 13 r x → LambdaRefused t r x
   unfolding needs
-  lambda-unshaped a shape e = record { ground_number = 13; is = λ z s. rw shape; refuses = e }
+  lambda-unshaped x shape e = record { ground_number = 13; is = λ z s. rw shape; refuses = e }
 
-  pub lambda-alike : (a : Ended) → is_lambda t ≡ true → distinct (formals t) ≡ false → Refuses 14 r a → LambdaRefused t r a
+  pub lambda-alike : (x : Refused) → is_lambda t ≡ true → distinct (formals t) ≡ false → Refuses 14 r x → LambdaRefused t r x
   unfolding needs
-  lambda-alike a shape same e = record { ground_number = 14; is = λ z s. rw (shape, same); refuses = e }
+  lambda-alike x shape same e = record { ground_number = 14; is = λ z s. rw (shape, same); refuses = e }
 
-  pub lambda-left : (work work' core core' : List ℕ) (a : Turn) → is_lambda t ≡ true → distinct (formals t) ≡ true → BoundLeft t r work work' core core' a → LambdaLeft t r work work' core core' a
+  pub lambda-left : (work work' core core' : List ℕ) (a : Turn) → is_lambda t ≡ true → distinct (formals t) ≡ true → BoundLeft t r work work' core core' a → LambdaLeft t r work work' core core' (Ok a)
   lambda-left work work' core core' (Again n w q) shape apart b = record { shape = shape; apart = apart; bound = b }
   lambda-left work work' core core' (Operands l w q) shape apart b = absurd b
-  lambda-left work work' core core' (Over a) shape apart b = absurd b
+  lambda-left work work' core core' (Over q) shape apart b = absurd b

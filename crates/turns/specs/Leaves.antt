@@ -1,5 +1,6 @@
 -- Expressions that are done at once: constants, bare names, quoted data, and refusals.
-use Rattle.std.specs.Prelude.{◌≡◌, List, ℕ, ◌≤◌, length}
+use Rattle.std.specs.Prelude.{◌≡◌, List, ℕ, ◌≤◌, length, Ok, Err}
+use Rattle.words.specs.Code.Ground.{number_of}
 use Rattle.words.specs.Limits.{core_rate}
 use Rattle.datum.specs.Constant.{Constant}
 use Rattle.datum.specs.ConstantLaws.{made}
@@ -10,14 +11,10 @@ use Rattle.expansion.specs.Run.{words_of}
 use Rattle.expansion.specs.Lookup.{Found, bound, form, operation, nothing}
 use Rattle.expansion.specs.Computation.{State}
 use Rattle.turns.specs.declared.answers.Reached.{Reached}
-use Rattle.turns.specs.declared.answers.Ended.{Ended}
-use Rattle.turns.specs.declared.answers.Ended.TheVariants.{Done, Refused}
+use Rattle.turns.specs.declared.answers.Refused.{Refused}
+use Rattle.turns.specs.Answers.{Ended}
 use Rattle.turns.specs.Ends.{End, finished, refused_end}
 use Rattle.turns.specs.Memory.{Moved}
-
--- ground g with the counts so far
-abbrev pub Refuses : ℕ → Reached → Ended → Type 0
-Refuses g r a = a ≡ Refused g r.steps r.sum
 
 -- a term is made, of so many words at most
 pub record Makes (E : State → End (Term Name)) (most : ℕ) (r : Reached) (core core' : List ℕ) (q : Reached) : Type 0 where
@@ -26,14 +23,14 @@ pub record Makes (E : State → End (Term Name)) (most : ℕ) (r : Reached) (cor
   pub short : length (words_of term) ≤ most
   pub moves : Moved (words_of term) r core core' q
 
-pub record Stops (E : State → End (Term Name)) (r : Reached) (ground_number steps sum : ℕ) : Type 0 where
-  pub is : (s : State) → E s ≡ refused_end ground_number s
-  pub steps-are : steps ≡ r.steps
-  pub sum_is : sum ≡ r.sum
+pub record Stops (E : State → End (Term Name)) (r : Reached) (x : Refused) : Type 0 where
+  pub is : (s : State) → E s ≡ refused_end (number_of x.ground) s
+  pub steps-are : x.steps ≡ r.steps
+  pub sum_is : x.sum ≡ r.sum
 
 abbrev pub Leaf : (E : State → End (Term Name)) (most : ℕ) (r : Reached) (core core' : List ℕ) → Ended → Type 0
-Leaf E most r core core' (Done q) = Makes E most r core core' q
-Leaf E most r core core' (Refused g n m) = Stops E r g n m
+Leaf E most r core core' (Ok q) = Makes E most r core core' q
+Leaf E most r core core' (Err x) = Stops E r x
 
 -- the end of a bare name, by what it finds
 unfoldable pub name_end : Found → State → End (Term Name)

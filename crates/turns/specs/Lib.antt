@@ -1,4 +1,5 @@
 -- One turn of an expression: what the tables mean while an expansion runs, and what each kind of turn leaves.
+pub mod Answers
 pub mod Ends
 pub mod EndLaws
 pub mod Numbers

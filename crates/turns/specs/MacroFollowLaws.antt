@@ -1,5 +1,5 @@
 -- The law of the turn of let-syntax and letrec-syntax: what the code leaves is a turn of the definition.
-use Rattle.std.specs.Prelude.{◌≡◌, Bool, true, false, cond, List, ◌++◌, ℕ, ◌+◌, ◌*◌, ◌≤◌}
+use Rattle.std.specs.Prelude.{◌≡◌, Bool, true, false, cond, List, ◌++◌, ℕ, ◌+◌, ◌*◌, ◌≤◌, Err}
 use Rattle.std.proofs.Math.Path.{refl, ap, subst}
 use Rattle.std.proofs.Common.{sym, ◌∙◌, arith}
 use Rattle.std.proofs.Math.Option.{some}
@@ -22,8 +22,7 @@ use Rattle.arena.specs.Arena.{tree_at}
 use Rattle.environments.specs.Sound.{SoundRule}
 use Rattle.environments.specs.SoundRules.{rules_of-sound}
 use Rattle.turns.specs.declared.answers.Reached.{Reached}
-use Rattle.turns.specs.declared.answers.Ended.{Ended}
-use Rattle.turns.specs.declared.answers.Ended.TheVariants.{Refused}
+use Rattle.turns.specs.declared.answers.Refused.{Refused}
 use Rattle.turns.specs.Ends.{End, end_of, needs, given, with_macros}
 use Rattle.turns.specs.EndLaws.{scope, macros-end}
 use Rattle.turns.specs.Numbers.{grown}
@@ -73,14 +72,15 @@ module _ (limit : ℕ) (operations : List ℕ) (fuel : ℕ) (t : Tree) (inside :
   unfolding scope forms_of
   macros-turn expand s e = turn expand s ∙ macros-end limit operations fuel expand inside head t s ∙ rw e
 
-  pub macros-refused : (a : Ended) → MacrosRefused limit t inside r a → Ends limit operations fuel t r (tables work core macros) (tables work' core macros') a
+  pub macros-refused : (y : Refused) → MacrosRefused limit t inside r y → Ends limit operations fuel t r (tables work core macros) (tables work' core macros') (Err y)
   unfolding state_at
-  macros-refused a x =
-      subst (λ (b : Ended). Ends limit operations fuel t r (tables work core macros) (tables work' core macros') b) (sym x.refuses)
-      (record {
+  macros-refused y x =
+      record {
         kept = tt;
-        means = λ expand. subst (λ (z : End (Term Name)). Left words_of r core (tables work' core macros') z (Refused x.ground_number r.steps r.sum)) (sym (macros-turn expand state counted ∙ x.is _ state)) (refl, refl, refl);
-      })
+        means = λ expand.
+            subst (λ (z : End (Term Name)). Left words_of r core (tables work' core macros') z (Err y))
+            (sym (macros-turn expand state counted ∙ x.is _ state)) (sym x.refuses.ground-is, sym x.refuses.steps-are, sym x.refuses.sum_is);
+      }
 
   module _ (node w : ℕ) (q : Reached) (y : MacrosKnown limit t inside r work work' macros macros' node w q) (good : Proper t)
       (ready : Ready fuel (size t) r (tables work core macros)) (long : length work' ≡ length work) (macros-long : length macros' ≡ length macros) where

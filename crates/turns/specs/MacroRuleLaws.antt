@@ -1,9 +1,10 @@
 -- Laws of reading the rules of a form's macros, from the left.
-use Rattle.std.specs.Prelude.{◌≡◌, refl, ℕ, suc, ◌+◌, ◌^◌, ◌≤◌, ◌<◌, ltb, set}
+use Rattle.std.specs.Prelude.{◌≡◌, refl, ℕ, suc, ◌+◌, ◌^◌, ◌≤◌, ◌<◌, ltb, set, Option, Some, None}
 use Rattle.std.proofs.Math.Path.{ap, ap₂, sym, subst}
 use Rattle.std.proofs.Common.{◌∙◌, add-one}
 use mathlib.Core.List.{List, [], ◌∷◌, ◌++◌, append_assoc, append-nil, map}
-use Rattle.std.proofs.Math.Option.{Option, none}
+use Rattle.std.proofs.Math.Option.{none}
+use Rattle.std.proofs.Math.Option as M
 use native.Mathlib.Omega.{arith}
 use Rattle.std.proofs.Math.ListN.{length, get_or, take}
 use Rattle.std.proofs.Math.Seq.{get_or-set_same, get_or-set_other, take-set-le}
@@ -20,11 +21,8 @@ use Rattle.rule_cells.specs.Cells.{rules_at}
 use Rattle.rule_cells.specs.ParseLaws.{tree_is, size_is, head-below, rest_below}
 use Rattle.arena.specs.ListLaws.{no-elements}
 use Rattle.rule_cells.specs.RuleParse.{RulesMade, RulesLeft}
-use Rattle.words.specs.declared.packed.Built.{Built}
-use Rattle.words.specs.declared.packed.Built.TheVariants.{At, None}
+use Rattle.rule_cells.specs.declared.rules.Parsed.{Parsed}
 use Rattle.arena.specs.Lists.{Means}
-use Rattle.turns.specs.declared.macros.Read.{Read}
-use Rattle.turns.specs.declared.macros.Read.TheVariants.{Good, Bad}
 use Rattle.turns.specs.Memory.{macros_at}
 use Rattle.turns.specs.MemoryLaws.{macros_at-settled}
 use Rattle.turns.specs.MacroRules.{OneAsk, OneRead, OneLeft, forms_in, AllAsk, AllRead, AllLeft, Reading}
@@ -35,16 +33,18 @@ module _ (work macros : List ℕ) (form w count top : ℕ) (ask : OneAsk work ma
   abbrev tree : Tree
   tree = tree_at work form w
 
-  module _ (work' : List ℕ) (b : Built) (left : RulesLeft (rules_of tree) (size tree) work work' top b) where
-    pub one-bad : (macros' : List ℕ) → b ≡ None → OneLeft tree work work' macros macros' count top Bad
+  module _ (work' : List ℕ) (b : Option Parsed) (left : RulesLeft (rules_of tree) (size tree) work work' top b) where
+    pub one-bad : (macros' : List ℕ) → b ≡ None → OneLeft tree work work' macros macros' count top None
     one-bad macros' e =
-        let l : RulesLeft (rules_of tree) (size tree) work work' top None = subst (λ (z : Built). RulesLeft (rules_of tree) (size tree) work work' top z) e left in
+        let l : RulesLeft (rules_of tree) (size tree) work work' top None = subst (λ (z : Option Parsed). RulesLeft (rules_of tree) (size tree) work work' top z) e left in
         l.0
 
-    pub one-good : (at upper : ℕ) → b ≡ At at upper → OneLeft tree work work' macros (set macros count at) count top (Good upper)
+    pub one-good : (p : Parsed) → b ≡ Some p → OneLeft tree work work' macros (set macros count p.at) count top (Some p.top)
     unfolding macros_at
-    one-good at upper e =
-        let m : RulesMade (rules_of tree) (size tree) work work' top at upper = subst (λ (z : Built). RulesLeft (rules_of tree) (size tree) work work' top z) e left in
+    one-good p e =
+        let at = p.at in
+        let upper = p.top in
+        let m : RulesMade (rules_of tree) (size tree) work work' top at upper = subst (λ (z : Option Parsed). RulesLeft (rules_of tree) (size tree) work work' top z) e left in
         let known : take count (set macros count at) ≡ take count macros = take-set-le count macros count at (omega arith) in
         record {
           rules = rules_at work' at;
@@ -77,7 +77,7 @@ module _ (work macros : List ℕ) (list w count top : ℕ) (ask : AllAsk work ma
   abbrev whole : Tree
   whole = tree_at work list w
 
-  all_end : (word_at work list 3 ≡ 4 → ⊥) → AllLeft whole work work macros macros count top (Good top)
+  all_end : (word_at work list 3 ≡ 4 → ⊥) → AllLeft whole work work macros macros count top (Some top)
   unfolding forms_in traverse
   all_end n =
       let none-are : forms_in whole ≡ [] = ap (map (element 1)) (no-elements work list w n) in
@@ -136,17 +136,17 @@ module _ (work macros : List ℕ) (list w count top : ℕ) (ask : AllAsk work ma
     pub count_small : count + 1 < 2 ^ 32
     count_small = omega (arith, ask.few, count-is)
 
-    all-bad : (mid macros' : List ℕ) (r : Read) → r ≡ Bad → OneLeft first work mid macros macros' count top r → AllLeft whole work mid macros macros' count top Bad
+    all-bad : (mid macros' : List ℕ) (r : Option ℕ) → r ≡ None → OneLeft first work mid macros macros' count top r → AllLeft whole work mid macros macros' count top None
     unfolding traverse map_both map_some
     all-bad mid macros' r b p =
-        let q : rules_of first ≡ none = subst (λ (z : Read). OneLeft first work mid macros macros' count top z) b p in
-        ap (traverse rules_of) forms-are ∙ ap (λ (o : Option (List Rule)). map_both ◌∷◌ o (traverse rules_of (forms_in later))) q
+        let q : rules_of first ≡ none = subst (λ (z : Option ℕ). OneLeft first work mid macros macros' count top z) b p in
+        ap (traverse rules_of) forms-are ∙ ap (λ (o : M.Option (List Rule)). map_both ◌∷◌ o (traverse rules_of (forms_in later))) q
 
     -- after the first
-    module _ (mid macros' : List ℕ) (r : Read) (upper : ℕ) (b : r ≡ Good upper) (left : OneLeft first work mid macros macros' count top r)
+    module _ (mid macros' : List ℕ) (r : Option ℕ) (upper : ℕ) (b : r ≡ Some upper) (left : OneLeft first work mid macros macros' count top r)
         (long : length mid ≡ length work) (macros-long : length macros' ≡ length macros) where
       one : OneRead first work mid macros macros' count top upper
-      one = subst (λ (z : Read). OneLeft first work mid macros macros' count top z) b left
+      one = subst (λ (z : Option ℕ). OneLeft first work mid macros macros' count top z) b left
 
       later-is : tree_at mid rest w ≡ later
       later-is = tree-kept work mid top rest w (omega (arith, rest-low, ask.asks.node-below)) ask.asks.wrap-below one.kept
@@ -167,9 +167,9 @@ module _ (work macros : List ℕ) (list w count top : ℕ) (ask : AllAsk work ma
             below = one.below;
           }
 
-      all_both : (new macros'' : List ℕ) (a : Read) → AllLeft (tree_at mid rest w) mid new macros' macros'' (count + 1) upper a → AllLeft whole work new macros macros'' count top a
+      all_both : (new macros'' : List ℕ) (a : Option ℕ) → AllLeft (tree_at mid rest w) mid new macros' macros'' (count + 1) upper a → AllLeft whole work new macros macros'' count top a
       unfolding traverse map_both map_some
-      all_both new macros'' (Good higher) m =
+      all_both new macros'' (Some higher) m =
           let n : AllRead later mid new macros' macros'' (count + 1) upper higher = subst (λ (t : Tree). AllRead t mid new macros' macros'' (count + 1) upper higher) later-is m in
           let far : count + length (forms_in whole) ≡ count + 1 + length (forms_in later) = omega (arith, count-is) in
           record {
@@ -186,7 +186,7 @@ module _ (work macros : List ℕ) (list w count top : ℕ) (ask : AllAsk work ma
             kept = take_less new mid top upper one.up n.kept ∙ one.kept;
             known = take_less macros'' macros' count (count + 1) (omega arith) n.known ∙ one.known;
           }
-      all_both new macros'' Bad m =
+      all_both new macros'' None m =
           let n : traverse rules_of (forms_in later) ≡ none = subst (λ (t : Tree). traverse rules_of (forms_in t) ≡ none) later-is m in
           ap (traverse rules_of) forms-are ∙ ap₂ (map_both ◌∷◌) one.is n
 
@@ -197,15 +197,15 @@ module _ (old known : List ℕ) (list w count top : ℕ) where
   reading_begins ask = record { ask = ask; whole = λ new macros' r l. l }
 
   module _ (work macros : List ℕ) (node n end : ℕ) (inv : Reading old known list w count top work macros node n end) where
-    pub reading-ends : (word_at work node 3 ≡ 4 → ⊥) → AllLeft (tree_at old list w) old work known macros count top (Good end)
-    reading-ends other = inv.whole work macros (Good end) (all_end work macros node w n end inv.ask other)
+    pub reading-ends : (word_at work node 3 ≡ 4 → ⊥) → AllLeft (tree_at old list w) old work known macros count top (Some end)
+    reading-ends other = inv.whole work macros (Some end) (all_end work macros node w n end inv.ask other)
 
     module _ (entry rest form : ℕ) (e : word_at work node 3 ≡ 4) (f : entry ≡ reference_at work node 2) (g : rest ≡ reference_at work node 1) (form-is : Means work entry form (element 1))
-        (mid macros' : List ℕ) (r : Read) (left : OneLeft (tree_at work form w) work mid macros macros' n end r) where
-      pub reading-bad : r ≡ Bad → AllLeft (tree_at old list w) old mid known macros' count top Bad
-      reading-bad b = inv.whole mid macros' Bad (all-bad work macros node w n end inv.ask entry rest form e f g form-is mid macros' r b left)
+        (mid macros' : List ℕ) (r : Option ℕ) (left : OneLeft (tree_at work form w) work mid macros macros' n end r) where
+      pub reading-bad : r ≡ None → AllLeft (tree_at old list w) old mid known macros' count top None
+      reading-bad b = inv.whole mid macros' None (all-bad work macros node w n end inv.ask entry rest form e f g form-is mid macros' r b left)
 
-      pub reading-more : (upper : ℕ) → r ≡ Good upper → length mid ≡ length work → length macros' ≡ length macros
+      pub reading-more : (upper : ℕ) → r ≡ Some upper → length mid ≡ length work → length macros' ≡ length macros
           → Reading old known list w count top mid macros' rest (n + 1) upper
       reading-more upper b l m =
           record {

@@ -1,13 +1,11 @@
 -- What reading the rules of a form's macros asks and leaves: macro `count` and those after it, in the table of macros.
-use Rattle.std.specs.Prelude.{◌≡◌, List, [], ◌∷◌, ◌++◌, map, ℕ, ◌+◌, ◌*◌, ◌^◌, ◌≤◌, ◌<◌, length, get_or, take}
+use Rattle.std.specs.Prelude.{◌≡◌, List, [], ◌∷◌, ◌++◌, map, ℕ, ◌+◌, ◌*◌, ◌^◌, ◌≤◌, ◌<◌, length, get_or, take, Option, Some, None}
 use Rattle.std.proofs.Math.Option.{none, some}
 use Rattle.words.specs.Options.{traverse}
 use Rattle.recipe.specs.Tree.{Tree, size, elements, element}
 use Rattle.expansion.specs.Rules.{Rule, rules_of}
 use Rattle.arena.specs.Arena.{tree_at}
 use Rattle.rule_cells.specs.Parse.{Asks}
-use Rattle.turns.specs.declared.macros.Read.{Read}
-use Rattle.turns.specs.declared.macros.Read.TheVariants.{Good, Bad}
 use Rattle.turns.specs.Memory.{macros_at}
 
 -- the first macros' rules stand below the top
@@ -31,9 +29,9 @@ pub record OneRead (form : Tree) (work work' macros macros' : List ℕ) (count t
   pub kept : take top work' ≡ take top work
   pub known : take count macros' ≡ take count macros
 
-abbrev pub OneLeft : (form : Tree) (work work' macros macros' : List ℕ) (count top : ℕ) → Read → Type 0
-OneLeft form work work' macros macros' count top (Good upper) = OneRead form work work' macros macros' count top upper
-OneLeft form work work' macros macros' count top Bad = rules_of form ≡ none
+abbrev pub OneLeft : (form : Tree) (work work' macros macros' : List ℕ) (count top : ℕ) → Option ℕ → Type 0
+OneLeft form work work' macros macros' count top (Some upper) = OneRead form work work' macros macros' count top upper
+OneLeft form work work' macros macros' count top None = rules_of form ≡ none
 
 -- ---- a list of (name rules)
 
@@ -57,11 +55,11 @@ pub record AllRead (list : Tree) (work work' macros macros' : List ℕ) (count t
   pub known : take count macros' ≡ take count macros
 
 -- bad exactly where the definition lacks the rules of one
-abbrev pub AllLeft : (list : Tree) (work work' macros macros' : List ℕ) (count top : ℕ) → Read → Type 0
-AllLeft list work work' macros macros' count top (Good upper) = AllRead list work work' macros macros' count top upper
-AllLeft list work work' macros macros' count top Bad = traverse rules_of (forms_in list) ≡ none
+abbrev pub AllLeft : (list : Tree) (work work' macros macros' : List ℕ) (count top : ℕ) → Option ℕ → Type 0
+AllLeft list work work' macros macros' count top (Some upper) = AllRead list work work' macros macros' count top upper
+AllLeft list work work' macros macros' count top None = traverse rules_of (forms_in list) ≡ none
 
 -- rules are read up to the node's: what reading those leaves is what reading the whole list leaves
 pub record Reading (old known : List ℕ) (list w count top : ℕ) (work macros : List ℕ) (node n end : ℕ) : Type 0 where
   pub ask : AllAsk work macros node w n end
-  pub whole : (new macros' : List ℕ) (r : Read) → AllLeft (tree_at work node w) work new macros macros' n end r → AllLeft (tree_at old list w) old new known macros' count top r
+  pub whole : (new macros' : List ℕ) (r : Option ℕ) → AllLeft (tree_at work node w) work new macros macros' n end r → AllLeft (tree_at old list w) old new known macros' count top r

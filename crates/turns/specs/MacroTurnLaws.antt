@@ -1,5 +1,5 @@
 -- Laws of the turn of let-syntax and letrec-syntax: the names are bound, the rules are read, and the body stands for the form.
-use Rattle.std.specs.Prelude.{◌≡◌, Bool, cond}
+use Rattle.std.specs.Prelude.{◌≡◌, Bool, cond, Ok, Err, Option, Some, None}
 use Rattle.std.proofs.Math.Path.{refl, ap, ap₂, sym, subst}
 use Rattle.std.proofs.Common.{◌∙◌, arith}
 use Rattle.std.proofs.Math.Bool.{true, false}
@@ -19,19 +19,17 @@ use Rattle.arena.specs.Arena.{tree_at}
 use Rattle.arena.specs.ArenaLaws.{take_less}
 use Rattle.arena.specs.CellLaws.{tree-kept}
 use Rattle.arena.specs.Lists.{Means, Counts}
+use Rattle.forms.specs.declared.shapes.Bound.TheVariants.{Keywords}
 use Rattle.forms.specs.Binders.{AllNames, Space, Scoped}
 use Rattle.forms.proofs.ScopeLaws.{scoped-tree, macros-names, keywords-count}
 use Rattle.turns.specs.declared.answers.Reached.{Reached}
-use Rattle.turns.specs.declared.answers.Ended.{Ended}
-use Rattle.turns.specs.declared.answers.Turn.{Turn}
+use Rattle.turns.specs.declared.answers.Refused.{Refused}
 use Rattle.turns.specs.declared.answers.Turn.TheVariants.{Again, Operands, Over}
-use Rattle.turns.specs.declared.macros.Read.{Read}
-use Rattle.turns.specs.declared.macros.Read.TheVariants.{Good, Bad}
 use Rattle.turns.specs.Ends.{needs, given}
 use Rattle.turns.specs.Numbers.{grown}
 use Rattle.turns.specs.Memory.{item_rate, macro_items, macros_at}
 use Rattle.turns.specs.MemoryLaws.{macros_at-settled}
-use Rattle.turns.specs.Leaves.{Refuses}
+use Rattle.turns.specs.Answers.{TurnEnd, Refuses}
 use Rattle.turns.specs.SpreadLaws.{listed}
 use Rattle.turns.specs.LambdaLaws.{three-sizes}
 use Rattle.turns.specs.MacroRules.{forms_in, AllAsk, AllRead, AllLeft}
@@ -118,7 +116,7 @@ module _ (work macros : List ℕ) (node w : ℕ) (inside : Bool) (r : Reached) (
   abbrev tree : Tree
   tree = tree_at work node w
 
-  pub macros-all-names : AllNames true (element 1 tree)
+  pub macros-all-names : AllNames Keywords (element 1 tree)
   macros-all-names = macros-names tree limit shape
 
   space : MacroSpace tree work macros r
@@ -207,17 +205,17 @@ module _ (work macros : List ℕ) (node w : ℕ) (inside : Bool) (r : Reached) (
             below = λ k h. let g = room.below k h in omega (arith, scoped.end_is);
           }
 
-      module _ (work' macros' : List ℕ) (a : Read) (left : AllLeft (tree_at mid list rules-wrap) mid work' macros macros' r.macros end a) where
-        pub macros-bad : a ≡ Bad → traverse rules_of (forms_of inside tree r.macros) ≡ none
+      module _ (work' macros' : List ℕ) (a : Option ℕ) (left : AllLeft (tree_at mid list rules-wrap) mid work' macros macros' r.macros end a) where
+        pub macros-bad : a ≡ None → traverse rules_of (forms_of inside tree r.macros) ≡ none
         macros-bad e =
-            let n : traverse rules_of (forms_in (tree_at mid list rules-wrap)) ≡ none = subst (λ (z : Read). AllLeft (tree_at mid list rules-wrap) mid work' macros macros' r.macros end z) e left in
+            let n : traverse rules_of (forms_in (tree_at mid list rules-wrap)) ≡ none = subst (λ (z : Option ℕ). AllLeft (tree_at mid list rules-wrap) mid work' macros macros' r.macros end z) e left in
             ap (traverse rules_of) (sym forms-are) ∙ n
 
-        pub macros-known : (top body : ℕ) → a ≡ Good top → Means work node body (element 2) → (q : Reached) → q ≡ grown top count r → Known tree inside r work work' macros macros' body wrap q
+        pub macros-known : (top body : ℕ) → a ≡ Some top → Means work node body (element 2) → (q : Reached) → q ≡ grown top count r → Known tree inside r work work' macros macros' body wrap q
         unfolding grown
         macros-known top body e body_is q q-is =
             let m : AllRead (tree_at mid list rules-wrap) mid work' macros macros' r.macros end top =
-            subst (λ (z : Read). AllLeft (tree_at mid list rules-wrap) mid work' macros macros' r.macros end z) e left in
+            subst (λ (z : Option ℕ). AllLeft (tree_at mid list rules-wrap) mid work' macros macros' r.macros end z) e left in
             let body-low : body ≤ r.top = omega (arith, body_is.low, room.placed.node-below) in
             let far : r.macros + count ≡ r.macros + length (forms_in (tree_at mid list rules-wrap)) = omega (arith, macros-count, forms-count) in
             let up : r.top ≤ end = omega (arith, scoped.end_is) in
@@ -243,16 +241,17 @@ module _ (work macros : List ℕ) (node w : ℕ) (inside : Bool) (r : Reached) (
 -- ---- the tests
 
 module _ (limit : ℕ) (t : Tree) (inside : Bool) (r : Reached) where
-  pub macros-unshaped : (a : Ended) → is_macros limit t ≡ false → Refuses 13 r a → MacrosRefused limit t inside r a
+  pub macros-unshaped : (x : Refused) → is_macros limit t ≡ false → Refuses 13 r x → MacrosRefused limit t inside r x
   unfolding needs
-  macros-unshaped a shape e = record { ground_number = 13; is = λ f s. rw shape; refuses = e }
+  macros-unshaped x shape e = record { ground_number = 13; is = λ f s. rw shape; refuses = e }
 
-  pub macros-alike : (a : Ended) → is_macros limit t ≡ true → distinct (keywords t) ≡ false → Refuses 14 r a → MacrosRefused limit t inside r a
+  pub macros-alike : (x : Refused) → is_macros limit t ≡ true → distinct (keywords t) ≡ false → Refuses 14 r x → MacrosRefused limit t inside r x
   unfolding needs
-  macros-alike a shape same e = record { ground_number = 14; is = λ f s. rw (shape, same); refuses = e }
+  macros-alike x shape same e = record { ground_number = 14; is = λ f s. rw (shape, same); refuses = e }
 
-  pub macros-left : (work work' macros macros' : List ℕ) (a : Turn) → is_macros limit t ≡ true → distinct (keywords t) ≡ true → KnownLeft t inside r work work' macros macros' a → MacrosLeft limit t inside r work work' macros macros' a
+  pub macros-left : (work work' macros macros' : List ℕ) (a : TurnEnd) → is_macros limit t ≡ true → distinct (keywords t) ≡ true → KnownLeft t inside r work work' macros macros' a → MacrosLeft limit t inside r work work' macros macros' a
   unfolding needs given
-  macros-left work work' macros macros' (Again n w q) shape apart b = record { shape = shape; apart = apart; knows = b }
-  macros-left work work' macros macros' (Operands l w q) shape apart b = absurd b
-  macros-left work work' macros macros' (Over a) shape apart b = record { ground_number = 15; is = λ f s. rw (shape, apart, b.0); refuses = b.1 }
+  macros-left work work' macros macros' (Ok (Again n w q)) shape apart b = record { shape = shape; apart = apart; knows = b }
+  macros-left work work' macros macros' (Ok (Operands l w q)) shape apart b = absurd b
+  macros-left work work' macros macros' (Ok (Over q)) shape apart b = absurd b
+  macros-left work work' macros macros' (Err x) shape apart b = record { ground_number = 15; is = λ f s. rw (shape, apart, b.0); refuses = b.1 }

@@ -1,5 +1,5 @@
 -- What the turn of let-syntax and letrec-syntax needs and leaves, by words alone.
-use Rattle.std.specs.Prelude.{◌≡◌, Bool, true, cond, List, ◌++◌, map, ℕ, ◌+◌, ◌*◌, ◌≤◌, ◌<◌, length, take}
+use Rattle.std.specs.Prelude.{◌≡◌, Bool, true, false, cond, List, ◌++◌, map, ℕ, ◌+◌, ◌*◌, ◌≤◌, ◌<◌, length, take, Ok, Err}
 use Rattle.std.proofs.Math.Option.{none, some}
 use Rattle.words.specs.Options.{traverse}
 use Rattle.recipe.specs.Name.{macro, Name, distinct}
@@ -10,13 +10,14 @@ use Rattle.expansion.specs.Computation.{State}
 use Rattle.expansion.specs.Forms.{is_macros, keywords, rules_forms}
 use Rattle.arena.specs.Arena.{tree_at}
 use Rattle.turns.specs.declared.answers.Reached.{Reached}
-use Rattle.turns.specs.declared.answers.Ended.{Ended}
-use Rattle.turns.specs.declared.answers.Turn.{Turn}
+use Rattle.turns.specs.declared.answers.Refused.{Refused}
 use Rattle.turns.specs.declared.answers.Turn.TheVariants.{Again, Operands, Over}
 use Rattle.turns.specs.Ends.{End, refused_end, needs, given}
 use Rattle.turns.specs.Numbers.{grown}
 use Rattle.turns.specs.Memory.{item_rate, macros_at, number_most, Placed}
-use Rattle.turns.specs.Leaves.{Refuses}
+use Rattle.turns.specs.declared.macros.RulesStand.{RulesStand}
+use Rattle.turns.specs.declared.macros.RulesStand.TheVariants.{Outside, Inside}
+use Rattle.turns.specs.Answers.{TurnEnd, Refuses}
 use Rattle.turns.specs.MacroRules.{Below}
 
 -- the most words of the work table that the binders and the rules of a form's macros take
@@ -35,6 +36,11 @@ pub record MacroRoom (work macros : List ℕ) (node w : ℕ) (r : Reached) : Typ
   pub placed : Placed work r.top node w
   pub below : Below macros r.macros r.top
   pub space : (limit : ℕ) → is_macros limit (tree_at work node w) ≡ true → MacroSpace (tree_at work node w) work macros r
+
+-- whether the rules stand inside the scope of their names
+abbrev pub is_inside : RulesStand → Bool
+is_inside Outside = false
+is_inside Inside = true
 
 -- the rules forms of a tree whose names are macros from k on; inside their scope or not
 unfoldable pub forms_of : (inside : Bool) → Tree → ℕ → List Tree
@@ -55,10 +61,11 @@ pub record Known (tree : Tree) (inside : Bool) (r : Reached) (work work' macros 
   pub kept : take r.top work' ≡ take r.top work
   pub known : take r.macros macros' ≡ take r.macros macros
 
-abbrev pub KnownLeft : (tree : Tree) (inside : Bool) (r : Reached) (work work' macros macros' : List ℕ) → Turn → Type 0
-KnownLeft tree inside r work work' macros macros' (Again n w q) = Known tree inside r work work' macros macros' n w q
-KnownLeft tree inside r work work' macros macros' (Operands l w q) = ⊥
-KnownLeft tree inside r work work' macros macros' (Over a) = (traverse rules_of (forms_of inside tree r.macros) ≡ none) × Refuses 15 r a
+abbrev pub KnownLeft : (tree : Tree) (inside : Bool) (r : Reached) (work work' macros macros' : List ℕ) → TurnEnd → Type 0
+KnownLeft tree inside r work work' macros macros' (Ok (Again n w q)) = Known tree inside r work work' macros macros' n w q
+KnownLeft tree inside r work work' macros macros' (Ok (Operands l w q)) = ⊥
+KnownLeft tree inside r work work' macros macros' (Ok (Over q)) = ⊥
+KnownLeft tree inside r work work' macros macros' (Err x) = (traverse rules_of (forms_of inside tree r.macros) ≡ none) × Refuses 15 r x
 
 -- ---- with the tests before; `limit` is that of macros in the form
 
@@ -67,13 +74,14 @@ pub record MacrosKnown (limit : ℕ) (tree : Tree) (inside : Bool) (r : Reached)
   pub apart : distinct (keywords tree) ≡ true
   pub knows : Known tree inside r work work' macros macros' node w q
 
-pub record MacrosRefused (limit : ℕ) (tree : Tree) (inside : Bool) (r : Reached) (a : Ended) : Type 0 where
+pub record MacrosRefused (limit : ℕ) (tree : Tree) (inside : Bool) (r : Reached) (x : Refused) : Type 0 where
   pub ground_number : ℕ
   pub is : (f : List (List Rule) → End (Term Name)) (s : State)
       → needs 13 (is_macros limit tree) s (needs 14 (distinct (keywords tree)) s (given 15 s f (traverse rules_of (forms_of inside tree r.macros)))) ≡ refused_end ground_number s
-  pub refuses : Refuses ground_number r a
+  pub refuses : Refuses ground_number r x
 
-abbrev pub MacrosLeft : (limit : ℕ) (tree : Tree) (inside : Bool) (r : Reached) (work work' macros macros' : List ℕ) → Turn → Type 0
-MacrosLeft limit tree inside r work work' macros macros' (Again n w q) = MacrosKnown limit tree inside r work work' macros macros' n w q
-MacrosLeft limit tree inside r work work' macros macros' (Operands l w q) = ⊥
-MacrosLeft limit tree inside r work work' macros macros' (Over a) = MacrosRefused limit tree inside r a
+abbrev pub MacrosLeft : (limit : ℕ) (tree : Tree) (inside : Bool) (r : Reached) (work work' macros macros' : List ℕ) → TurnEnd → Type 0
+MacrosLeft limit tree inside r work work' macros macros' (Ok (Again n w q)) = MacrosKnown limit tree inside r work work' macros macros' n w q
+MacrosLeft limit tree inside r work work' macros macros' (Ok (Operands l w q)) = ⊥
+MacrosLeft limit tree inside r work work' macros macros' (Ok (Over q)) = ⊥
+MacrosLeft limit tree inside r work work' macros macros' (Err x) = MacrosRefused limit tree inside r x

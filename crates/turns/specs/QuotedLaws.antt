@@ -1,5 +1,5 @@
 -- Laws of a quote's turn: the words of its datum are the term's.
-use Rattle.std.specs.Prelude.{◌≡◌, true, false, ℕ, ◌+◌, ◌*◌, ◌^◌, ◌≤◌, ◌<◌}
+use Rattle.std.specs.Prelude.{◌≡◌, true, false, ℕ, ◌+◌, ◌*◌, ◌^◌, ◌≤◌, ◌<◌, Ok, Err}
 use Rattle.std.proofs.Math.Path.{ap, sym, subst}
 use Rattle.std.proofs.Common.{◌∙◌, arith}
 use mathlib.Core.List.{List}
@@ -17,19 +17,18 @@ use Rattle.forms.specs.Quotes as Q
 use Rattle.forms.specs.Quotes.{quoted_at, Quotable}
 use Rattle.forms.specs.QuoteLaws.{quoted-any}
 use Rattle.turns.specs.declared.answers.Reached.{Reached}
-use Rattle.turns.specs.declared.answers.Ended.{Ended}
-use Rattle.turns.specs.declared.answers.Ended.TheVariants.{Done}
+use Rattle.turns.specs.declared.answers.Refused.{Refused}
 use Rattle.turns.specs.Ends.{needs}
 use Rattle.turns.specs.Numbers.{moved}
 use Rattle.turns.specs.MemoryLaws.{moved_by}
-use Rattle.turns.specs.Leaves.{Refuses}
+use Rattle.turns.specs.Answers.{Refuses}
 use Rattle.turns.specs.LeafLaws.{refused-leaf}
 use Rattle.turns.specs.Scopes.{QuoteRoom, quote_end, QuoteLeft}
 
 module _ (work core : List ℕ) (node : ℕ) (r : Reached) where
-  pub quote-refused : (a : Ended) → ((w : ℕ) → is_list_of 2 (tree_at work node w) ≡ false) → Refuses 13 r a → QuoteLeft work node r core core a
+  pub quote-refused : (x : Refused) → ((w : ℕ) → is_list_of 2 (tree_at work node w) ≡ false) → Refuses 13 r x → QuoteLeft work node r core core (Err x)
   unfolding quote_end needs
-  quote-refused a shape e w = refused-leaf (quote_end (tree_at work node w)) (core_rate * size (tree_at work node w)) 13 r core a (λ s. rw (shape w)) e
+  quote-refused x shape e w = refused-leaf (quote_end (tree_at work node w)) (core_rate * size (tree_at work node w)) 13 r core x (λ s. rw (shape w)) e
 
   module _ (datum : ℕ) (datum-is : Means work node datum (element 1)) where
     words-most : (w : ℕ) → length (quoted_at work datum) ≤ core_rate * size (tree_at work node w)
@@ -44,7 +43,7 @@ module _ (work core : List ℕ) (node : ℕ) (r : Reached) where
     pub quote-small : QuoteRoom work core node r → (at : ℕ) → at ≡ r.at + length (quoted_at work datum) → at < 2 ^ 32
     quote-small room at e = omega (arith, room.small, words-most 0)
 
-    pub quote-made : (at : ℕ) (core' : List ℕ) → ((w : ℕ) → is_list_of 2 (tree_at work node w) ≡ true) → Q.Written (quoted_at work datum) core core' r.at at → (q : Reached) → q ≡ moved at r → QuoteLeft work node r core core' (Done q)
+    pub quote-made : (at : ℕ) (core' : List ℕ) → ((w : ℕ) → is_list_of 2 (tree_at work node w) ≡ true) → Q.Written (quoted_at work datum) core core' r.at at → (q : Reached) → q ≡ moved at r → QuoteLeft work node r core core' (Ok q)
     unfolding quote_end needs on_formals encode
     quote-made at core' shape x q q-is w =
         let e : quoted_at work datum ≡ datum_words (strip (element 1 (tree_at work node w))) =

@@ -1,5 +1,5 @@
 -- What the turns of forms leave, by words alone: the law of each form makes a turn of it.
-use Rattle.std.specs.Prelude.{◌≡◌, true, false, List, [], ◌∷◌, map, ℕ, ◌+◌, ◌*◌, ◌≤◌, length, take}
+use Rattle.std.specs.Prelude.{◌≡◌, true, false, List, [], ◌∷◌, map, ℕ, ◌+◌, ◌*◌, ◌≤◌, length, take, Ok, Err}
 use Rattle.words.specs.Limits.{core_rate}
 use Rattle.recipe.specs.Name.{variable, Name, distinct}
 use Rattle.recipe.specs.Tree.{Tree, size, strip, is_list_of, element, bind_all}
@@ -10,13 +10,14 @@ use Rattle.expansion.specs.Forms.{is_lambda, formals}
 use Rattle.arena.specs.Arena.{tree_at}
 use Rattle.forms.specs.Quotes.{Written}
 use Rattle.turns.specs.declared.answers.Reached.{Reached}
-use Rattle.turns.specs.declared.answers.Ended.{Ended}
+use Rattle.turns.specs.declared.answers.Refused.{Refused}
 use Rattle.turns.specs.declared.answers.Turn.{Turn}
 use Rattle.turns.specs.declared.answers.Turn.TheVariants.{Again, Operands, Over}
+use Rattle.turns.specs.Answers.{Ended, TurnEnd, Refuses}
 use Rattle.turns.specs.Ends.{End, finished, refused_end, needs}
 use Rattle.turns.specs.Numbers.{widened}
 use Rattle.turns.specs.Memory.{item_rate, number_most, Moved, Proper, Placed}
-use Rattle.turns.specs.Leaves.{Refuses, Leaf}
+use Rattle.turns.specs.Leaves.{Leaf}
 
 -- what is at hand, and room for it
 pub record Roomy (work core : List ℕ) (node w : ℕ) (r : Reached) : Type 0 where
@@ -43,10 +44,11 @@ QuoteLeft work node r core core' a = (w : ℕ) → Leaf (quote_end (tree_at work
 
 -- ---- if
 
-abbrev pub IfLeft : (work : List ℕ) (node tail w : ℕ) (r : Reached) (core core' : List ℕ) → Turn → Type 0
-IfLeft work node tail w r core core' (Again n v q) = ⊥
-IfLeft work node tail w r core core' (Operands l v q) = (l ≡ tail) × (v ≡ w) × ((u : ℕ) → is_list_of 4 (tree_at work node u) ≡ true) × Moved (if_code ∷ []) r core core' q
-IfLeft work node tail w r core core' (Over a) = ((u : ℕ) → is_list_of 4 (tree_at work node u) ≡ false) × Refuses 13 r a
+abbrev pub IfLeft : (work : List ℕ) (node tail w : ℕ) (r : Reached) (core core' : List ℕ) → TurnEnd → Type 0
+IfLeft work node tail w r core core' (Ok (Again n v q)) = ⊥
+IfLeft work node tail w r core core' (Ok (Over q)) = ⊥
+IfLeft work node tail w r core core' (Ok (Operands l v q)) = (l ≡ tail) × (v ≡ w) × ((u : ℕ) → is_list_of 4 (tree_at work node u) ≡ true) × Moved (if_code ∷ []) r core core' q
+IfLeft work node tail w r core core' (Err x) = ((u : ℕ) → is_list_of 4 (tree_at work node u) ≡ false) × Refuses 13 r x
 
 -- ---- lambda
 
@@ -66,19 +68,20 @@ pub record Bound (tree : Tree) (r : Reached) (work work' core core' : List ℕ) 
 abbrev pub BoundLeft : (tree : Tree) (r : Reached) (work work' core core' : List ℕ) → Turn → Type 0
 BoundLeft tree r work work' core core' (Again n w q) = Bound tree r work work' core core' n w q
 BoundLeft tree r work work' core core' (Operands l w q) = ⊥
-BoundLeft tree r work work' core core' (Over a) = ⊥
+BoundLeft tree r work work' core core' (Over q) = ⊥
 
 pub record LambdaBound (tree : Tree) (r : Reached) (work work' core core' : List ℕ) (node w : ℕ) (q : Reached) : Type 0 where
   pub shape : is_lambda tree ≡ true
   pub apart : distinct (formals tree) ≡ true
   pub bound : Bound tree r work work' core core' node w q
 
-pub record LambdaRefused (tree : Tree) (r : Reached) (a : Ended) : Type 0 where
+pub record LambdaRefused (tree : Tree) (r : Reached) (x : Refused) : Type 0 where
   pub ground_number : ℕ
   pub is : (e : End (Term Name)) (s : State) → needs 13 (is_lambda tree) s (needs 14 (distinct (formals tree)) s e) ≡ refused_end ground_number s
-  pub refuses : Refuses ground_number r a
+  pub refuses : Refuses ground_number r x
 
-abbrev pub LambdaLeft : (tree : Tree) (r : Reached) (work work' core core' : List ℕ) → Turn → Type 0
-LambdaLeft tree r work work' core core' (Again n w q) = LambdaBound tree r work work' core core' n w q
-LambdaLeft tree r work work' core core' (Operands l w q) = ⊥
-LambdaLeft tree r work work' core core' (Over a) = LambdaRefused tree r a
+abbrev pub LambdaLeft : (tree : Tree) (r : Reached) (work work' core core' : List ℕ) → TurnEnd → Type 0
+LambdaLeft tree r work work' core core' (Ok (Again n w q)) = LambdaBound tree r work work' core core' n w q
+LambdaLeft tree r work work' core core' (Ok (Operands l w q)) = ⊥
+LambdaLeft tree r work work' core core' (Ok (Over q)) = ⊥
+LambdaLeft tree r work work' core core' (Err x) = LambdaRefused tree r x

@@ -1,5 +1,5 @@
 -- Laws of turns that leave operands: applications and if. Their header words are written, and the operands' words follow.
-use Rattle.std.specs.Prelude.{◌≡◌, true, eqb}
+use Rattle.std.specs.Prelude.{◌≡◌, true, eqb, Ok, Err}
 use Rattle.std.proofs.Math.Path.{refl, ap, ap₂, subst}
 use Rattle.std.proofs.Common.{sym, ◌∙◌, eqb-true}
 use mathlib.Core.List.{List, [], ◌∷◌, ◌++◌, append-nil}
@@ -22,8 +22,7 @@ use Rattle.expansion.specs.Forms.{expand_all, expand_operands, expand_applicatio
 use Rattle.arena.specs.Arena.{tree_at}
 use Rattle.forms.specs.Quotes.{Written}
 use Rattle.turns.specs.declared.answers.Reached.{Reached}
-use Rattle.turns.specs.declared.answers.Ended.{Ended}
-use Rattle.turns.specs.declared.answers.Ended.TheVariants.{Done, Refused}
+use Rattle.turns.specs.Answers.{Ended}
 use Rattle.turns.specs.Ends.{End, finished, refused_end, halted, end_of, then, needs}
 use Rattle.turns.specs.EndLaws.{expand_all-pair, if-end, operands_end, application-end}
 use Rattle.turns.specs.Numbers.{moved}
@@ -45,10 +44,10 @@ module _ {A B : Type 0} (words : A → List ℕ) (words' : B → List ℕ) (g : 
       → Prefixed e → Written header core core₁ r.at q.at → q.at ≤ length core
       → Left words q core₁ last e a → Left words' r core last (then (λ v s. finished (g v) s) e) a
   unfolding then
-  left_after r q core core₁ last (finished v s) (Done p) f h room l = (l.0, subst (λ (ws : List ℕ). Written ws core last.core r.at p.at) (sym f) (put-after h l.1 room))
-  left_after r q core core₁ last (finished v s) (Refused x y z) f h room l = l
-  left_after r q core core₁ last (refused_end k s) (Done p) f h room l = l
-  left_after r q core core₁ last (refused_end k s) (Refused x y z) f h room l = l
+  left_after r q core core₁ last (finished v s) (Ok p) f h room l = (l.0, subst (λ (ws : List ℕ). Written ws core last.core r.at p.at) (sym f) (put-after h l.1 room))
+  left_after r q core core₁ last (finished v s) (Err x) f h room l = l
+  left_after r q core core₁ last (refused_end k s) (Ok p) f h room l = l
+  left_after r q core core₁ last (refused_end k s) (Err x) f h room l = l
   left_after r q core core₁ last halted a f h room l = l
 
 -- ---- operands are as many as elements

@@ -1,6 +1,7 @@
 -- How the code's answers and tables meet the definition's ends: of an expression, of operands, and of one turn.
-use Rattle.std.specs.Prelude.{◌≡◌, List, ℕ, ◌+◌, ◌-◌, ◌≤◌, ◌<◌}
+use Rattle.std.specs.Prelude.{◌≡◌, List, ℕ, ◌+◌, ◌-◌, ◌≤◌, ◌<◌, Ok, Err}
 use Rattle.words.specs.Limits.{macros_most}
+use Rattle.words.specs.Code.Ground.{number_of}
 use Rattle.recipe.specs.Name.{Name}
 use Rattle.recipe.specs.Tree.{Tree, size}
 use Rattle.core_term.specs.Term.{Term, Terms}
@@ -12,10 +13,8 @@ use Rattle.arena.specs.Arena.{tree_at}
 use Rattle.resolution.specs.Names.{unbound_in}
 use Rattle.forms.specs.Quotes.{Written}
 use Rattle.turns.specs.declared.answers.Reached.{Reached}
-use Rattle.turns.specs.declared.answers.Ended.{Ended}
-use Rattle.turns.specs.declared.answers.Ended.TheVariants.{Done, Refused}
-use Rattle.turns.specs.declared.answers.Turn.{Turn}
 use Rattle.turns.specs.declared.answers.Turn.TheVariants.{Again, Operands, Over}
+use Rattle.turns.specs.Answers.{Ended, TurnEnd}
 use Rattle.turns.specs.Ends.{End, finished, refused_end, halted, end_of}
 use Rattle.turns.specs.Memory.{Tables, state_at, Placed, Kept}
 
@@ -28,16 +27,16 @@ pub record Lent (operations places : List ℕ) : Type 0 where
 -- from r and a core table; the words are those of what is made
 module _ {A : Type 0} (words : A → List ℕ) (r : Reached) (core : List ℕ) (after : Tables) where
   abbrev pub Left : End A → Ended → Type 0
-  Left (finished a s) (Done q) = (s ≡ state_at after q) × Written (words a) core after.core r.at q.at
-  Left (finished a s) (Refused h n m) = ⊥
-  Left (refused_end g s) (Done q) = ⊥
-  Left (refused_end g s) (Refused h n m) = (g ≡ h) × (s.steps ≡ n) × (s.sum ≡ m)
+  Left (finished a s) (Ok q) = (s ≡ state_at after q) × Written (words a) core after.core r.at q.at
+  Left (finished a s) (Err x) = ⊥
+  Left (refused_end g s) (Ok q) = ⊥
+  Left (refused_end g s) (Err x) = (g ≡ number_of x.ground) × (s.steps ≡ x.steps) × (s.sum ≡ x.sum)
   Left halted a = ⊥
 
 -- where the call is done, nothing of the n items is left
 abbrev pub KeptBy : (fuel n : ℕ) (r : Reached) (before after : Tables) → Ended → Type 0
-KeptBy fuel n r before after (Done q) = Kept fuel n 0 r q before after
-KeptBy fuel n r before after (Refused g s m) = Unit {0}
+KeptBy fuel n r before after (Ok q) = Kept fuel n 0 r q before after
+KeptBy fuel n r before after (Err x) = Unit {0}
 
 -- ---- one turn, whatever expands the expressions in it; `limit` is that of macros in the form at hand
 
@@ -73,10 +72,11 @@ module _ (limit : ℕ) (operations : List ℕ) (fuel : ℕ) where
           → Left words_of_all q after.core last (operands_of expand (tree_at after.work list w) (state_at after q)) a
           → Left words_of r before.core last (turn_of expand tree (state_at before r)) a
 
-    abbrev pub Turned : Turn → Type 0
-    Turned (Again node w q) = Follows node w q
-    Turned (Operands list w q) = Spreads list w q
-    Turned (Over a) = Ends a
+    abbrev pub Turned : TurnEnd → Type 0
+    Turned (Ok (Again node w q)) = Follows node w q
+    Turned (Ok (Operands list w q)) = Spreads list w q
+    Turned (Ok (Over q)) = Ends (Ok q)
+    Turned (Err x) = Ends (Err x)
 
 -- ---- whole expressions and operands, under the limit of a recipe: enough gas is as much as there are items and fuel
 
@@ -93,7 +93,7 @@ module _ (operations : List ℕ) (fuel : ℕ) (tree : Tree) (r : Reached) (befor
 -- ---- the same, whatever the operations whose places are lent
 
 module _ (places : List ℕ) (fuel : ℕ) (tree : Tree) (r : Reached) (before after : Tables) where
-  abbrev pub TurnedBy : Turn → Type 0
+  abbrev pub TurnedBy : TurnEnd → Type 0
   TurnedBy a = (operations : List ℕ) → Lent operations places → Turned macros_most operations fuel tree r before after a
 
   abbrev pub ExpandsBy : Ended → Type 0

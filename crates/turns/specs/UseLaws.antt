@@ -1,5 +1,5 @@
 -- Laws of a macro use's turn: what the code needs on its way, and its result in the use's place.
-use Rattle.std.specs.Prelude.{◌≡◌, refl, Bool, true, false, cond, ltb, leb, length, get_or}
+use Rattle.std.specs.Prelude.{◌≡◌, refl, Bool, true, false, cond, ltb, leb, length, get_or, Result, Ok, Err}
 use Rattle.std.proofs.Math.Path.{ap, ap₂, subst}
 use Rattle.std.proofs.Common.{sym, ◌∙◌, lt-ltb, le-ltb, ltb-true, ltb-false, leb-true}
 use mathlib.Core.List.{List, []}
@@ -23,13 +23,14 @@ use Rattle.arena.specs.Lists.{Means}
 use Rattle.expansion.specs.Transcribe.{equal_lengths, transcribe}
 use Rattle.steps.specs.Apply.{Outcome, refused, result, applied, step_of, Answers, Stepping, Stepped}
 use Rattle.steps.specs.declared.apply.Applied.{Applied}
-use Rattle.steps.specs.declared.apply.Applied.TheVariants.{NoRule, Differ, Costly, Done}
+use Rattle.words.specs.declared.ground.Ground.{Ground}
+use Rattle.words.specs.Code.Ground.{number_of}
 use Rattle.turns.specs.declared.answers.Reached.{Reached}
-use Rattle.turns.specs.declared.answers.Ended.{Ended}
+use Rattle.turns.specs.declared.answers.Refused.{Refused}
 use Rattle.turns.specs.Numbers.{stepped}
 use Rattle.turns.specs.Memory.{macros_at}
 use Rattle.turns.specs.MemoryLaws.{macros_at-one, macros_at-past}
-use Rattle.turns.specs.Leaves.{Refuses}
+use Rattle.turns.specs.Answers.{Refuses}
 use Rattle.turns.specs.Uses.{rules_word, used_of, outcome_of, UseRoom, Used, Unused}
 
 -- ---- the rules of a macro
@@ -68,23 +69,12 @@ produce-mark m t = on_names-∘ (mark_name m) produce_name t ∙ sym (on_names-�
 
 -- ---- outcomes, by the code's answers
 
-module _ (new : List ℕ) (top : ℕ) where
-  no-rule : (o : Outcome) → Answers new top o NoRule → o ≡ refused 16
-  unfolding Answers
-  no-rule (refused g) h = ap refused h
-  no-rule (result t) h = absurd h
+stopped-on : (new : List ℕ) (top : ℕ) (g : Ground) (o : Outcome) → Answers new top o (Err g) → o ≡ refused (number_of g)
+unfolding Answers
+stopped-on new top g (refused h) e = ap refused e
+stopped-on new top g (result t) e = absurd e
 
-  differs : (o : Outcome) → Answers new top o Differ → o ≡ refused 17
-  unfolding Answers
-  differs (refused g) h = ap refused h
-  differs (result t) h = absurd h
-
-  costly : (o : Outcome) → Answers new top o Costly → o ≡ refused 18
-  unfolding Answers
-  costly (refused g) h = ap refused h
-  costly (result t) h = absurd h
-
-record Result (new : List ℕ) (top root cost : ℕ) (o : Outcome) : Type 0 where
+record Made (new : List ℕ) (top root cost : ℕ) (o : Outcome) : Type 0 where
   tree : Tree
   is : o ≡ result tree
   cost-is : cost ≡ size tree
@@ -92,10 +82,10 @@ record Result (new : List ℕ) (top root cost : ℕ) (o : Outcome) : Type 0 wher
   above : top ≤ root
   most : root ≤ top + 6 * cost
 
-done-result : (new : List ℕ) (top root cost : ℕ) (o : Outcome) → Answers new top o (Done root cost) → Result new top root cost o
+done-result : (new : List ℕ) (top : ℕ) (a : Applied) (o : Outcome) → Answers new top o (Ok a) → Made new top a.root a.cost o
 unfolding Answers
-done-result new top root cost (refused g) h = absurd h
-done-result new top root cost (result t) h = record { tree = t; is = refl; cost-is = h.0; means = h.1; above = h.2; most = h.3 }
+done-result new top a (refused g) h = absurd h
+done-result new top a (result t) h = record { tree = t; is = refl; cost-is = h.0; means = h.1; above = h.2; most = h.3 }
 
 -- a result is within the fuel left
 abbrev Within : ℕ → Outcome → Type 0
@@ -154,7 +144,7 @@ module _ (work macros : List ℕ) (fuel node w n : ℕ) (r : Reached) (room : Us
           room = record { fits = omega (arith, room.fits, wrapped.end); small = omega (arith, room.small, wrapped.end) };
         }
 
-    module _ (last : List ℕ) (a : Applied) (stepped-is : Stepped mid last used rules operands used (fuel - r.sum) a) where
+    module _ (last : List ℕ) (a : Result Applied Ground) (stepped-is : Stepped mid last used rules operands used (fuel - r.sum) a) where
       outcome-is : step_of (fuel - r.sum) (tree_at mid operands used) (first_fit (rules_at mid rules) (tree_at mid operands used)).1 ≡ outcome
       unfolding outcome_of
       outcome-is = ap₂ (λ (u : Tree) (rs : List Rule). step_of (fuel - r.sum) u (first_fit rs u).1) used-same rules-same
@@ -164,45 +154,39 @@ module _ (work macros : List ℕ) (fuel node w n : ℕ) (r : Reached) (room : Us
 
       -- ---- no result
 
-      pub use-no-rule : a ≡ NoRule → (e : Ended) → Refuses 16 r e → Unused outcome r e
-      use-no-rule h e f = record { ground_number = 16; is = no-rule last used outcome (subst (λ (b : Applied). Answers last used outcome b) h answers); refuses = f }
-
-      pub use-differs : a ≡ Differ → (e : Ended) → Refuses 17 r e → Unused outcome r e
-      use-differs h e f = record { ground_number = 17; is = differs last used outcome (subst (λ (b : Applied). Answers last used outcome b) h answers); refuses = f }
-
-      pub use-costly : a ≡ Costly → (e : Ended) → Refuses 18 r e → Unused outcome r e
-      use-costly h e f = record { ground_number = 18; is = costly last used outcome (subst (λ (b : Applied). Answers last used outcome b) h answers); refuses = f }
+      pub use-stopped : (g : Ground) → a ≡ Err g → (x : Refused) → Refuses (number_of g) r x → Unused outcome r x
+      use-stopped g h x f = record { ground_number = number_of g; is = stopped-on last used g outcome (subst (λ (b : Result Applied Ground). Answers last used outcome b) h answers); refuses = f }
 
       -- ---- the result
 
-      module _ (root cost : ℕ) (h : a ≡ Done root cost) (last-long : length last ≡ length mid) where
-        made : Result last used root cost outcome
-        made = done-result last used root cost outcome (subst (λ (b : Applied). Answers last used outcome b) h answers)
+      module _ (done : Applied) (h : a ≡ Ok done) (last-long : length last ≡ length mid) where
+        made : Made last used done.root done.cost outcome
+        made = done-result last used done outcome (subst (λ (b : Result Applied Ground). Answers last used outcome b) h answers)
 
         affordable : size made.tree ≤ fuel - r.sum
         unfolding outcome_of
         affordable =
             subst (Within (fuel - r.sum)) made.is (within (fuel - r.sum) (used_of tree r) (first_fit (get_or (macros_at work macros r.macros) n []) (used_of tree r)).1)
 
-        pub use-paid : (r.steps + 1 < 2 ^ 32) × (r.sum + cost < 2 ^ 32)
+        pub use-paid : (r.steps + 1 < 2 ^ 32) × (r.sum + done.cost < 2 ^ 32)
         use-paid = (omega (arith, room.stepped, room.spent, room.fuelled), omega (arith, affordable, made.cost-is, room.spent, room.fuelled))
 
-        pub use-marks-again : (Room last root 3) × (r.steps + 1 < step_limit) × (0 ≤ root)
+        pub use-marks-again : (Room last done.root 3) × (r.steps + 1 < step_limit) × (0 ≤ done.root)
         use-marks-again = (
           record { fits = omega (arith, affordable, made.cost-is, made.most, wrapped.end, room.fits); small = omega (arith, affordable, made.cost-is, made.most, wrapped.end, room.small) },
           omega (arith, room.stepped, room.spent, room.fuelled),
           omega arith,
         )
 
-        pub use-made : (final : List ℕ) (w' : ℕ) → Wrapped (λ x. mark_name (r.steps + 1) (wrap_at last 0 x)) 3 last final root w'
-            → (q : Reached) → q ≡ stepped w' cost r → Used outcome fuel r work final root w' q
+        pub use-made : (final : List ℕ) (w' : ℕ) → Wrapped (λ x. mark_name (r.steps + 1) (wrap_at last 0 x)) 3 last final done.root w'
+            → (q : Reached) → q ≡ stepped w' done.cost r → Used outcome fuel r work final done.root w' q
         use-made final w' x q e =
             let one : r.steps + 1 ≡ suc r.steps = omega arith in
             record {
               tree = made.tree;
               is = made.is;
               means =
-                  tree-mark last final root w' root (omega arith) x.kept (r.steps + 1) 0 x
+                  tree-mark last final done.root w' done.root (omega arith) x.kept (r.steps + 1) 0 x
                   ∙ ap (mark (r.steps + 1)) made.means ∙ produce-mark (r.steps + 1) made.tree ∙ ap (λ (m : ℕ). produce (mark m made.tree)) one;
               paid = affordable;
               numbers = e ∙ ap (λ (c : ℕ). stepped w' c r) made.cost-is;
@@ -210,7 +194,7 @@ module _ (work macros : List ℕ) (fuel node w n : ℕ) (r : Reached) (room : Us
               up = omega (arith, x.end, made.above, wrapped.end);
               most = omega (arith, x.end, made.most, made.cost-is, wrapped.end);
               kept =
-                  take_less final last r.top root (omega (arith, made.above, wrapped.end)) x.kept
+                  take_less final last r.top done.root (omega (arith, made.above, wrapped.end)) x.kept
                   ∙ take_less last mid r.top used (omega (arith, wrapped.end)) stepped-is.kept
                   ∙ wrapped.kept;
             }

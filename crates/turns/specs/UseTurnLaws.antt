@@ -1,5 +1,5 @@
 -- The turn of a macro use: the result of the definition's step stands for the use, or the step is refused.
-use Rattle.std.specs.Prelude.{◌≡◌, Bool, true, false, cond, leb, length, get_or}
+use Rattle.std.specs.Prelude.{◌≡◌, Bool, true, false, cond, leb, length, get_or, Ok, Err}
 use Rattle.std.proofs.Math.Path.{refl, ap, subst}
 use Rattle.std.proofs.Common.{sym, ◌∙◌, arith, le-leb, leb-true, leb-false}
 use mathlib.Core.List.{List, []}
@@ -26,8 +26,8 @@ use Rattle.words.specs.ListLaws.{either}
 use Rattle.steps.specs.Apply.{Outcome, refused, result, applied, step_of}
 use Rattle.forms.specs.Quotes.{Written}
 use Rattle.turns.specs.declared.answers.Reached.{Reached}
-use Rattle.turns.specs.declared.answers.Ended.{Ended}
-use Rattle.turns.specs.declared.answers.Ended.TheVariants.{Done, Refused}
+use Rattle.turns.specs.declared.answers.Refused.{Refused}
+use Rattle.turns.specs.Answers.{Ended}
 use Rattle.turns.specs.Ends.{End, finished, refused_end, halted, end_of, needs, with_step}
 use Rattle.turns.specs.Ends as E
 use Rattle.turns.specs.EndLaws as L
@@ -96,10 +96,10 @@ proper-rule limit used p (given {a = x} f) =
 -- ---- the words follow from the same place
 
 pub left-same : (r q : Reached) (core : List ℕ) (last : Tables) (e : End (Term Name)) (a : Ended) → q.at ≡ r.at → Left words_of q core last e a → Left words_of r core last e a
-left-same r q core last (finished v s) (Done p) h l = (l.0, subst (λ (n : ℕ). Written (words_of v) core last.core n p.at) h l.1)
-left-same r q core last (finished v s) (Refused x y z) h l = l
-left-same r q core last (refused_end k s) (Done p) h l = l
-left-same r q core last (refused_end k s) (Refused x y z) h l = l
+left-same r q core last (finished v s) (Ok p) h l = (l.0, subst (λ (n : ℕ). Written (words_of v) core last.core n p.at) h l.1)
+left-same r q core last (finished v s) (Err x) h l = l
+left-same r q core last (refused_end k s) (Ok p) h l = l
+left-same r q core last (refused_end k s) (Err x) h l = l
 left-same r q core last halted a h l = l
 
 -- ---- the turn
@@ -117,16 +117,15 @@ module _ (limit : ℕ) (operations : List ℕ) (fuel n : ℕ) (t : Tree) (r : Re
   unfolding state_at outcome_of used_of
   turn-outcome expand = turn expand state ∙ use-outcome limit operations fuel expand t state ready.spent n
 
-  pub use-refused : (a : Ended) → Unused outcome r a → Ends limit operations fuel t r (tables work core macros) (tables work' core macros) a
+  pub use-refused : (y : Refused) → Unused outcome r y → Ends limit operations fuel t r (tables work core macros) (tables work' core macros) (Err y)
   unfolding state_at outcome_end
-  use-refused a x =
-      subst (λ (b : Ended). Ends limit operations fuel t r (tables work core macros) (tables work' core macros) b) (sym x.refuses)
-      (record {
+  use-refused y x =
+      record {
         kept = tt;
         means = λ expand.
-            subst (λ (z : End (Term Name)). Left words_of r core (tables work' core macros) z (Refused x.ground_number r.steps r.sum))
-            (sym (turn-outcome expand ∙ ap (outcome_end expand state) x.is)) (refl, refl, refl);
-      })
+            subst (λ (z : End (Term Name)). Left words_of r core (tables work' core macros) z (Err y))
+            (sym (turn-outcome expand ∙ ap (outcome_end expand state) x.is)) (sym x.refuses.ground-is, sym x.refuses.steps-are, sym x.refuses.sum_is);
+      }
 
   outcome-proper : Proper t → ProperOutcome outcome
   unfolding outcome_of used_of

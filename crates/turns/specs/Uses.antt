@@ -1,5 +1,5 @@
 -- What a macro use's turn needs and leaves, by words alone.
-use Rattle.std.specs.Prelude.{◌≡◌, cond, List, [], ℕ, suc, ◌+◌, ◌*◌, ◌-◌, ◌≤◌, ltb, length, get_or, take}
+use Rattle.std.specs.Prelude.{◌≡◌, cond, List, [], ℕ, suc, ◌+◌, ◌*◌, ◌-◌, ◌≤◌, ltb, length, get_or, take, Ok, Err}
 use Rattle.words.specs.Limits.{fuel_most}
 use Rattle.recipe.specs.Tree.{Tree, size, tail, mark, produce}
 use Rattle.expansion.specs.Rules.{Rule}
@@ -7,12 +7,11 @@ use Rattle.expansion.specs.Match.{first_fit}
 use Rattle.arena.specs.Arena.{tree_at}
 use Rattle.steps.specs.Apply.{Outcome, refused, result, step_of}
 use Rattle.turns.specs.declared.answers.Reached.{Reached}
-use Rattle.turns.specs.declared.answers.Ended.{Ended}
-use Rattle.turns.specs.declared.answers.Turn.{Turn}
+use Rattle.turns.specs.declared.answers.Refused.{Refused}
 use Rattle.turns.specs.declared.answers.Turn.TheVariants.{Again, Operands, Over}
 use Rattle.turns.specs.Numbers.{stepped}
 use Rattle.turns.specs.Memory.{tables, number_most, Macros, Placed}
-use Rattle.turns.specs.Leaves.{Refuses}
+use Rattle.turns.specs.Answers.{TurnEnd, Refuses}
 
 -- the reference to the rules of macro n, of so many
 unfoldable pub rules_word : (macros : List ℕ) (count n : ℕ) → ℕ
@@ -47,12 +46,13 @@ pub record Used (o : Outcome) (fuel : ℕ) (r : Reached) (work work' : List ℕ)
   pub most : w ≤ r.top + 6 + 6 * size tree
   pub kept : take r.top work' ≡ take r.top work
 
-pub record Unused (o : Outcome) (r : Reached) (a : Ended) : Type 0 where
+pub record Unused (o : Outcome) (r : Reached) (x : Refused) : Type 0 where
   pub ground_number : ℕ
   pub is : o ≡ refused ground_number
-  pub refuses : Refuses ground_number r a
+  pub refuses : Refuses ground_number r x
 
-abbrev pub UseLeft : (o : Outcome) (fuel : ℕ) (r : Reached) (work work' : List ℕ) → Turn → Type 0
-UseLeft o fuel r work work' (Again n w q) = Used o fuel r work work' n w q
-UseLeft o fuel r work work' (Operands l w q) = ⊥
-UseLeft o fuel r work work' (Over a) = Unused o r a
+abbrev pub UseLeft : (o : Outcome) (fuel : ℕ) (r : Reached) (work work' : List ℕ) → TurnEnd → Type 0
+UseLeft o fuel r work work' (Ok (Again n w q)) = Used o fuel r work work' n w q
+UseLeft o fuel r work work' (Ok (Operands l w q)) = ⊥
+UseLeft o fuel r work work' (Ok (Over q)) = ⊥
+UseLeft o fuel r work work' (Err x) = Unused o r x

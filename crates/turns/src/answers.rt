@@ -1,7 +1,11 @@
 // What an expansion carries from one expression to the next, and how an expression and one turn of it end.
 
 ghost use Rattle.std.specs.Prelude.{◌≡◌, ◌+◌, ◌^◌, ◌<◌};
+ghost use Rattle.words.specs.Code.Ground.{number_of};
 ghost use Rattle.turns.specs.Numbers.{at_start, moved, widened, grown, stepped};
+ghost use Rattle.turns.specs.Answers.{Refuses, Unbegun};
+
+use words::ground::Ground;
 
 // The numbers that an expansion carries: how far the arena and the core words reach, the two counts, variables and macros so far.
 #[derive(Clone, Copy)]
@@ -14,14 +18,45 @@ pub struct Reached {
     pub macros: u32,
 }
 
+// Refused: the ground, and the counts of completed steps.
+#[derive(Clone, Copy)]
+pub struct Refused {
+    pub ground: Ground,
+    pub steps: u32,
+    pub sum: u32,
+}
+
+// Before the first step.
+impl From<Ground> for Refused {
+    ghost from_gives = { λ g x. Unbegun g x };
+
+    fn from(ground: Ground) -> Self {
+        Refused {
+            ground,
+            steps: 0,
+            sum: 0,
+        }
+    }
+}
+
+// What is left of an expression after one turn: another expression in its place, operands, or nothing; the first two by node,
+// wrap and numbers.
+#[derive(Clone, Copy)]
+pub enum Turn {
+    Again(u32, u32, Reached),
+    Operands(u32, u32, Reached),
+    Over(Reached),
+}
+
 // What is done changes them so; specs/Numbers.antt has a definition for each.
 impl Reached {
     // Before the first turn: the arena is laid out.
+    #[tactic(auto, unfolding(crate::specs::Numbers::at_start))]
     pub fn start(top: u32) -> Self
         ensures { result ≡ at_start top }
     {
         Reached {
-            top: top,
+            top,
             at: 0,
             steps: 0,
             sum: 0,
@@ -31,46 +66,37 @@ impl Reached {
     }
 
     // Core words reach to `at`.
+    #[tactic(auto, unfolding(crate::specs::Numbers::moved))]
     pub fn moved(self, at: u32) -> Self
         ensures { result ≡ moved at self }
     {
-        Reached {
-            top: self.top,
-            at: at,
-            steps: self.steps,
-            sum: self.sum,
-            variables: self.variables,
-            macros: self.macros,
-        }
+        Reached { at, ..self }
     }
 
     // n new variables, whose binders end at `top`, and core words to `at`.
+    #[tactic(auto, unfolding(crate::specs::Numbers::widened))]
     pub fn widened(self, top: u32, at: u32, n: u32) -> Self
         requires { self.variables + n < 2 ^ 32 }
         ensures { result ≡ widened top at n self }
     {
         Reached {
-            top: top,
-            at: at,
-            steps: self.steps,
-            sum: self.sum,
+            top,
+            at,
             variables: self.variables + n,
-            macros: self.macros,
+            ..self
         }
     }
 
     // n new macros, whose rules end at `top`.
+    #[tactic(auto, unfolding(crate::specs::Numbers::grown))]
     pub fn grown(self, top: u32, n: u32) -> Self
         requires { self.macros + n < 2 ^ 32 }
         ensures { result ≡ grown top n self }
     {
         Reached {
-            top: top,
-            at: self.at,
-            steps: self.steps,
-            sum: self.sum,
-            variables: self.variables,
+            top,
             macros: self.macros + n,
+            ..self
         }
     }
 
@@ -80,28 +106,21 @@ impl Reached {
         ensures { result ≡ stepped top n self }
     {
         Reached {
-            top: top,
-            at: self.at,
+            top,
             steps: self.steps + 1,
             sum: self.sum + n,
-            variables: self.variables,
-            macros: self.macros,
+            ..self
         }
     }
-}
 
-// How the expansion of an expression or of operands ends.
-#[derive(Clone, Copy)]
-pub enum Ended {
-    Done(Reached),
-    Refused { ground: u32, steps: u32, sum: u32 },
-}
-
-// What is left of an expression after one turn: another expression in its place, operands, or nothing; the first two by node,
-// wrap and numbers.
-#[derive(Clone, Copy)]
-pub enum Turn {
-    Again(u32, u32, Reached),
-    Operands(u32, u32, Reached),
-    Over(Ended),
+    // Refused, with the counts of completed steps.
+    pub fn refused(self, why: Ground) -> Refused
+        ensures { Refuses (number_of why) self result }
+    {
+        Refused {
+            ground: why,
+            steps: self.steps,
+            sum: self.sum,
+        }
+    }
 }

@@ -1,38 +1,28 @@
 // Expressions that are done at once: constants and bare names.
 
-ghost use Rattle.std.specs.Prelude.{◌≤◌};
+ghost use Rattle.std.specs.Prelude.{◌≤◌, Ok};
 ghost use Rattle.words.specs.Limits.{core_rate};
 ghost use Rattle.datum.specs.Constant.{decimal_kind};
 ghost use Rattle.arena.specs.Arena.{name_at};
 ghost use Rattle.resolution.specs.Names.{lookup_in};
 ghost use Rattle.turns.specs.Memory.{CoreRoom};
-ghost use Rattle.turns.specs.Leaves.{Refuses, Leaf, name_end, ConstantLeft};
+ghost use Rattle.turns.specs.Leaves.{Leaf, name_end, ConstantLeft};
 
-use crate::answers::{Ended, Reached};
+use crate::answers::{Reached, Refused};
 use crate::output;
 use core_term::codes;
 use forms::quotes;
 use resolution::names;
-use resolution::names::{Looked, Meaning};
-
-// Refused, with the counts of completed steps.
-pub fn refuse(ground: u32, reached: Reached) -> Ended
-    ensures { Refuses ground reached result }
-{
-    Ended::Refused {
-        ground: ground,
-        steps: reached.steps,
-        sum: reached.sum,
-    }
-}
+use resolution::names::Meaning;
+use words::ground::Ground;
 
 // A constant stands for itself.
-pub fn constant(core: &mut [u32], kind: u32, first: u32, second: u32, reached: Reached) -> Ended
+pub fn constant(core: &mut [u32], kind: u32, first: u32, second: u32, reached: Reached) -> Reached
     requires { (CoreRoom core.old reached.at core_rate) × (kind ≤ decimal_kind) }
-    ensures { ConstantLeft kind first second reached core.old core.new result }
+    ensures { ConstantLeft kind first second reached core.old core.new (Ok result) }
 {
     let at = quotes::put_constant(core, reached.at as usize, kind, first, second);
-    Ended::Done(reached.moved(at as u32))
+    reached.moved(at as u32)
 }
 
 // A bare name is a variable or an operation (grounds 11 and 12).
@@ -43,17 +33,17 @@ pub fn bare_name(
     node: u32,
     wrap: u32,
     reached: Reached,
-) -> Ended
+) -> Result<Reached, Refused>
     requires { CoreRoom core.old reached.at 2 }
     ensures { Leaf (name_end (lookup_in operations.now (name_at work.now node wrap))) 2 reached core.old core.new result }
 {
-    let Looked::Finds(found) = names::lookup(work, operations, node, wrap) else {
-        return refuse(11, reached);
+    let Some(found) = names::lookup(work, operations, node, wrap) else {
+        return Err(reached.refused(Ground::Unbound));
     };
     match found {
-        Meaning::Variable(v) => Ended::Done(output::put_node(core, reached, codes::VARIABLE, v)),
-        Meaning::Operation(p) => Ended::Done(output::put_node(core, reached, codes::OPERATION, p)),
-        Meaning::Macro(m) => refuse(12, reached),
-        Meaning::Form(k) => refuse(12, reached),
+        Meaning::Variable(v) => Ok(output::put_node(core, reached, codes::VARIABLE, v)),
+        Meaning::Operation(p) => Ok(output::put_node(core, reached, codes::OPERATION, p)),
+        Meaning::Macro(_) => Err(reached.refused(Ground::BareForm)),
+        Meaning::Form(_) => Err(reached.refused(Ground::BareForm)),
     }
 }

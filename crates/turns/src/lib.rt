@@ -5,6 +5,7 @@ pub mod answers;
 mod base_forms;
 pub mod dispatch;
 pub mod leaf;
+mod listed;
 mod macros;
 mod output;
 mod uses;

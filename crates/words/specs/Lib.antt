@@ -7,7 +7,6 @@ pub mod Tables
 pub mod TableLaws
 pub mod Options
 pub mod Code
-pub mod SignedLaws
 pub mod Text
 pub mod TestLaws
 pub mod Each

@@ -1,5 +1,5 @@
 -- Lent tables.
-use Rattle.std.specs.Prelude.{◌≡◌, List, ◌++◌, ℕ, ◌-◌, ◌≤◌, length, drop, replicate}
+use Rattle.std.specs.Prelude.{List, ◌++◌, ℕ, ◌-◌, length, replicate}
 
 -- words, then zeros to the end of a table
 unfoldable pub filled : List ℕ → List ℕ → List ℕ
@@ -15,9 +15,3 @@ unfoldable pub left_at : Stage → List ℕ → List ℕ → List ℕ
 unfolding filled
 left_at testing ws table = table
 left_at begun ws table = filled ws table
-
--- a table while it is zeroed: what was passed is zero, and the rest is as it was
-pub record Zeroed (passed : ℕ) (lent table : List ℕ) : Type 0 where
-  pub within : passed ≤ length lent
-  pub sized : length table ≡ length lent
-  pub words : table ≡ replicate passed 0 ++ drop passed lent

@@ -1,11 +1,9 @@
-// The limits of documents 01 and 02, for code; specs/Limits.antt has the same numbers for definitions. And what is done with words, bytes and
-// tables, whatever they mean.
+// The limits of documents 01 and 02, for code; specs/Limits.antt has the same numbers for definitions. And the grounds of refusals, and signed
+// numbers.
 #![tactic(auto)]
 
-pub mod casts;
-pub mod packed;
+pub mod ground;
 pub mod signed;
-pub mod tables;
 
 // Reading: words and bytes to lend, bytes of a text, elements, names, names that are fixed, open lists, bytes of a name and of its slot,
 // digits behind a decimal's dot.

@@ -7,27 +7,19 @@ ghost use Rattle.std.proofs.Common.{to_z, of_z};
 pub fn to_word(z: i32) -> u32
     ensures { result ≡ of_z w32 z }
 {
-    if z < 0 {
-        0xffff_ffff - (-1 - z) as u32
-    } else {
-        z as u32
-    }
+    z.cast_unsigned()
 }
 
 // The number of a word.
 pub fn of_word(w: u32) -> i32
     ensures { result ≡ to_z w32 w }
 {
-    if w < 0x8000_0000 {
-        w as i32
-    } else {
-        -1 - (0xffff_ffff - w) as i32
-    }
+    w.cast_signed()
 }
 
 // A number without its sign: below 0 it is negated, the least one too, whose opposite is no i32.
 pub fn size(z: i32) -> u32
     ensures { result ≡ nat_abs z }
 {
-    if z < 0 { (-1 - z) as u32 + 1 } else { z as u32 }
+    z.unsigned_abs()
 }

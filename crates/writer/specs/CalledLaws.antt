@@ -1,10 +1,9 @@
 -- Laws of the names of variables: in a table of their own, or in the words.
-use Rattle.std.specs.Prelude.{◌≡◌, ℕ, ◌+◌, ◌-◌, ◌<◌, ◌≤◌, Bool, true, false, List, ◌++◌, length, take, drop, slice_index}
+use Rattle.std.specs.Prelude.{◌≡◌, ℕ, ◌+◌, ◌-◌, ◌<◌, ◌≤◌, List, ◌++◌, length, take, drop, slice_index}
 use Rattle.std.proofs.Common.{sym, ap, ◌∙◌, arith, take-add, get_or-take, get_or-drop}
 use Rattle.std.proofs.Math.Seq.{take-length, paste}
 use Rattle.std.proofs.lemmas.List.Edits.{take-paste}
 use Rattle.core_term.specs.Code.Scan.{called_in}
-use Rattle.writer.specs.Called.{called_by}
 
 -- ---- the table
 
@@ -38,12 +37,3 @@ name-here ws at seen size count n e h l c =
     ∙ ap (λ (z : List ℕ). slice_index z i) (ap (λ (k : ℕ). take k (drop (at + size - count) ws)) (sym w) ∙ e)
     ∙ get_or-take count (drop seen (called_in ws)) i 0 l
     ∙ get_or-drop seen (called_in ws) i 0 ∙ ap (λ (k : ℕ). slice_index (called_in ws) k) m
-
-module _ (direct : Bool) (called : List ℕ) where
-  pub called-table : direct ≡ true → called_by direct called ≡ called
-  unfolding called_by
-  called-table e = rw e
-
-  pub called-words : direct ≡ false → called_by direct called ≡ called_in called
-  unfolding called_by
-  called-words e = rw e

@@ -7,9 +7,9 @@ use Rattle.std.proofs.Math.Nat.{div-eq_of_lt, div-div-eq-div-mul, pow-succ', pow
 use Rattle.std.proofs.Math.Arith.{digits_div, digits_mod, mod-mul}
 use Rattle.core_term.specs.Decimal.{decimal, padded}
 use Rattle.core_term.proofs.DecimalLaws.{decimal-one, decimal-more, padded-length}
-use Rattle.writer.specs.Put.{no_place, put_of}
+use Rattle.std.specs.Prelude.{Some, None}
 use Rattle.writer.specs.Laid.{laid, Left, done, full}
-use Rattle.writer.specs.LaidLaws.{laid-dry, laid-byte, laid-append, place-holds, full-holds}
+use Rattle.writer.specs.LaidLaws.{laid-dry, laid-byte, laid-append}
 use Rattle.writer.specs.Digits.{tens}
 
 -- ---- a rule of a table: a test that is computed at each entry and its place
@@ -214,18 +214,15 @@ module _ (n k : ℕ) (some : 10 ≤ n) (least : 10 ^ k ≤ n) (most : n < 10 ^ (
   digits-count = ap length (sym digits_are) ∙ padded-length k n ∙ sym (add-one k)
 
   module _ (ink : Bool) (at : ℕ) (d : List ℕ) where
-    pub digits-full : length d ≤ at + k → Left ink (decimal n) at d d (put_of no_place)
-    digits-full h = full-holds (Left ink (decimal n) at d d) (full (omega (arith, digits-count)) (λ i. refl))
+    pub digits-full : length d ≤ at + k → Left ink (decimal n) at d d None
+    digits-full h = full (omega (arith, digits-count)) (λ i. refl)
 
-    module _ (room : at + k < length d) (short : length d < no_place) where
-      pub digits-dry : ink ≡ false → Left ink (decimal n) at d d (put_of (at + k + 1))
-      digits-dry i =
-          place-holds (Left ink (decimal n) at d d) (omega arith) (done (omega (arith, digits-count)) (omega arith) (sym (laid-dry ink (decimal n) at d i)))
+    module _ (room : at + k < length d) where
+      pub digits-dry : ink ≡ false → Left ink (decimal n) at d d (Some (at + k + 1))
+      digits-dry i = done (omega (arith, digits-count)) (omega arith) (sym (laid-dry ink (decimal n) at d i))
 
-      pub digits-laid : (e : List ℕ) → ink ≡ true → e ≡ laid true (padded k n) at d → Left ink (decimal n) at d e (put_of (at + k + 1))
-      digits-laid e i l =
-          place-holds (Left ink (decimal n) at d e) (omega arith)
-          (done (omega (arith, digits-count)) (omega arith) (l ∙ ap₂ (λ (b : Bool) (x : List ℕ). laid b x at d) (sym i) digits_are))
+      pub digits-laid : (e : List ℕ) → ink ≡ true → e ≡ laid true (padded k n) at d → Left ink (decimal n) at d e (Some (at + k + 1))
+      digits-laid e i l = done (omega (arith, digits-count)) (omega arith) (l ∙ ap₂ (λ (b : Bool) (x : List ℕ). laid b x at d) (sym i) digits_are)
 
 -- twenty digits
 pub most-first : (n k : ℕ) → 10 ^ k ≤ n → k ≡ 19 → 10000000000000000000 ≤ n

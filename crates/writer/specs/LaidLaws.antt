@@ -1,9 +1,9 @@
 -- Laws of laying bytes: one text after another is both together.
-use Rattle.std.specs.Prelude.{◌≡◌, ℕ, suc, ◌+◌, ◌-◌, ◌<◌, ◌≤◌, Bool, true, false, List, [], ◌∷◌, ◌++◌, length, take, drop, set, ◌≢◌, slice_index, slice_range, slice_set, refl}
-use Rattle.std.proofs.Common.{sym, ap, subst, ◌∙◌, append_assoc, append-nil, arith, add-one, zero-add, add-zero, length-append, take-append-drop, length-drop, length-take-le, take_at, drop_at, take-take, drop-drop, ne_eqb}
+use Rattle.std.specs.Prelude.{◌≡◌, ℕ, suc, ◌+◌, ◌-◌, ◌<◌, ◌≤◌, Bool, true, false, List, [], ◌∷◌, ◌++◌, length, take, drop, slice_range, slice_set, refl, Some, None}
+use Rattle.std.proofs.Common.{sym, ap, subst, ◌∙◌, append_assoc, append-nil, arith, add-one, zero-add, add-zero, length-append, take-append-drop, length-drop, length-take-le, take_at, drop_at, take-take, drop-drop}
 use Rattle.std.proofs.lemmas.List.{set_split, take-append-le, drop-append-le}
-use Rattle.std.proofs.Math.Seq.{append_snoc, paste, paste-suc, take-length}
-use Rattle.writer.specs.Put.{Put, Done, Full, no_place, put_of}
+use Rattle.std.proofs.Math.Seq.{append_snoc, paste, take-length}
+use Rattle.std.specs.declared.option.Option.{Option}
 use Rattle.writer.specs.Laid.{laid, Left, done, full}
 
 -- ---- one text
@@ -37,11 +37,6 @@ pub laid-byte : (b at : ℕ) (d : List ℕ) → at < length d → slice_set d at
 laid-byte b at d h = set_split d at b h ∙ rw add-one (sym (append_snoc (take at d) b (drop (suc at) d)))
 
 -- ---- a copy
-
-pub copy_more : (d : List ℕ) (at : ℕ) (s : List ℕ) (e : List ℕ) (i : ℕ) → at + length s ≤ length d → i < length s → e ≡ paste d at s i
-    → slice_set e (at + i) (slice_index s i) ≡ paste d at s (i + 1)
-copy_more d at s e i h l p =
-    ap (λ (z : List ℕ). set z (at + i) (slice_index s i)) p ∙ paste-suc d at s i 0 (omega arith) l ∙ ap (paste d at s) (sym (add-one i))
 
 pub copy_done : (d : List ℕ) (at : ℕ) (s : List ℕ) (e : List ℕ) (i : ℕ) (ink : Bool) → i ≡ length s → ink ≡ true → e ≡ paste d at s i → e ≡ laid ink s at d
 copy_done d at s e i ink l h p =
@@ -89,29 +84,33 @@ laid-part x at to d h k =
 
 module _ {ink : Bool} {x : List ℕ} {at : ℕ} {d e : List ℕ} where
   -- where it ends, that it fits, and the output
-  pub done-is : {to : ℕ} → Left ink x at d e (Done to) → (to ≡ at + length x) × (to ≤ length d) × (e ≡ laid ink x at d)
+  pub done-is : {to : ℕ} → Left ink x at d e (Some to) → (to ≡ at + length x) × (to ≤ length d) × (e ≡ laid ink x at d)
   done-is (done p q s) = (p, q, s)
 
-  pub full_is : Left ink x at d e Full → (length d < at + length x) × (ink ≡ false → e ≡ d)
+  pub full_is : Left ink x at d e None → (length d < at + length x) × (ink ≡ false → e ≡ d)
   full_is (full p q) = (p, q)
 
-  module _ {r : Put} (l : Left ink x at d e r) where
-    pub left-done : (to : ℕ) → r ≡ Done to → Left ink x at d e (Done to)
-    left-done to h = subst (λ (z : Put). Left ink x at d e z) h l
+  module _ {r : Option ℕ} (l : Left ink x at d e r) where
+    pub left-done : (to : ℕ) → r ≡ Some to → Left ink x at d e (Some to)
+    left-done to h = subst (λ (z : Option ℕ). Left ink x at d e z) h l
 
     -- how long the output is, and that the place is within it
-    pub left-length : (to : ℕ) → r ≡ Done to → length e ≡ length d
+    pub left-length : (to : ℕ) → r ≡ Some to → length e ≡ length d
     left-length to h = let k = done-is (left-done to h) in ap length k.2 ∙ laid-length ink x at d (omega arith)
 
-    pub left-room : (to : ℕ) → r ≡ Done to → to ≤ length e
+    pub left-room : (to : ℕ) → r ≡ Some to → to ≤ length e
     left-room to h = let k = done-is (left-done to h) in omega (arith, left-length to h)
 
     -- the first of two texts does not fit
-    pub left-full : (y : List ℕ) → r ≡ Full → Left ink (x ++ y) at d e Full
-    left-full y h = let k = full_is (subst (λ (z : Put). Left ink x at d e z) h l) in full (omega (arith, length-append x y)) k.1
+    pub left-full : (y : List ℕ) → r ≡ None → Left ink (x ++ y) at d e None
+    left-full y h = let k = full_is (subst (λ (z : Option ℕ). Left ink x at d e z) h l) in full (omega (arith, length-append x y)) k.1
+
+    -- as code hands it back
+    pub left-stops : (y : List ℕ) → r ≡ None → {s : Option ℕ} → s ≡ None → Left ink (x ++ y) at d e s
+    left-stops y h {s} k = rw k (left-full y h)
 
     -- a second text after it
-    pub left-then : {y f : List ℕ} {s : Put} (to : ℕ) → r ≡ Done to → Left ink y to e f s → Left ink (x ++ y) at d f s
+    pub left-then : {y f : List ℕ} {s : Option ℕ} (to : ℕ) → r ≡ Some to → Left ink y to e f s → Left ink (x ++ y) at d f s
     left-then {y} to h (done {to = u} p q m) =
         let k = done-is (left-done to h) in
         done {to = u} (omega (arith, length-append x y)) (omega (arith, left-length to h)) (m ∙ ap (laid ink y to) k.2 ∙ laid-append ink x y at to d k.0 k.1)
@@ -120,42 +119,9 @@ module _ {ink : Bool} {x : List ℕ} {at : ℕ} {d e : List ℕ} where
         full (omega (arith, length-append x y, left-length to h)) (λ n. q n ∙ k.2 ∙ laid-dry ink x at d n)
 
   -- an equal text
-  pub left_is : {y : List ℕ} {r : Put} → x ≡ y → Left ink x at d e r → Left ink y at d e r
+  pub left_is : {y : List ℕ} {r : Option ℕ} → x ≡ y → Left ink x at d e r → Left ink y at d e r
   left_is {r = r} h l = subst (λ (z : List ℕ). Left ink z at d e r) h l
 
 -- nothing laid
-pub left-none : (ink : Bool) (at : ℕ) (d : List ℕ) → at ≤ length d → Left ink [] at d d (Done at)
+pub left-none : (ink : Bool) (at : ℕ) (d : List ℕ) → at ≤ length d → Left ink [] at d d (Some at)
 left-none ink at d h = done (sym (add-zero at)) h (sym (laid_none ink at d))
-
--- ---- a place's number
-
-pub put-done : (n : ℕ) → (n ≢ no_place) → put_of n ≡ Done n
-unfolding put_of
-put-done n h = rw (ne_eqb n no_place h)
-
-pub put_full : (n : ℕ) → n ≡ no_place → put_of n ≡ Full
-unfolding put_of
-put_full n h = rw h
-
--- what holds of a place, or of there being none, holds of its number
-module _ (P : Put → Type 0) where
-  pub place-holds : {to : ℕ} → to < no_place → P (Done to) → P (put_of to)
-  place-holds {to} h x = subst P (sym (put-done to (λ e. omega arith))) x
-
-  pub full-holds : P Full → P (put_of no_place)
-  unfolding put_of
-  full-holds x = x
-
-module _ {ink : Bool} {x : List ℕ} {at : ℕ} {d e : List ℕ} where
-  module _ {n : ℕ} (l : Left ink x at d e (put_of n)) where
-    -- the place is within the output
-    pub place-room : (n ≢ no_place) → n ≤ length e
-    place-room h = left-room l n (put-done n h)
-
-    -- the first of two texts does not fit
-    pub place-full : (y : List ℕ) → n ≡ no_place → Left ink (x ++ y) at d e (put_of no_place)
-    place-full y h = full-holds (Left ink (x ++ y) at d e) (left-full l y (put_full n h))
-
-    -- a second text after it
-    pub place-then : {y f : List ℕ} {s : Put} → (n ≢ no_place) → Left ink y n e f s → Left ink (x ++ y) at d f s
-    place-then h m = left-then l n (put-done n h) m

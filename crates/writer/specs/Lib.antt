@@ -1,8 +1,8 @@
 -- Writing: the text of a term laid into an output, byte by byte.
-pub mod Put
 pub mod Laid
 pub mod LaidLaws
 pub mod Digits
+pub mod FormalsLaws
 pub mod DigitsLaws
 pub mod PointLaws
 pub mod Called

@@ -10,10 +10,10 @@ use Rattle.words.specs.TestLaws.{within-parts}
 use Rattle.datum.specs.NameTable.{length_at, name_at, has_name}
 use Rattle.datum.specs.Constant.{is_constant, constant_words, integer, boolean}
 use Rattle.datum.specs.Constant as K
-use Rattle.core_term.specs.Node.{Node, node_words, got, missing, node_at, parts, is_node, variable_n, operation_n, constant_n, name_n, list_n, if_n, lambda_n, application_n}
+use Rattle.core_term.specs.Node.{Node, node_words, got, node_at, parts, is_node, variable_n, operation_n, constant_n, name_n, list_n, if_n, lambda_n, application_n}
 use Rattle.core_term.specs.NodeLaws.{both, node-read}
 use Rattle.core_term.specs.declared.nodes.Node as C
-use Rattle.core_term.specs.declared.nodes.Node.TheVariants.{Variable, Operation, Integer, Boolean, Decimal, Name, List as Several, If, Lambda, Application, None}
+use Rattle.core_term.specs.declared.nodes.Node.TheVariants.{Variable, Operation, Integer, Boolean, Decimal, Name, List as Several, If, Lambda, Application}
 use Rattle.core_term.specs.Code.Opened.{node_in, shape_in, shape_by, OpenedAs}
 use Rattle.words.specs.Text.{bytes}
 use Rattle.core_term.specs.Decimal.{decimal, integer_text, decimal_text}
@@ -50,9 +50,6 @@ pub record Naming (said : Said) (count : ℕ) : Type 0 where
   pub slots : spelled said ≡ true
 
 -- ---- nodes
-
-no-got : {X : Type 0} (x : Node) (r : List ℕ) → missing ≡ got x r → X
-no-got x r h = let z : ◌≡◌ {A = ℕ} 0 1 = cc in absurd (omega arith)
 
 module _ (n : C.Node) (x : Node) (s : Stands n x) where
   reads : node_in s.words n ≡ got x s.left
@@ -96,10 +93,6 @@ module _ (n : C.Node) (x : Node) (s : Stands n x) where
   pub is-application : (k : ℕ) → n ≡ Application k → x ≡ application_n k
   unfolding node_in
   is-application k e = let h : node_in s.words (Application k) ≡ got x s.left = sym (ap (node_in s.words) e) ∙ reads in cc
-
-  pub no_none : {X : Type 0} → n ≡ None → X
-  unfolding node_in
-  no_none e = no-got x s.left (sym (ap (node_in s.words) e) ∙ reads)
 
   module _ (first count : ℕ) (e : n ≡ Lambda first count) where
     abbrev bound : List ℕ
@@ -235,7 +228,6 @@ module _ (ws : List ℕ) (n : C.Node) (x : Node) (r : List ℕ) (h : node_in ws 
       let j : drop (3 + count) ws ≡ r = cc in
       omega (arith, behind (omega (arith, ap parts i)), ap length j, length-drop (3 + count) ws)
   room_of (Application k) e = by_size _ _ e
-  room_of None e = no-got x r e
 
   pub opened-here : OpenedAs ws n
   opened-here = record { is = h; room = room_of n (h ∙ is) }

@@ -1,7 +1,7 @@
 -- Laws of a decimal's text: a number's digits, with a dot before the last of them.
-use Rattle.std.specs.Prelude.{◌≡◌, ℕ, zero, suc, ◌+◌, ◌-◌, ◌*◌, ◌/◌, ◌%◌, ◌^◌, ◌<◌, ◌≤◌, true, List, [], ◌∷◌, ◌++◌, length, take, drop, refl}
+use Rattle.std.specs.Prelude.{◌≡◌, ℕ, zero, suc, ◌+◌, ◌-◌, ◌*◌, ◌/◌, ◌%◌, ◌^◌, ◌<◌, ◌≤◌, true, List, ◌∷◌, ◌++◌, length, take, drop}
 use Rattle.std.proofs.Math.Path.{sym, ap, ap₂}
-use Rattle.std.proofs.Common.{subst, ◌∙◌, append_assoc, arith, add-one, zero-add, suc-add, mod-lt, mul_comm, le-div_iff_mul-le, div-lt_iff_lt-mul, pow-add, take_at, drop_at}
+use Rattle.std.proofs.Common.{subst, ◌∙◌, append_assoc, arith, zero-add, suc-add, mod-lt, mul_comm, le-div_iff_mul-le, div-lt_iff_lt-mul, pow-add, take_at, drop_at}
 use Rattle.std.proofs.Math.Nat.{div-div-eq-div-mul, pow-le-pow_right}
 use Rattle.std.proofs.Math.Arith.{digits_div, digits_mod, mod-mul}
 use Rattle.core_term.specs.Decimal.{decimal, padded, pointed}
@@ -9,7 +9,7 @@ use Rattle.core_term.proofs.DecimalLaws.{decimal-one, padded-length}
 use Rattle.core_term.specs.Code.WindowLaws.{case}
 use Rattle.writer.specs.Laid.{laid}
 use Rattle.writer.specs.LaidLaws.{laid-first}
-use Rattle.writer.specs.DigitsLaws.{power-some, power-more, padded-decimal}
+use Rattle.writer.specs.DigitsLaws.{power-some, padded-decimal}
 
 -- digits from a power down are those of the quotient by a lower power, then those of what is left
 padded-split : (j q n : ℕ) → padded (j + suc q) n ≡ padded j (n / 10 ^ suc q) ++ padded q (n % 10 ^ suc q)

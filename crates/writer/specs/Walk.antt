@@ -1,13 +1,12 @@
 -- A walk through a term's words that lays its text.
-use Rattle.std.specs.Prelude.{◌≡◌, ℕ, Bool, true, ◌&&◌, List, ◌++◌}
+use Rattle.std.specs.Prelude.{◌≡◌, ℕ, Bool, true, ◌&&◌, List, ◌++◌, Some, None}
 use Rattle.core_term.specs.Node.{is_node}
 use Rattle.core_term.specs.Term.{Plain}
 use Rattle.core_term.specs.Words.{encode}
 use Rattle.core_term.specs.Every.{Asked, every}
 use Rattle.core_term.specs.Parts.{is_datum}
-use Rattle.writer.specs.Put as P
+use Rattle.std.specs.declared.option.Option.{Option}
 use Rattle.writer.specs.declared.term.Step.{Step}
-use Rattle.writer.specs.declared.term.Step.TheVariants as S
 use Rattle.writer.specs.Laid.{Left}
 use Rattle.writer.specs.Called.{Said}
 use Rattle.writer.specs.Opened.{named}
@@ -30,6 +29,6 @@ pub record Begins (said : Said) (inner : Bool) (ws : List ℕ) : Type 0 where
   pub words : ws ≡ encode term ++ rest
 
 -- n words walked through and text x laid
-pub data Walked (ink : Bool) (x : List ℕ) (n at : ℕ) (d e : List ℕ) : Step → Type 0 where
-  walked : {used to : ℕ} → used ≡ n → Left ink x at d e (P.Done to) → Walked ink x n at d e (S.Done used to)
-  stopped : Left ink x at d e P.Full → Walked ink x n at d e S.Full
+pub data Walked (ink : Bool) (x : List ℕ) (n at : ℕ) (d e : List ℕ) : Option Step → Type 0 where
+  walked : {s : Step} → s.used ≡ n → Left ink x at d e (Some s.end) → Walked ink x n at d e (Some s)
+  stopped : Left ink x at d e None → Walked ink x n at d e None

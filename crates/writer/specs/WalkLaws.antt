@@ -1,12 +1,12 @@
 -- Laws of the walk: a node, then its parts one after another.
-use Rattle.std.specs.Prelude.{◌≡◌, ℕ, suc, ◌+◌, ◌-◌, ◌<◌, ◌≤◌, Bool, true, false, ◌&&◌, List, [], ◌++◌, length, take, drop, ◌≢◌, refl}
+use Rattle.std.specs.Prelude.{◌≡◌, ℕ, suc, ◌+◌, ◌-◌, ◌<◌, ◌≤◌, Bool, true, false, ◌&&◌, List, [], ◌++◌, length, take, drop, refl, Some, None}
 use Rattle.std.proofs.Math.Path.{sym, ap}
 use Rattle.std.proofs.Common.{subst, ◌∙◌, arith, length-drop, drop_at, drop-drop}
 use Rattle.std.proofs.lemmas.Bool.{false≢true}
 use mathlib.Core.List.{append_assoc, append-nil}
 use Rattle.std.proofs.Math.ListN.{length-append}
 use Rattle.std.proofs.Math.Seq.{drop-append_seam}
-use Rattle.core_term.specs.Node.{Node, got, node_at, node_words, parts, binds, is_node, is_list_node}
+use Rattle.core_term.specs.Node.{got, node_at, node_words, parts, binds, is_node, is_list_node}
 use Rattle.core_term.specs.NodeLaws.{both, node-round, node-some, node-read}
 use Rattle.core_term.specs.Term.{none_c, more_c, Plain, Plains, count, variables}
 use Rattle.core_term.specs.Words.{encode, encode_all}
@@ -16,16 +16,14 @@ use Rattle.core_term.specs.EveryLaws.{every-from}
 use Rattle.core_term.specs.Parts.{node, parts_of, is_datum, are_data}
 use Rattle.core_term.specs.PartsLaws.{encode-parts, encode-two, every-parts, count-parts, list-data}
 use Rattle.words.specs.ListLaws.{rest-is}
-use Rattle.writer.specs.Put.{Put, no_place, put_of}
-use Rattle.writer.specs.Put as P
+use Rattle.std.specs.declared.option.Option.{Option}
 use Rattle.writer.specs.declared.term.Step.{Step}
-use Rattle.writer.specs.declared.term.Step.TheVariants as S
 use Rattle.core_term.specs.declared.nodes.Shape.{Shape}
 use Rattle.core_term.specs.declared.nodes.Node as C
 use Rattle.core_term.specs.Code.Opened.{node_in, shape_in, Shaped, ShapedAt, OpenedAs}
 use Rattle.core_term.specs.Code.OpenedLaws.{shaped-opened}
 use Rattle.writer.specs.Laid.{Left}
-use Rattle.writer.specs.LaidLaws.{left-done, put-done, put_full, left-full, left-room, left-then, left_is, left-none}
+use Rattle.writer.specs.LaidLaws.{left-done, left-full, left-room, left-then, left_is, left-none}
 use Rattle.writer.specs.Pieces.{gap_text, opening, closing, text_in, parts_text, row_text}
 use Rattle.writer.specs.PiecesLaws.{pieces}
 use Rattle.writer.specs.Called.{Said}
@@ -36,25 +34,25 @@ use Rattle.writer.specs.Walk.{spelling, Fits, Begins, Walked, walked, stopped}
 -- ---- answers and rows of terms
 
 module _ {ink : Bool} {x : List ℕ} {n at : ℕ} {d e : List ℕ} where
-  walked-is : {used to : ℕ} → Walked ink x n at d e (S.Done used to) → (used ≡ n) × Left ink x at d e (P.Done to)
+  walked-is : {c : Step} → Walked ink x n at d e (Some c) → (c.used ≡ n) × Left ink x at d e (Some c.end)
   walked-is (walked h l) = (h, l)
 
-  stopped-is : Walked ink x n at d e S.Full → Left ink x at d e P.Full
+  stopped-is : Walked ink x n at d e None → Left ink x at d e None
   stopped-is (stopped l) = l
 
-  pub walked_by : {s : Step} → Walked ink x n at d e s → (used to : ℕ) → s ≡ S.Done used to → (used ≡ n) × Left ink x at d e (P.Done to)
-  walked_by w used to h = walked-is (subst (λ (z : Step). Walked ink x n at d e z) h w)
+  pub walked_by : {s : Option Step} → Walked ink x n at d e s → (c : Step) → s ≡ Some c → (c.used ≡ n) × Left ink x at d e (Some c.end)
+  walked_by w c h = walked-is (subst (λ (z : Option Step). Walked ink x n at d e z) h w)
 
-  pub stopped_by : {s : Step} → Walked ink x n at d e s → s ≡ S.Full → Left ink x at d e P.Full
-  stopped_by w h = stopped-is (subst (λ (z : Step). Walked ink x n at d e z) h w)
+  pub stopped_by : {s : Option Step} → Walked ink x n at d e s → s ≡ None → Left ink x at d e None
+  stopped_by w h = stopped-is (subst (λ (z : Option Step). Walked ink x n at d e z) h w)
 
 -- a text that is laid is walked through with its words
-module _ {ink : Bool} {x : List ℕ} {n at to : ℕ} {d e : List ℕ} (l : Left ink x at d e (put_of to)) where
-  pub close-stops : to ≡ no_place → Walked ink x n at d e S.Full
-  close-stops h = stopped (subst (λ (z : Put). Left ink x at d e z) (put_full to h) l)
+module _ {ink : Bool} {x : List ℕ} {n at : ℕ} {d e : List ℕ} {r : Option ℕ} (l : Left ink x at d e r) where
+  pub close-stops : r ≡ None → {s : Option Step} → s ≡ None → Walked ink x n at d e s
+  close-stops h {s} k = rw k (stopped (subst (λ (z : Option ℕ). Left ink x at d e z) h l))
 
-  pub close-walked : (to ≢ no_place) → Walked ink x n at d e (S.Done n to)
-  close-walked h = walked refl (left-done l to (put-done to h))
+  pub close-walked : (to : ℕ) → r ≡ Some to → Walked ink x n at d e (Some (record { used = n; end = to }))
+  close-walked to h = walked refl (left-done l to h)
 
 -- a row that has a first
 record Row (ts : Plains) : Type 0 where
@@ -92,7 +90,7 @@ module _ (names : Said) where
     same-term = (encode-unique t u r s f.before g.before (spelling-proper t f.before f.fine) (spelling-proper u g.before g.fine) (sym v ∙ w)).0
 
   -- what is said of one term is said of each
-  pub for-any : (text : Plain → List ℕ) (inner ink : Bool) (ws : List ℕ) (b : Begins names inner ws) (at : ℕ) (d e : List ℕ) (s : Step)
+  pub for-any : (text : Plain → List ℕ) (inner ink : Bool) (ws : List ℕ) (b : Begins names inner ws) (at : ℕ) (d e : List ℕ) (s : Option Step)
       → Walked ink (text b.term) (length (encode b.term)) at d e s
       → (t : Plain) (r : List ℕ) → Fits names inner t → ws ≡ encode t ++ r → Walked ink (text t) (length (encode t)) at d e s
   for-any text inner ink ws b at d e s k t r f w =
@@ -153,7 +151,7 @@ module _ (names : Said) where
       pub begun : 1 ≤ from
       pub sofar : List ℕ
       pub text : parts_text names quoted false (parts_of whole.term) ≡ sofar ++ parts_text names quoted wanted todo
-      pub laid : Left ink sofar opened d e (P.Done to)
+      pub laid : Left ink sofar opened d e (Some to)
 
     pub going_start : (b : Begins names false ws) (s : Shape) → quoted ≡ s.quoted → ShapedAt ws s → opened ≤ length d → Going s.own s.parts opened false d
     unfolding spelling
@@ -188,7 +186,7 @@ module _ (names : Said) where
       going-shorter = omega (arith, ap length (rest-is from ws) ∙ length-drop from ws, g.begun, going-inside)
 
       -- no part is left
-      pub going_end : left ≡ 0 → (from ≡ length (encode g.whole.term)) × Left ink (parts_text names quoted false (parts_of g.whole.term)) opened d e (P.Done to)
+      pub going_end : left ≡ 0 → (from ≡ length (encode g.whole.term)) × Left ink (parts_text names quoted false (parts_of g.whole.term)) opened d e (Some to)
       unfolding encode parts_text count
       going_end h =
           let z : g.todo ≡ none_c = none_left g.todo (g.many ∙ h) in (
@@ -232,30 +230,30 @@ module _ (names : Said) where
         pub going_next : Begins names quoted (take (length ws - from) (drop from ws))
         going_next = record { term = next.first; rest = encode_all next.rest ++ g.whole.rest; fits = next_fits; words = rest-is from ws ∙ next_place }
 
-        module _ (f : List ℕ) (r : Put) (k : Left ink (gap_text wanted) to e f r) where
+        module _ (f : List ℕ) (r : Option ℕ) (k : Left ink (gap_text wanted) to e f r) where
           -- no room for the space before it
-          pub gap-full : r ≡ P.Full → Left ink (parts_text names quoted false (parts_of g.whole.term)) opened d f P.Full
+          pub gap-full : r ≡ None → Left ink (parts_text names quoted false (parts_of g.whole.term)) opened d f None
           gap-full q = left_is (sym next-text) (left-then g.laid to refl (left-full k _ q))
 
-          module _ (m : ℕ) (q : r ≡ P.Done m) (f' : List ℕ) (s : Step)
+          module _ (m : ℕ) (q : r ≡ Some m) (f' : List ℕ) (s : Option Step)
               (c : (t : Plain) (z : List ℕ) → Fits names quoted t → take (length ws - from) (drop from ws) ≡ encode t ++ z → Walked ink (text_in names quoted t) (length (encode t)) m f f' s) where
             child : Walked ink (text_in names quoted next.first) (length (encode next.first)) m f f' s
             child = c next.first (encode_all next.rest ++ g.whole.rest) next_fits (rest-is from ws ∙ next_place)
 
             -- nor for the part itself
-            pub part-full : s ≡ S.Full → Left ink (parts_text names quoted false (parts_of g.whole.term)) opened d f' P.Full
+            pub part-full : s ≡ None → Left ink (parts_text names quoted false (parts_of g.whole.term)) opened d f' None
             part-full u = left_is (sym next-text) (left-then g.laid to refl (left-then k m q (left-full (stopped_by child u) (parts_text names quoted true next.rest) refl)))
 
-            module _ (used end : ℕ) (u : s ≡ S.Done used end) where
-              laid-child : (used ≡ length (encode next.first)) × Left ink (text_in names quoted next.first) m f f' (P.Done end)
-              laid-child = walked_by child used end u
+            module _ (step : Step) (u : s ≡ Some step) where
+              laid-child : (step.used ≡ length (encode next.first)) × Left ink (text_in names quoted next.first) m f f' (Some step.end)
+              laid-child = walked_by child step u
 
-              pub part-inside : from + used ≤ length ws
+              pub part-inside : from + step.used ≤ length ws
               part-inside =
                   let l : length (encode_all g.todo) ≡ length (encode next.first) + length (encode_all next.rest) = next-length in
                   omega (arith, g.size, laid-child.0, ap length g.whole.words ∙ length-append (encode g.whole.term) g.whole.rest)
 
-              pub going_on : Going (from + used) (left - 1) end true f'
+              pub going_on : Going (from + step.used) (left - 1) step.end true f'
               going_on =
                   let p = text_in names quoted next.first in
                   record {
@@ -266,7 +264,7 @@ module _ (names : Said) where
                     before = g.before + variables next.first;
                     fine = (both (every (spelling names) tt g.before next.first) _ next-fine).1;
                     data' = λ z. (both (is_datum next.first) (are_data next.rest) (next-data z)).1;
-                    place = sym (drop-drop used from ws) ∙ ap (drop used) next_place ∙ drop_at (encode next.first) (encode_all next.rest ++ g.whole.rest) used (sym laid-child.0);
+                    place = sym (drop-drop step.used from ws) ∙ ap (drop step.used) next_place ∙ drop_at (encode next.first) (encode_all next.rest ++ g.whole.rest) step.used (sym laid-child.0);
                     size = omega (arith, g.size, laid-child.0, next-length);
                     begun = omega (arith, g.begun);
                     sofar = g.sofar ++ (gap_text wanted ++ p);
@@ -281,15 +279,15 @@ module _ (names : Said) where
       row_is : parts_text names quoted false (parts_of g.whole.term) ≡ Row'
       row_is = ap (λ (z : Bool). parts_text names z false (parts_of g.whole.term)) g.inner'
 
-      pub row-stops : (f : List ℕ) → Left ink (parts_text names quoted false (parts_of g.whole.term)) opened d f P.Full → Walked ink Row' (length (encode g.whole.term)) opened d f S.Full
-      row-stops f l = stopped (left_is row_is l)
+      pub row-stops : (f : List ℕ) → Left ink (parts_text names quoted false (parts_of g.whole.term)) opened d f None → {s : Option Step} → s ≡ None → Walked ink Row' (length (encode g.whole.term)) opened d f s
+      row-stops f l {s} k = rw k (stopped (left_is row_is l))
 
-      pub row_walked : left ≡ 0 → Walked ink Row' (length (encode g.whole.term)) opened d e (S.Done from to)
+      pub row_walked : left ≡ 0 → Walked ink Row' (length (encode g.whole.term)) opened d e (Some (record { used = from; end = to }))
       row_walked h = walked (going_end h).0 (left_is row_is (going_end h).1)
 
   -- ---- the whole
 
-  module _ (inner ink : Bool) (ws : List ℕ) (b : Begins names inner ws) (at : ℕ) (d₀ d : List ℕ) (r : Put) (o : Left ink (opening names inner (node b.term)) at d₀ d r) where
+  module _ (inner ink : Bool) (ws : List ℕ) (b : Begins names inner ws) (at : ℕ) (d₀ d : List ℕ) (r : Option ℕ) (o : Left ink (opening names inner (node b.term)) at d₀ d r) where
     abbrev Parts : List ℕ
     Parts = row_text names b.term
 
@@ -302,16 +300,16 @@ module _ (names : Said) where
     all-text : opening names inner (node b.term) ++ (Parts ++ closing inner (node b.term)) ≡ Text
     all-text = sym (pieces names inner b.term b.fits.datum)
 
-    pub open-stops : r ≡ P.Full → Walked ink Text size at d₀ d S.Full
-    open-stops h = stopped (left_is all-text (left-full o _ h))
+    pub open-stops : r ≡ None → {s : Option Step} → s ≡ None → Walked ink Text size at d₀ d s
+    open-stops h {s} k = rw k (stopped (left_is all-text (left-full o _ h)))
 
-    module _ (begun : ℕ) (h : r ≡ P.Done begun) where
-      after-parts : (to used : ℕ) (e f : List ℕ) (s : Step) → Left ink Parts begun d e (P.Done to) → used ≡ size → Walked ink (closing inner (node b.term)) used to e f s → Walked ink Text size at d₀ f s
-      after-parts to used e f s l n (walked {to = end} m k) = walked (m ∙ n) (left_is all-text (left-then o begun h (left-then l to refl k)))
+    module _ (begun : ℕ) (h : r ≡ Some begun) where
+      after-parts : (to used : ℕ) (e f : List ℕ) (s : Option Step) → Left ink Parts begun d e (Some to) → used ≡ size → Walked ink (closing inner (node b.term)) used to e f s → Walked ink Text size at d₀ f s
+      after-parts to used e f s l n (walked m k) = walked (m ∙ n) (left_is all-text (left-then o begun h (left-then l to refl k)))
       after-parts to used e f s l n (stopped k) = stopped (left_is all-text (left-then o begun h (left-then l to refl k)))
 
       -- a node without parts
-      pub alone-walked : (shape : Shape) → ShapedAt ws shape → shape.parts ≡ 0 → begun ≤ length d → (f : List ℕ) (s : Step)
+      pub alone-walked : (shape : Shape) → ShapedAt ws shape → shape.parts ≡ 0 → begun ≤ length d → (f : List ℕ) (s : Option Step)
           → Walked ink (closing inner (node b.term)) shape.own begun d f s → Walked ink Text size at d₀ f s
       unfolding parts_text encode
       alone-walked shape k z l f s w =
@@ -321,17 +319,17 @@ module _ (names : Said) where
           let n : shape.own ≡ size = i.own ∙ sym (ap length (encode-parts b.term ∙ ap (λ (ts : Plains). node_words x ++ encode_all ts) none ∙ append-nil (node_words x))) in
           after-parts begun shape.own d f s (left_is (sym (ap (parts_text names (is_list_node x) false) none)) (left-none ink begun d l)) n w
 
-      module _ (e : List ℕ) (s : Step) (c : (t : Plain) (z : List ℕ) → Fits names false t → ws ≡ encode t ++ z → Walked ink (row_text names t) (length (encode t)) begun d e s) where
+      module _ (e : List ℕ) (s : Option Step) (c : (t : Plain) (z : List ℕ) → Fits names false t → ws ≡ encode t ++ z → Walked ink (row_text names t) (length (encode t)) begun d e s) where
         row : Walked ink Parts size begun d e s
         unfolding begins-loose
         row = let l = begins-loose inner ws b in c b.term b.rest l.fits b.words
 
-        pub parts-stop : s ≡ S.Full → Walked ink Text size at d₀ e S.Full
-        parts-stop k = stopped (left_is all-text (left-then o begun h (left-full (stopped_by row k) _ refl)))
+        pub parts-stop : s ≡ None → {s' : Option Step} → s' ≡ None → Walked ink Text size at d₀ e s'
+        parts-stop k {s'} i = rw i (stopped (left_is all-text (left-then o begun h (left-full (stopped_by row k) _ refl))))
 
-        module _ (used to : ℕ) (k : s ≡ S.Done used to) where
-          pub parts-room : to ≤ length e
-          parts-room = left-room (walked_by row used to k).1 to refl
+        module _ (step : Step) (k : s ≡ Some step) where
+          pub parts-room : step.end ≤ length e
+          parts-room = left-room (walked_by row step k).1 step.end refl
 
-          pub all-walked : (f : List ℕ) (s' : Step) → Walked ink (closing inner (node b.term)) used to e f s' → Walked ink Text size at d₀ f s'
-          all-walked f s' w = after-parts to used e f s' (walked_by row used to k).1 (walked_by row used to k).0 w
+          pub all-walked : (f : List ℕ) (s' : Option Step) → Walked ink (closing inner (node b.term)) step.used step.end e f s' → Walked ink Text size at d₀ f s'
+          all-walked f s' w = after-parts step.end step.used e f s' (walked_by row step k).1 (walked_by row step k).0 w

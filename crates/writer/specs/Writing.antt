@@ -6,21 +6,20 @@ use Rattle.datum.specs.NameTable.{name_at, has_name}
 use Rattle.core_term.specs.Term.{Plain}
 use Rattle.core_term.specs.Check.{term_of}
 use Rattle.core_term.specs.Text.{text}
-use Rattle.writer.specs.declared.Writing.{Writing}
-use Rattle.writer.specs.declared.Writing.TheVariants.{Written, NoTerm, NoRoom}
+use Rattle.std.specs.Prelude.{Result, Ok, Err}
+use Rattle.words.specs.declared.ground.Ground.{Ground}
+use Rattle.words.specs.Code.Ground.{number_of}
 
 -- ---- the answer's numbers
 
 -- 0 where it is accepted
-unfoldable pub ground_of : Writing → ℕ
-ground_of (Written n) = 0
-ground_of NoTerm = 19
-ground_of NoRoom = 20
+unfoldable pub ground_of : Result ℕ Ground → ℕ
+ground_of (Ok n) = 0
+ground_of (Err g) = number_of g
 
-unfoldable pub length_of : Writing → ℕ
-length_of (Written n) = n
-length_of NoTerm = 0
-length_of NoRoom = 0
+unfoldable pub length_of : Result ℕ Ground → ℕ
+length_of (Ok n) = n
+length_of (Err g) = 0
 
 -- ---- the definition
 

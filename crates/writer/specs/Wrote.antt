@@ -2,11 +2,12 @@
 use Rattle.std.specs.Prelude.{◌≡◌, ℕ, ◌*◌, Bool, ◌&&◌, List, length, nat_le}
 use Rattle.std.proofs.Math.Option.{Option}
 use Rattle.core_term.specs.TextRoom.{text_rate, text_words_most}
-use Rattle.writer.specs.declared.Writing.{Writing}
+use Rattle.std.specs.Prelude.{Result}
+use Rattle.words.specs.declared.ground.Ground.{Ground}
 use Rattle.writer.specs.Writing.{ground_of, length_of, outcome, ground_number, size, after}
 
 -- what a call answers and leaves, where its words have this text or, without one, are no term
-pub record Wrote (x : Option (List ℕ)) (out out' : List ℕ) (r : Writing) : Type 0 where
+pub record Wrote (x : Option (List ℕ)) (out out' : List ℕ) (r : Result ℕ Ground) : Type 0 where
   pub number : ground_of r ≡ ground_number (outcome out x)
   pub value : length_of r ≡ size (outcome out x)
   pub left : out' ≡ after (outcome out x) out

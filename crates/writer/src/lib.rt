@@ -20,18 +20,11 @@ ghost use Rattle.writer.specs.Walk.{Begins};
 ghost use Rattle.writer.specs.Writing.{text_of};
 ghost use Rattle.writer.specs.Wrote.{has_room, Measured, Wrote};
 
-use called::note;
-use core_term::{Counted, count_variables};
+use called::{Called, note};
+use core_term::count_variables;
 use names::Pen;
-use term::{Step, term};
-
-// The text's length; or no term (ground 19); or an output shorter than the text (ground 20).
-#[derive(Clone, Copy)]
-pub enum Writing {
-    Written(usize),
-    NoTerm,
-    NoRoom,
-}
+use term::term;
+use words::ground::Ground;
 
 // A term of at most so many words has at most so many bytes of text for each. core_term/specs/TextRoom.antt has the same numbers.
 const TEXT_WORDS: usize = 1000000000;
@@ -50,8 +43,8 @@ fn has_room(words: &[u32], out: &[u8]) -> bool
 }
 
 // Whether out holds the text of words' term. Where it may be too short, a walk measures the text and lays no byte.
-fn text_fits(words: &[u32], names: &[u8], out: &mut [u8], called: &[u32], direct: bool) -> bool
-    requires { (Begins (said_by names.now direct called.now) false words.now) × (Tells direct called.now) × (called_by direct called.now ≡ called_in words.now) }
+fn text_fits(words: &[u32], names: &[u8], out: &mut [u8], called: Called) -> bool
+    requires { (Begins (said_by names.now called) false words.now) × (Tells called) × (called_by called ≡ called_in words.now) }
     ensures { (operations : ℕ) (t : Plain) → term_of operations (has_name names.now) words.now ≡ some t → Measured (text (name_at names.now) t) out.old out.new result }
 {
     if has_room(words, out) {
@@ -59,12 +52,10 @@ fn text_fits(words: &[u32], names: &[u8], out: &mut [u8], called: &[u32], direct
     }
     let measuring = Pen {
         ink: false,
-        direct: direct,
+        names,
+        called,
     };
-    let Step::Done(used, length) = term(words, names, out, 0, false, called, measuring) else {
-        return false;
-    };
-    true
+    term(words, out, 0, false, measuring).is_some()
 }
 
 // The text of words' term into out, with the names of its variables. No byte is laid before it is known that the text fits.
@@ -73,23 +64,23 @@ fn write_called(
     operations: u32,
     names: &[u8],
     out: &mut [u8],
-    called: &[u32],
-    direct: bool,
-) -> Writing
-    requires { (is_term operations (has_name names.now) words.now ≡ true) × (Tells direct called.now) × (called_by direct called.now ≡ called_in words.now) }
+    called: Called,
+) -> Result<usize, Ground>
+    requires { (is_term operations (has_name names.now) words.now ≡ true) × (Tells called) × (called_by called ≡ called_in words.now) }
     ensures { Wrote (text_of words.now operations names.now) out.old out.new result }
 {
-    if !text_fits(words, names, out, called, direct) {
-        return Writing::NoRoom;
+    if !text_fits(words, names, out, called) {
+        return Err(Ground::NoRoom);
     }
     let laying = Pen {
         ink: true,
-        direct: direct,
+        names,
+        called,
     };
-    let Step::Done(used, end) = term(words, names, out, 0, false, called, laying) else {
-        return Writing::NoRoom;
+    let Some(step) = term(words, out, 0, false, laying) else {
+        return Err(Ground::NoRoom);
     };
-    Writing::Written(end)
+    Ok(step.end)
 }
 
 // The same, with a table that holds these names, of which there are so many.
@@ -100,12 +91,18 @@ fn write_noting(
     out: &mut [u8],
     count: usize,
     table: &mut [u32],
-) -> Writing
+) -> Result<usize, Ground>
     requires { (is_term operations (has_name names.now) words.now ≡ true) × (count ≡ length (called_in words.now)) × (count ≤ length table.old) }
     ensures { Wrote (text_of words.now operations names.now) out.old out.new result }
 {
     note(words, count, table);
-    write_called(words, operations, names, out, &table[..count], true)
+    write_called(
+        words,
+        operations,
+        names,
+        out,
+        Called::Table(&table[..count]),
+    )
 }
 
 // Names of so many variables are noted in a table. Where a term has more, each is found in the words.
@@ -114,12 +111,12 @@ const VARIABLES: usize = 6144;
 // A shorter table, for terms with no more variables than this.
 const FEW: usize = 512;
 
-// The text of words' term into out.
-pub fn write(words: &[u32], operations: u32, names: &[u8], out: &mut [u8]) -> Writing
+// The text of words' term into out, and its length; or that they are no term (ground 19), or that out is shorter than the text (ground 20).
+pub fn write(words: &[u32], operations: u32, names: &[u8], out: &mut [u8]) -> Result<usize, Ground>
     ensures { Wrote (text_of words.now operations names.now) out.old out.new result }
 {
-    let Counted::Variables(count) = count_variables(words, operations, names) else {
-        return Writing::NoTerm;
+    let Some(count) = count_variables(words, operations, names) else {
+        return Err(Ground::NoTerm);
     };
     if count <= FEW {
         let mut table = [0u32; FEW];
@@ -129,5 +126,5 @@ pub fn write(words: &[u32], operations: u32, names: &[u8], out: &mut [u8]) -> Wr
         let mut table = [0u32; VARIABLES];
         return write_noting(words, operations, names, out, count, &mut table);
     }
-    write_called(words, operations, names, out, words, false)
+    write_called(words, operations, names, out, Called::Words(words))
 }

@@ -1,20 +1,13 @@
 // Numbers as text: integers, and decimals.
 ghost use Rattle.std.specs.Prelude.{◌≡◌, ◌+◌, ◌-◌, ◌*◌, ◌^◌, ◌<◌, ◌≤◌, true, ◌∷◌, ◌++◌, length, take, drop};
 ghost use Rattle.core_term.specs.Decimal.{decimal, padded, pointed, integer_text, decimal_text};
-ghost use Rattle.writer.specs.Put.{put_of};
 ghost use Rattle.writer.specs.Laid.{laid, Left};
 ghost use Rattle.writer.specs.Digits.{tens, quotient, remainder};
 ghost use Rattle.writer.specs.Pieces.{gap_text};
 
-use crate::bytes::{FULL, byte, copy};
+use crate::bytes::{byte, copy};
 use std::num::wrapping_sub_usize;
 use words::signed::{of_word, size};
-
-pub fn wide(n: u32) -> usize
-    ensures { result ≡ n }
-{
-    n as usize
-}
 
 // The powers of ten up to the tenth. specs/Digits.antt has the same numbers.
 const POWERS: [usize; 11] = [
@@ -62,10 +55,7 @@ fn less(digit: u8, left: usize, q: usize, more: u8) -> Part
             left: rest,
         };
     }
-    Part {
-        digit: digit,
-        left: left,
-    }
+    Part { digit, left }
 }
 
 // The digit of n at the power p, and what is left below it.
@@ -86,12 +76,10 @@ fn places(powers: &[usize], n: usize) -> usize
     requires { (powers.now ≡ tens) × (10 ≤ n) }
     ensures { (result < 20) × (10 ^ result ≤ n) × (n < 10 ^ (result + 1)) }
 {
-    let mut k = 1;
-    while k < 19 {
+    for k in 1..19 {
         if n < power(powers, k + 1) {
             return k;
         }
-        k = k + 1;
     }
     19
 }
@@ -102,20 +90,18 @@ fn lay(powers: &[usize], n: usize, k: usize, out: &mut [u8], at: usize)
     ensures { out.new ≡ laid true (padded k n) at out.old }
 {
     let mut left = n;
-    let mut i = k;
-    while i > 0 {
-        let part = split(left, power(powers, i));
-        out[at + (k - i)] = part.digit;
+    for i in 0..k {
+        let part = split(left, power(powers, k - i));
+        out[at + i] = part.digit;
         left = part.left;
-        i = i - 1;
     }
     out[at + k] = 48 + left as u8;
 }
 
 // The digits of n. Twenty of them begin with 1: 64 bits hold ten to the 19th once.
-pub fn digits(n: usize, out: &mut [u8], at: usize, ink: bool) -> usize
+pub fn digits(n: usize, out: &mut [u8], at: usize, ink: bool) -> Option<usize>
     requires { at ≤ length out.old }
-    ensures { Left ink (decimal n) at out.old out.new (put_of result) }
+    ensures { Left ink (decimal n) at out.old out.new result }
 {
     if n < 10 {
         return byte(48 + n as u8, out, at, ink);
@@ -123,39 +109,36 @@ pub fn digits(n: usize, out: &mut [u8], at: usize, ink: bool) -> usize
     let powers = POWERS;
     let k = places(&powers, n);
     if out.len() - at <= k {
-        return FULL;
+        return None;
     }
     if !ink {
-        return at + k + 1;
+        return Some(at + k + 1);
     }
     if k == 19 {
         out[at] = b'1';
         lay(&powers, n - power(&powers, 19), 18, out, at + 1);
-        return at + k + 1;
+        return Some(at + k + 1);
     }
     lay(&powers, n, k, out, at);
-    at + k + 1
+    Some(at + k + 1)
 }
 
 // A letter and the digits of n, as v0.
-pub fn numbered(letter: u8, n: usize, out: &mut [u8], at: usize, ink: bool) -> usize
+pub fn numbered(letter: u8, n: usize, out: &mut [u8], at: usize, ink: bool) -> Option<usize>
     requires { at ≤ length out.old }
-    ensures { Left ink (letter ∷ decimal n) at out.old out.new (put_of result) }
+    ensures { Left ink (letter ∷ decimal n) at out.old out.new result }
 {
-    let to = byte(letter, out, at, ink);
-    if to == FULL {
-        return FULL;
-    }
+    let to = byte(letter, out, at, ink)?;
     digits(n, out, to, ink)
 }
 
 // The integer with the two's complement bits w, a minus before it below 0.
-pub fn integer(w: u32, out: &mut [u8], at: usize, ink: bool) -> usize
+pub fn integer(w: u32, out: &mut [u8], at: usize, ink: bool) -> Option<usize>
     requires { at ≤ length out.old }
-    ensures { Left ink (integer_text w) at out.old out.new (put_of result) }
+    ensures { Left ink (integer_text w) at out.old out.new result }
 {
     let z = of_word(w);
-    let n = wide(size(z));
+    let n = size(z) as usize;
     if z < 0 {
         return numbered(b'-', n, out, at, ink);
     }
@@ -178,25 +161,26 @@ fn places_least(powers: &[usize], n: usize, least: usize) -> usize
 }
 
 // The first digits up to the dot, the dot, and those from there to the end.
-fn dotted(digits: &[u8], dot: usize, end: usize, out: &mut [u8], at: usize, ink: bool) -> usize
+fn dotted(
+    digits: &[u8],
+    dot: usize,
+    end: usize,
+    out: &mut [u8],
+    at: usize,
+    ink: bool,
+) -> Option<usize>
     requires { (at ≤ length out.old) × (dot ≤ end) × (end ≤ length digits.now) }
-    ensures { Left ink (take dot digits.now ++ (46 ∷ take (end - dot) (drop dot digits.now))) at out.old out.new (put_of result) }
+    ensures { Left ink (take dot digits.now ++ (46 ∷ take (end - dot) (drop dot digits.now))) at out.old out.new result }
 {
-    let a = copy(&digits[..dot], out, at, ink);
-    if a == FULL {
-        return FULL;
-    }
-    let b = byte(b'.', out, a, ink);
-    if b == FULL {
-        return FULL;
-    }
+    let a = copy(&digits[..dot], out, at, ink)?;
+    let b = byte(b'.', out, a, ink)?;
     copy(&digits[dot..end], out, b, ink)
 }
 
 // The digits of n, a dot before the last of them: as many come behind it as there are places.
-fn point(n: usize, count: usize, out: &mut [u8], at: usize, ink: bool) -> usize
+fn point(n: usize, count: usize, out: &mut [u8], at: usize, ink: bool) -> Option<usize>
     requires { (at ≤ length out.old) × (n < 4294967296) × (1 ≤ count) × (count ≤ 4) }
-    ensures { Left ink (pointed count n) at out.old out.new (put_of result) }
+    ensures { Left ink (pointed count n) at out.old out.new result }
 {
     let powers = POWERS;
     let k = places_least(&powers, n, count);
@@ -206,29 +190,26 @@ fn point(n: usize, count: usize, out: &mut [u8], at: usize, ink: bool) -> usize
 }
 
 // The decimal whose value without the dot has the bits w, a minus before it below 0, though its whole part be 0.
-pub fn decimal(w: u32, count: u32, out: &mut [u8], at: usize, ink: bool) -> usize
+pub fn decimal(w: u32, count: u32, out: &mut [u8], at: usize, ink: bool) -> Option<usize>
     requires { (at ≤ length out.old) × (1 ≤ count) × (count ≤ 4) }
-    ensures { Left ink (decimal_text w count) at out.old out.new (put_of result) }
+    ensures { Left ink (decimal_text w count) at out.old out.new result }
 {
     let z = of_word(w);
-    let n = wide(size(z));
+    let n = size(z) as usize;
     if z < 0 {
-        let to = byte(b'-', out, at, ink);
-        if to == FULL {
-            return FULL;
-        }
-        return point(n, wide(count), out, to, ink);
+        let to = byte(b'-', out, at, ink)?;
+        return point(n, count as usize, out, to, ink);
     }
-    point(n, wide(count), out, at, ink)
+    point(n, count as usize, out, at, ink)
 }
 
 // A space, where one is wanted.
-pub fn gap(wanted: bool, out: &mut [u8], at: usize, ink: bool) -> usize
+pub fn gap(wanted: bool, out: &mut [u8], at: usize, ink: bool) -> Option<usize>
     requires { at ≤ length out.old }
-    ensures { Left ink (gap_text wanted) at out.old out.new (put_of result) }
+    ensures { Left ink (gap_text wanted) at out.old out.new result }
 {
     if !wanted {
-        return at;
+        return Some(at);
     }
     byte(b' ', out, at, ink)
 }

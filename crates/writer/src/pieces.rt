@@ -5,63 +5,50 @@ ghost use Rattle.datum.specs.NameTable.{has_name};
 ghost use Rattle.datum.specs.Constant.{boolean as constant};
 ghost use Rattle.core_term.specs.Node as N;
 ghost use Rattle.core_term.specs.Text.{constant_text};
-ghost use Rattle.writer.specs.Put.{put_of};
 ghost use Rattle.writer.specs.Laid.{Left};
-ghost use Rattle.writer.specs.Called.{Said, Tells, said, said_by};
+ghost use Rattle.writer.specs.Called.{Said, Tells, said, said_of};
 ghost use Rattle.writer.specs.Pieces.{formals_text, opening, closing};
 ghost use Rattle.writer.specs.Opened.{Opened, Stands};
 ghost use Rattle.writer.specs.OpenedLaws.{Naming};
 
-use crate::bytes::{FULL, byte, copy};
+use crate::bytes::{byte, copy};
 use crate::names::{Bound, Pen, formals, name, variable};
-use crate::numbers::{decimal, integer, numbered, wide};
+use crate::numbers::{decimal, integer, numbered};
 use core_term::nodes::Node;
 
 // A name inside quote, or (quote name).
-fn name_opening(n: usize, names: &[u8], out: &mut [u8], at: usize, inner: bool, ink: bool) -> usize
+fn name_opening(
+    n: usize,
+    names: &[u8],
+    out: &mut [u8],
+    at: usize,
+    inner: bool,
+    ink: bool,
+) -> Option<usize>
     requires { (at ≤ length out.old) × (has_name names.now n ≡ true) }
-    ensures { (called : List ℕ) → Left ink (opening (said names.now called) inner (N.name_n n)) at out.old out.new (put_of result) }
+    ensures { (called : List ℕ) → Left ink (opening (said names.now called) inner (N.name_n n)) at out.old out.new result }
 {
     if inner {
         return name(n, names, out, at, ink);
     }
-    let a = copy(b"(quote ", out, at, ink);
-    if a == FULL {
-        return FULL;
-    }
-    let b = name(n, names, out, a, ink);
-    if b == FULL {
-        return FULL;
-    }
+    let a = copy(b"(quote ", out, at, ink)?;
+    let b = name(n, names, out, a, ink)?;
     byte(b')', out, b, ink)
 }
 
 // (lambda (v0.t v1.u) and a space
-fn lambda_opening(
-    bound: Bound,
-    names: &[u8],
-    out: &mut [u8],
-    at: usize,
-    called: &[u32],
-    pen: Pen,
-) -> usize
-    requires { (at ≤ length out.old) × (bound.first + bound.count < 18446744073709551616) × (Naming (said_by names.now pen.direct called.now) (bound.first + bound.count)) × (Tells pen.direct called.now) }
-    ensures { Left pen.ink (bytes "(lambda (" ++ (formals_text (said_by names.now pen.direct called.now) false bound.first bound.count ++ bytes ") ")) at out.old out.new (put_of result) }
+fn lambda_opening(bound: Bound, out: &mut [u8], at: usize, pen: Pen) -> Option<usize>
+    requires { (at ≤ length out.old) × (bound.first + bound.count < 18446744073709551616) × (Naming (said_of pen) (bound.first + bound.count)) × (Tells pen.called) }
+    ensures { Left pen.entry.ink (bytes "(lambda (" ++ (formals_text (said_of pen.entry) false bound.first bound.count ++ bytes ") ")) at out.old out.new result }
 {
-    let a = copy(b"(lambda (", out, at, pen.ink);
-    if a == FULL {
-        return FULL;
-    }
-    let b = formals(false, bound, names, out, a, called, pen);
-    if b == FULL {
-        return FULL;
-    }
+    let a = copy(b"(lambda (", out, at, pen.ink)?;
+    let b = formals(bound, out, a, pen)?;
     copy(b") ", out, b, pen.ink)
 }
 
-fn boolean(w: u32, out: &mut [u8], at: usize, ink: bool) -> usize
+fn boolean(w: u32, out: &mut [u8], at: usize, ink: bool) -> Option<usize>
     requires { at ≤ length out.old }
-    ensures { Left ink (constant_text (constant w)) at out.old out.new (put_of result) }
+    ensures { Left ink (constant_text (constant w)) at out.old out.new result }
 {
     if w == 0 {
         return copy(b"#f", out, at, ink);
@@ -70,9 +57,9 @@ fn boolean(w: u32, out: &mut [u8], at: usize, ink: bool) -> usize
 }
 
 // A list inside quote, or (quote list).
-fn list_opening(out: &mut [u8], at: usize, inner: bool, ink: bool) -> usize
+fn list_opening(out: &mut [u8], at: usize, inner: bool, ink: bool) -> Option<usize>
     requires { at ≤ length out.old }
-    ensures { (said : Said) (n : ℕ) → Left ink (opening said inner (N.list_n n)) at out.old out.new (put_of result) }
+    ensures { (said : Said) (n : ℕ) → Left ink (opening said inner (N.list_n n)) at out.old out.new result }
 {
     if inner {
         return byte(b'(', out, at, ink);
@@ -80,9 +67,9 @@ fn list_opening(out: &mut [u8], at: usize, inner: bool, ink: bool) -> usize
     copy(b"(quote (", out, at, ink)
 }
 
-fn list_closing(out: &mut [u8], at: usize, inner: bool, ink: bool) -> usize
+fn list_closing(out: &mut [u8], at: usize, inner: bool, ink: bool) -> Option<usize>
     requires { at ≤ length out.old }
-    ensures { (n : ℕ) → Left ink (closing inner (N.list_n n)) at out.old out.new (put_of result) }
+    ensures { (n : ℕ) → Left ink (closing inner (N.list_n n)) at out.old out.new result }
 {
     if inner {
         return byte(b')', out, at, ink);
@@ -91,55 +78,43 @@ fn list_closing(out: &mut [u8], at: usize, inner: bool, ink: bool) -> usize
 }
 
 // What opens the node that was opened.
-pub fn begin(
-    node: Node,
-    names: &[u8],
-    out: &mut [u8],
-    at: usize,
-    inner: bool,
-    called: &[u32],
-    pen: Pen,
-) -> usize
-    requires { (at ≤ length out.old) × Opened (said_by names.now pen.direct called.now) node × (Tells pen.direct called.now) }
-    ensures { (x : N.Node) → Stands node x → Left pen.ink (opening (said_by names.now pen.direct called.now) inner x) at out.old out.new (put_of result) }
+pub fn begin(node: Node, out: &mut [u8], at: usize, inner: bool, pen: Pen) -> Option<usize>
+    requires { (at ≤ length out.old) × Opened (said_of pen) node × (Tells pen.called) }
+    ensures { (x : N.Node) → Stands node x → Left pen.entry.ink (opening (said_of pen.entry) inner x) at out.old out.new result }
 {
     match node {
-        Node::Variable(n) => variable(wide(n), names, out, at, pen.ink, called, pen.direct),
-        Node::Operation(n) => numbered(b'o', wide(n), out, at, pen.ink),
+        Node::Variable(n) => variable(n as usize, out, at, pen),
+        Node::Operation(n) => numbered(b'o', n as usize, out, at, pen.ink),
         Node::Integer(w) => integer(w, out, at, pen.ink),
         Node::Boolean(w) => boolean(w, out, at, pen.ink),
         Node::Decimal(w, places) => decimal(w, places, out, at, pen.ink),
-        Node::Name(n) => name_opening(wide(n), names, out, at, inner, pen.ink),
+        Node::Name(n) => name_opening(n as usize, pen.names, out, at, inner, pen.ink),
         Node::List(_) => list_opening(out, at, inner, pen.ink),
         Node::If => copy(b"(if ", out, at, pen.ink),
         Node::Lambda(first, count) => {
             let bound = Bound {
-                first: wide(first),
-                count: wide(count),
+                first: first as usize,
+                count: count as usize,
             };
-            lambda_opening(bound, names, out, at, called, pen)
+            lambda_opening(bound, out, at, pen)
         }
         Node::Application(_) => byte(b'(', out, at, pen.ink),
-        Node::None => at,
     }
 }
 
 // What closes it.
-pub fn finish(node: Node, out: &mut [u8], at: usize, inner: bool, ink: bool) -> usize
+pub fn finish(node: Node, out: &mut [u8], at: usize, inner: bool, ink: bool) -> Option<usize>
     requires { at ≤ length out.old }
-    ensures { (x : N.Node) → Stands node x → Left ink (closing inner x) at out.old out.new (put_of result) }
+    ensures { (x : N.Node) → Stands node x → Left ink (closing inner x) at out.old out.new result }
 {
     match node {
-        Node::Variable(_) => at,
-        Node::Operation(_) => at,
-        Node::Integer(_) => at,
-        Node::Boolean(_) => at,
-        Node::Decimal(_, _) => at,
-        Node::Name(_) => at,
+        Node::Variable(_)
+        | Node::Operation(_)
+        | Node::Integer(_)
+        | Node::Boolean(_)
+        | Node::Decimal(_, _)
+        | Node::Name(_) => Some(at),
         Node::List(_) => list_closing(out, at, inner, ink),
-        Node::If => byte(b')', out, at, ink),
-        Node::Lambda(_, _) => byte(b')', out, at, ink),
-        Node::Application(_) => byte(b')', out, at, ink),
-        Node::None => at,
+        Node::If | Node::Lambda(_, _) | Node::Application(_) => byte(b')', out, at, ink),
     }
 }

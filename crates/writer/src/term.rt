@@ -4,97 +4,62 @@ ghost use Rattle.core_term.specs.Node as N;
 ghost use Rattle.core_term.specs.Term.{Plain};
 ghost use Rattle.core_term.specs.Code.Opened.{ShapedAt};
 ghost use Rattle.core_term.specs.Words.{encode};
-ghost use Rattle.writer.specs.Called.{Tells, said_by};
+ghost use Rattle.writer.specs.Called.{Tells, said_of};
 ghost use Rattle.writer.specs.Pieces.{closing, text_in, row_text};
 ghost use Rattle.writer.specs.Opened.{Stands};
 ghost use Rattle.writer.specs.Walk.{Fits, Begins, Walked};
 
-use crate::bytes::FULL;
 use crate::names::Pen;
 use crate::numbers::gap;
 use crate::pieces::{begin, finish};
 use core_term::nodes::{Node, Shape, opened, shape_of};
 
-// How many words a term takes, and the place behind its text; or the output is too short.
+// How many words a term takes, and the place behind its text.
 #[derive(Clone, Copy)]
-pub enum Step {
-    Done(usize, usize),
-    Full,
+pub struct Step {
+    pub used: usize,
+    pub end: usize,
 }
 
-// What closes a node, behind so many words.
-fn close(node: Node, used: usize, out: &mut [u8], at: usize, inner: bool, ink: bool) -> Step
+// What closes a node, behind so many words, if the output is long enough.
+fn close(node: Node, used: usize, out: &mut [u8], at: usize, inner: bool, ink: bool) -> Option<Step>
     requires { at ≤ length out.old }
     ensures { (x : N.Node) → Stands node x → Walked ink (closing inner x) used at out.old out.new result }
 {
-    let end = finish(node, out, at, inner, ink);
-    if end == FULL {
-        return Step::Full;
-    }
-    Step::Done(used, end)
+    let end = finish(node, out, at, inner, ink)?;
+    Some(Step { used, end })
 }
 
-// The text of the term at the beginning of words, from `at` on; inner is inside quote.
+// The text of the term at the beginning of words, from `at` on, if the output is long enough; inner is inside quote.
 #[cycle(parts_term)]
-pub fn term(
-    words: &[u32],
-    names: &[u8],
-    out: &mut [u8],
-    at: usize,
-    inner: bool,
-    called: &[u32],
-    pen: Pen,
-) -> Step
-    requires { (at ≤ length out.old) × Begins (said_by names.now pen.direct called.now) inner words.now × (Tells pen.direct called.now) }
-    ensures { (t : Plain) (left : List ℕ) → Fits (said_by names.now pen.direct called.now) inner t → words.now ≡ encode t ++ left → Walked pen.ink (text_in (said_by names.now pen.direct called.now) inner t) (length (encode t)) at out.old out.new result }
+pub fn term(words: &[u32], out: &mut [u8], at: usize, inner: bool, pen: Pen) -> Option<Step>
+    requires { (at ≤ length out.old) × Begins (said_of pen) inner words.now × (Tells pen.called) }
+    ensures { (t : Plain) (left : List ℕ) → Fits (said_of pen.entry) inner t → words.now ≡ encode t ++ left → Walked pen.entry.ink (text_in (said_of pen.entry) inner t) (length (encode t)) at out.old out.new result }
 {
-    let node = opened(words);
-    let begun = begin(node, names, out, at, inner, called, pen);
-    if begun == FULL {
-        return Step::Full;
-    }
+    let node = opened(words)?;
+    let begun = begin(node, out, at, inner, pen)?;
     let shape = shape_of(node);
     if shape.parts == 0 {
         return close(node, shape.own, out, begun, inner, pen.ink);
     }
-    let Step::Done(used, to) = parts(words, shape, names, out, begun, called, pen) else {
-        return Step::Full;
-    };
-    close(node, used, out, to, inner, pen.ink)
+    let row = parts(words, shape, out, begun, pen)?;
+    close(node, row.used, out, row.end, inner, pen.ink)
 }
 
 // The parts of a node of that shape, with spaces between.
 #[cycle(parts_term)]
-fn parts(
-    words: &[u32],
-    shape: Shape,
-    names: &[u8],
-    out: &mut [u8],
-    at: usize,
-    called: &[u32],
-    pen: Pen,
-) -> Step
-    requires { (at ≤ length out.old) × Begins (said_by names.now pen.direct called.now) false words.now × (ShapedAt words.now shape) × (Tells pen.direct called.now) }
-    ensures { (t : Plain) (left : List ℕ) → Fits (said_by names.now pen.direct called.now) false t → words.now ≡ encode t ++ left → Walked pen.ink (row_text (said_by names.now pen.direct called.now) t) (length (encode t)) at out.old out.new result }
+fn parts(words: &[u32], shape: Shape, out: &mut [u8], at: usize, pen: Pen) -> Option<Step>
+    requires { (at ≤ length out.old) × Begins (said_of pen) false words.now × (ShapedAt words.now shape) × (Tells pen.called) }
+    ensures { (t : Plain) (left : List ℕ) → Fits (said_of pen.entry) false t → words.now ≡ encode t ++ left → Walked pen.entry.ink (row_text (said_of pen.entry) t) (length (encode t)) at out.old out.new result }
 {
     let quoted = shape.quoted;
-    let mut from = shape.own;
-    let mut left = shape.parts;
-    let mut wanted = false;
+    let mut used = shape.own;
     let mut to = at;
-    while left > 0 {
-        let start = gap(wanted, out, to, pen.ink);
-        if start == FULL {
-            return Step::Full;
-        }
-        let Step::Done(used, behind) = term(&words[from..], names, out, start, quoted, called, pen)
-        else {
-            return Step::Full;
-        };
-        from = from + used;
-        to = behind;
-        wanted = true;
-        left = left - 1;
+    for i in 0..shape.parts {
+        let start = gap(i > 0, out, to, pen.ink)?;
+        let part = term(&words[used..], out, start, quoted, pen)?;
+        used += part.used;
+        to = part.end;
     }
-    Step::Done(from, to)
+    Some(Step { used, end: to })
 }

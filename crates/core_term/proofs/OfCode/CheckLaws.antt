@@ -17,11 +17,11 @@ use Rattle.core_term.specs.NodeLaws.{both}
 use Rattle.core_term.proofs.DecodeLaws.{decode-encode, encode-decode, encode-unique}
 use Rattle.core_term.specs.Every.{every, well_formed}
 use Rattle.core_term.specs.Check.{scoped, numbered, all_known, passes, passing, term_of, is_some, is_term}
-use Rattle.core_term.specs.declared.Counted.TheVariants.{Variables}
+use Rattle.std.specs.Prelude.{Some}
 use Rattle.core_term.specs.Code.Counted.{counted_of}
 use Rattle.core_term.specs.Code.Window.{window}
 use Rattle.core_term.specs.Code.WindowLaws.{case, allowed-node}
-use Rattle.core_term.specs.Code.Shape.{Whole, None, Clear}
+use Rattle.core_term.specs.Code.Shape.{Whole, NoWhole, Clear}
 use Rattle.core_term.proofs.OfCode.ShapeLaws.{every-proper, only}
 use Rattle.core_term.specs.Code.Windows.{no_flags, no_flags-clear, window-passes, Passed, Covered, windows-numbered, windows-known, windows-scoped}
 
@@ -97,7 +97,7 @@ module _ (operations : ℕ) (name_good : ℕ → Bool) where
       clean-whole m n w = subst (λ (z : List ℕ). Whole (window operations name_good base) false z 0 ws m n) e w
 
       -- it finds no term
-      pub none-no : None (window operations name_good base) false flags 0 ws → term_of operations name_good ws ≡ none
+      pub none-no : NoWhole (window operations name_good base) false flags 0 ws → term_of operations name_good ws ≡ none
       none-no n = term_of-none ws (λ t a.
           let p = window-passes span operations name_good t base a.formed a.closed a.counted a.known' in
           n t [] (λ h. absurd (false≢true h)) (rw e p) (sym a.words ∙ sym (append-nil (encode t))))
@@ -166,7 +166,7 @@ module _ (operations : ℕ) (name_good : ℕ → Bool) where
               (λ g. record { in' = record { base = base + span; ran = same-passed span ws used after k.whole (base + span) m n u }; low = g; high = h });
         }
 
-    pub walked_none : None (window operations name_good (base + span)) false flags 0 ws → term_of operations name_good ws ≡ none
+    pub walked_none : NoWhole (window operations name_good (base + span)) false flags 0 ws → term_of operations name_good ws ≡ none
     walked_none = none-no span ws (base + span) flags k.clean
 
     pub walked-length : length flags ≡ span
@@ -175,8 +175,8 @@ module _ (operations : ℕ) (name_good : ℕ → Bool) where
     pub walked-clear : (low b : ℕ) → Clear low b flags
     walked-clear = no_flags-clear span flags k.clean
 
-    pub walked_all : after - base ≤ span → used ≡ length ws → operations ≤ 256 → counted_of (term_of operations name_good ws) ≡ Variables after
+    pub walked_all : after - base ≤ span → used ≡ length ws → operations ≤ 256 → counted_of (term_of operations name_good ws) ≡ Some after
     unfolding counted_of
     walked_all l e f =
         let b : variables k.whole.term ≡ after = omega (arith, k.whole.bound) in
-        ap counted_of (whole-yes span ws used after k.whole e f (λ n h. k.cover n (omega (arith, k.whole.bound)))) ∙ ap (λ (n : ℕ). Variables n) b
+        ap counted_of (whole-yes span ws used after k.whole e f (λ n h. k.cover n (omega (arith, k.whole.bound)))) ∙ ap (λ (n : ℕ). Some n) b

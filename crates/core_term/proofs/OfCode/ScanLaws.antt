@@ -1,5 +1,5 @@
 -- Going through the words of a term node by node, with the names that its lambdas hold one after another.
-use Rattle.std.specs.Prelude.{◌≡◌, true, ◌&&◌, ℕ, suc, ◌+◌, ◌-◌, ◌≤◌, ◌<◌, take, drop}
+use Rattle.std.specs.Prelude.{◌≡◌, true, ℕ, suc, ◌+◌, ◌-◌, ◌≤◌, ◌<◌, take, drop}
 use Rattle.std.proofs.Math.Path.{refl, ap}
 use Rattle.std.proofs.Common.{sym, subst, ◌∙◌, arith, add-zero, length-append, drop_at, drop-drop, take_at, length-take-le}
 use mathlib.Core.List.{List, [], ◌++◌, append_assoc, append-nil}

@@ -1,13 +1,14 @@
 -- Laws of the checker's walk: a node, then its parts in a row.
 use Rattle.std.proofs.Math.Path.{◌≡◌, refl, sym, ap, subst}
-use Rattle.std.proofs.Common.{◌∙◌, add-zero, length-drop, drop_at, drop-drop}
+use Rattle.std.proofs.Common.{◌∙◌, length-drop, drop_at, drop-drop}
 use Rattle.std.specs.Prelude.{Bool, ◌&&◌, ◌||◌, ℕ, ◌+◌, ◌-◌, ◌≤◌, ◌<◌, length, drop}
-use Rattle.std.proofs.Math.Bool.{true, false, cond, not}
+use Rattle.std.proofs.Math.Bool.{true, false, not}
 use mathlib.Core.List.{List, ◌++◌, append_assoc}
 use native.Mathlib.Omega.{arith}
 use Rattle.std.proofs.Math.ListN.{length-append}
 use Rattle.std.proofs.Math.Seq.{drop-append_seam}
-use Rattle.core_term.specs.declared.head.Head.TheVariants as H
+use Rattle.std.specs.Prelude.{Some, None}
+use Rattle.std.specs.Bool.{then_some}
 use Rattle.core_term.specs.Node.{Node, Got, got, missing, node_words, node_at, parts, binds, is_node, is_datum_node, is_list_node}
 use Rattle.core_term.specs.NodeLaws.{both, node-round, node-read}
 use Rattle.core_term.specs.Term.{none_c, more_c, Plain, Plains, count, variables, variables_all}
@@ -19,8 +20,8 @@ use Rattle.core_term.specs.Parts.{node, parts_of, is_datum, are_data}
 use Rattle.core_term.specs.PartsLaws.{encode-parts, every-parts, variables-parts, count-parts, list-data, Built, built}
 use Rattle.core_term.specs.declared.nodes.Shape.{Shape}
 use Rattle.core_term.specs.Code.Opened.{Shaped}
-use Rattle.core_term.specs.Code.Window.{stands, head_of}
-use Rattle.core_term.specs.Code.Shape.{Whole, None, Row, NoRow}
+use Rattle.core_term.specs.Code.Window.{head_of}
+use Rattle.core_term.specs.Code.Shape.{Whole, NoWhole, Row, NoRow}
 
 -- what a wanted datum asks of a node
 wanted-yes : (q d : Bool) → (q ≡ true → d ≡ true) → (d || not q) ≡ true
@@ -56,17 +57,17 @@ module _ (A : Asked (List ℕ)) (sane : (e : List ℕ) (b : ℕ) (x : Node) → 
       pub fine : A.test e b it ≡ true
       pub then : next ≡ b + binds it
 
-    pub found : (next : ℕ) → H.Node next ≡ head_of A q e b (node_at ws) → Found next
-    unfolding head_of stands
+    pub found : (next : ℕ) → Some next ≡ head_of A q e b (node_at ws) → Found next
+    unfolding head_of
     found next h = go (node_at ws) refl h
       where
-        one : (x : Node) (r : List ℕ) → node_at ws ≡ got x r → (c : Bool) → ((is_datum_node x || not q) && A.test e b x) ≡ c → H.Node next ≡ cond c (H.Node (b + binds x)) H.No → Found next
+        one : (x : Node) (r : List ℕ) → node_at ws ≡ got x r → (c : Bool) → ((is_datum_node x || not q) && A.test e b x) ≡ c → Some next ≡ then_some c (b + binds x) → Found next
         one x r i true c k =
             let z = both (is_datum_node x || not q) (A.test e b x) c in
             record { it = x; left = r; is = i; fits = z.0; fine = z.1; then = cc }
         one x r i false c k = let z : ◌≡◌ {A = ℕ} 0 1 = cc in absurd (omega arith)
 
-        go : (g : Got Node) → node_at ws ≡ g → H.Node next ≡ head_of A q e b g → Found next
+        go : (g : Got Node) → node_at ws ≡ g → Some next ≡ head_of A q e b g → Found next
         go missing i k = let z : ◌≡◌ {A = ℕ} 0 1 = cc in absurd (omega arith)
         go (got x r) i k = one x r i ((is_datum_node x || not q) && A.test e b x) refl k
 
@@ -77,14 +78,14 @@ module _ (A : Asked (List ℕ)) (sane : (e : List ℕ) (b : ℕ) (x : Node) → 
         ap node_at (w ∙ ap (λ (z : List ℕ). z ++ r) (encode-parts t) ∙ append_assoc (node_words (node t)) (encode_all (parts_of t)) r)
         ∙ node-round (node t) (encode_all (parts_of t) ++ r) k
 
-    pub not_found : H.No ≡ head_of A q e b (node_at ws) → None A q e b ws
-    unfolding head_of stands is_datum
+    pub not_found : None ≡ head_of A q e b (node_at ws) → NoWhole A q e b ws
+    unfolding head_of is_datum
     not_found h t r d f w =
         let x = node t in
         let p : A.test e b x ≡ true = (both (A.test e b x) _ (sym (every-parts A e b t) ∙ f)).0 in
         let o : (is_datum_node x || not q) ≡ true = wanted-yes q (is_datum_node x) d in
-        let g : head_of A q e b (got x (encode_all (parts_of t) ++ r)) ≡ H.Node (b + binds x) = rw (o, p) in
-        let k : H.No ≡ H.Node (b + binds x) = h ∙ ap (head_of A q e b) (begins t r f w) ∙ g in
+        let g : head_of A q e b (got x (encode_all (parts_of t) ++ r)) ≡ Some (b + binds x) = rw (o, p) in
+        let k : None ≡ Some (b + binds x) = h ∙ ap (head_of A q e b) (begins t r f w) ∙ g in
         let z : ◌≡◌ {A = ℕ} 0 1 = cc in
         omega arith
 
@@ -140,7 +141,7 @@ module _ (A : Asked (List ℕ)) (sane : (e : List ℕ) (b : ℕ) (x : Node) → 
           let w = start-whole ts (drop used ws) (built x ts (k.many ∙ h.rest) (λ z. k.data' (h.inner ∙ z))) f (sym start-drop ∙ k.words) in
           subst (λ (i : ℕ). Whole A q e b ws used i) n (subst (λ (i : ℕ). Whole A q e b ws i (b + binds x + variables_all ts)) m w)
 
-      pub row-none : NoRow A s.quoted (A.enter e b x) next ws s.own s.parts → None A q e b ws
+      pub row-none : NoRow A s.quoted (A.enter e b x) next ws s.own s.parts → NoWhole A q e b ws
       row-none never t r d f w = refuted (begins t r f w) (sym (every-parts A e b t) ∙ f)
         where
           refuted : node_at ws ≡ got (node t) (encode_all (parts_of t) ++ r) → (A.test e b (node t) && every_term A (A.enter e b (node t)) (b + binds (node t)) (parts_of t)) ≡ true → ⊥
@@ -160,7 +161,7 @@ module _ (A : Asked (List ℕ)) (sane : (e : List ℕ) (b : ℕ) (x : Node) → 
 
     module _ (c at left : ℕ) (h : 0 < left) where
       -- the next is none
-      pub row-stops : None A d flags c (drop at ws) → NoRow A d flags c ws at left
+      pub row-stops : NoWhole A d flags c (drop at ws) → NoRow A d flags c ws at left
       unfolding count are_data encode_all every_term
       row-stops n none_c r k a f w = omega arith
       row-stops n (more_c t ts) r k a f w =

@@ -1,34 +1,42 @@
 -- The checker's walk in its own terms: flags, a place in the words, the variables bound so far and the terms left.
-use Rattle.std.specs.Prelude.{◌≡◌, Bool, List, ℕ, ◌+◌, ◌-◌, ◌≤◌, ◌<◌, length, drop}
+use Rattle.std.specs.Prelude.{◌≡◌, Bool, List, ℕ, ◌+◌, ◌-◌, ◌≤◌, ◌<◌, length, drop, Some, None}
 use Rattle.std.proofs.Common.{sym, subst, ◌∙◌, arith}
-use Rattle.std.proofs.Math.Path.{ap}
+use Rattle.std.proofs.Math.Path.{ap, refl}
 use Rattle.words.specs.ListLaws.{rest-is}
-use Rattle.core_term.specs.declared.head.Head.TheVariants as H
+use Rattle.std.specs.declared.option.Option.{Option}
 use Rattle.core_term.specs.declared.nodes.Node.{Node}
 use Rattle.core_term.specs.declared.nodes.Shape.{Shape}
 use Rattle.core_term.specs.declared.term.Checked.{Checked}
-use Rattle.core_term.specs.declared.term.Checked.TheVariants as C
+use Rattle.core_term.specs.Node.{node_at, missing}
 use Rattle.core_term.specs.NodeLaws.{node-some}
 use Rattle.core_term.specs.Code.Opened.{node_in, shape_in, Shaped, OpenedAs}
 use Rattle.core_term.specs.Code.OpenedLaws.{shaped-opened}
 use Rattle.core_term.specs.Every.{Asked}
 use Rattle.core_term.specs.Code.Window.{marked, window, head_of}
 use Rattle.core_term.specs.Code.WindowLaws.{marked-undo, marked-clear, allowed-node}
-use Rattle.core_term.specs.Code.Shape.{Whole, None, Row, NoRow, InRow, Kept, Clear}
+use Rattle.core_term.specs.Code.Shape.{Whole, NoWhole, Row, NoRow, InRow, Kept, Clear}
 use Rattle.core_term.specs.Code.Shape as S
 use Rattle.core_term.proofs.OfCode.ShapeLaws.{Found, found, not_found, row-whole, row-none, row-end, row-stops, next-inside, row_more, row-less}
 use Rattle.core_term.specs.Code.Walk.{rest}
 
 -- what is said of a known answer
-module _ (A : Asked (List ℕ)) (q : Bool) (e : List ℕ) (b : ℕ) (ws : List ℕ) (r : Checked) (s : S.Shaped A q e b ws r) where
-  pub shaped-term : (used after : ℕ) → r ≡ C.Term used after → Whole A q e b ws used after
-  shaped-term used after h = subst (λ (z : Checked). S.Shaped A q e b ws z) h s
+module _ (A : Asked (List ℕ)) (q : Bool) (e : List ℕ) (b : ℕ) (ws : List ℕ) (r : Option Checked) (s : S.Shaped A q e b ws r) where
+  pub shaped-term : (c : Checked) → r ≡ Some c → Whole A q e b ws c.used c.bound
+  shaped-term c h = subst (λ (z : Option Checked). S.Shaped A q e b ws z) h s
 
-  pub shaped-none : r ≡ C.No → None A q e b ws
-  shaped-none h = subst (λ (z : Checked). S.Shaped A q e b ws z) h s
+  pub shaped-none : r ≡ None → NoWhole A q e b ws
+  shaped-none h = subst (λ (z : Option Checked). S.Shaped A q e b ws z) h s
 
-pub kept-term : (r : Checked) (flags flags' : List ℕ) (used after : ℕ) → Kept r flags flags' → r ≡ C.Term used after → flags' ≡ flags
-kept-term r flags flags' used after k h = subst (λ (z : Checked). Kept z flags flags') h k
+-- no answer, where there is none
+module _ (r : Option Checked) (h : r ≡ None) (A : Asked (List ℕ)) (flags flags' : List ℕ) where
+  pub none-shaped : (q : Bool) (e : List ℕ) (b : ℕ) (ws : List ℕ) → NoWhole A q e b ws → S.Shaped A q e b ws r × Kept r flags flags'
+  none-shaped q e b ws n = rw h (n, tt)
+
+  pub none-row : (q : Bool) (e : List ℕ) (b : ℕ) (ws : List ℕ) (at n : ℕ) → NoRow A q e b ws at n → InRow A q e b ws at n r × Kept r flags flags'
+  none-row q e b ws at n k = rw h (k, tt)
+
+pub kept-term : (r : Option Checked) (flags flags' : List ℕ) (c : Checked) → Kept r flags flags' → r ≡ Some c → flags' ≡ flags
+kept-term r flags flags' c k h = subst (λ (z : Option Checked). Kept z flags flags') h k
 
 module _ (operations : ℕ) (name_good : ℕ → Bool) (base : ℕ) where
   abbrev pub Asks : Asked (List ℕ)
@@ -36,12 +44,17 @@ module _ (operations : ℕ) (name_good : ℕ → Bool) (base : ℕ) where
 
   -- ---- a node, by what was opened
 
+  -- there is none
+  pub walk-missing : (q : Bool) (e : List ℕ) (b : ℕ) (ws : List ℕ) → node_at ws ≡ missing → NoWhole Asks q e b ws
+  unfolding head_of
+  walk-missing q e b ws h = not_found Asks (allowed-node operations name_good base) q e b ws (rw h refl)
+
   module _ (q : Bool) (e : List ℕ) (b : ℕ) (ws : List ℕ) (n : Node) (o : OpenedAs ws n) where
     -- it may not stand there
-    pub walk_none : H.No ≡ head_of Asks q e b (node_in ws n) → None Asks q e b ws
+    pub walk_none : None ≡ head_of Asks q e b (node_in ws n) → NoWhole Asks q e b ws
     walk_none h = not_found Asks (allowed-node operations name_good base) q e b ws (h ∙ ap (head_of Asks q e b) o.is)
 
-    module _ (within : ℕ) (h : H.Node within ≡ head_of Asks q e b (node_in ws n)) (s : Shape) (i : s ≡ shape_in n) where
+    module _ (within : ℕ) (h : Some within ≡ head_of Asks q e b (node_in ws n)) (s : Shape) (i : s ≡ shape_in n) where
       it : Found Asks (allowed-node operations name_good base) q e b ws within
       it = found Asks (allowed-node operations name_good base) q e b ws within (h ∙ ap (head_of Asks q e b) o.is)
 
@@ -59,11 +72,11 @@ module _ (operations : ℕ) (name_good : ℕ → Bool) (base : ℕ) where
       unfolding window
       entered = ap (λ (j : ℕ). marked base b j 1 e) shape.names
 
-      pub walk-parts : (r : Checked) → InRow Asks s.quoted (marked base b s.names 1 e) within ws s.own s.parts r → S.Shaped Asks q e b ws r
-      walk-parts (C.Term used after) k =
-          row-whole Asks (allowed-node operations name_good base) q e b ws within it s shape used after
-          (subst (λ (f : List ℕ). Row Asks s.quoted f within ws s.own s.parts used after) entered k)
-      walk-parts C.No k =
+      pub walk-parts : (r : Option Checked) → InRow Asks s.quoted (marked base b s.names 1 e) within ws s.own s.parts r → S.Shaped Asks q e b ws r
+      walk-parts (Some c) k =
+          row-whole Asks (allowed-node operations name_good base) q e b ws within it s shape c.used c.bound
+          (subst (λ (f : List ℕ). Row Asks s.quoted f within ws s.own s.parts c.used c.bound) entered k)
+      walk-parts None k =
           row-none Asks (allowed-node operations name_good base) q e b ws within it s shape
           (subst (λ (f : List ℕ). NoRow Asks s.quoted f within ws s.own s.parts) entered k)
 
@@ -71,7 +84,7 @@ module _ (operations : ℕ) (name_good : ℕ → Bool) (base : ℕ) where
       pub walk-leaf : s.parts ≡ 0 → Whole Asks q e b ws s.own within
       walk-leaf z =
           let f = marked base b s.names 1 e in
-          walk-parts (C.Term s.own within)
+          walk-parts (Some (record { used = s.own; bound = within }))
           (subst (λ (j : ℕ). Row Asks s.quoted f within ws s.own j s.own within) (sym z)
           (row-end Asks (allowed-node operations name_good base) s.quoted f ws within s.own))
 
@@ -94,10 +107,10 @@ module _ (operations : ℕ) (name_good : ℕ → Bool) (base : ℕ) where
       pub walk_end : left ≡ 0 → Row Asks d set first ws own n at c
       walk_end h = w.whole at c (subst (λ (i : ℕ). Row Asks d set c ws at i at c) (sym h) (row-end Asks (allowed-node operations name_good base) d set ws c at))
 
-      pub walk-stop : 0 < left → None Asks d flags c (rest at ws) → NoRow Asks d set first ws own n
+      pub walk-stop : 0 < left → NoWhole Asks d flags c (rest at ws) → NoRow Asks d set first ws own n
       walk-stop h k =
           w.none (row-stops Asks (allowed-node operations name_good base) d set ws c at left h
-          (subst (λ (z : List ℕ). None Asks d set c z) (rest-is at ws) (subst (λ (f : List ℕ). None Asks d f c (rest at ws)) w.same k)))
+          (subst (λ (z : List ℕ). NoWhole Asks d set c z) (rest-is at ws) (subst (λ (f : List ℕ). NoWhole Asks d f c (rest at ws)) w.same k)))
 
       module _ (used after : ℕ) (t : Whole Asks d flags c (rest at ws) used after) (h : 0 < left) where
         part : Whole Asks d set c (drop at ws) used after
@@ -123,7 +136,7 @@ module _ (base b within n : ℕ) (e set : List ℕ) (h : within ≡ b + n) (k : 
   set_is : set ≡ marked base b n 1 e
   set_is = let i : within - b ≡ n = omega arith in m ∙ ap (λ (j : ℕ). marked base b j 1 e) i
 
-  pub set-row : (A : Asked (List ℕ)) (d : Bool) (c : ℕ) (ws : List ℕ) (at left : ℕ) (r : Checked) → InRow A d set c ws at left r → InRow A d (marked base b n 1 e) c ws at left r
+  pub set-row : (A : Asked (List ℕ)) (d : Bool) (c : ℕ) (ws : List ℕ) (at left : ℕ) (r : Option Checked) → InRow A d set c ws at left r → InRow A d (marked base b n 1 e) c ws at left r
   set-row A d c ws at left r k = subst (λ (f : List ℕ). InRow A d f c ws at left r) set_is k
 
   pub set-clear : Clear base within set

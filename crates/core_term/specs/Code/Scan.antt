@@ -1,7 +1,6 @@
 -- Going through the words of a term node by node, with the names that its lambdas hold one after another.
-use Rattle.std.specs.Prelude.{◌≡◌, true, ◌&&◌, ℕ, ◌+◌, ◌-◌, ◌≤◌, ◌<◌, drop}
-use Rattle.std.proofs.Common.{◌∙◌}
-use mathlib.Core.List.{List, [], ◌++◌}
+use Rattle.std.specs.Prelude.{◌≡◌, true, ℕ, ◌≤◌, drop}
+use mathlib.Core.List.{List, []}
 use Rattle.std.proofs.Math.Option.{Option, none, some}
 use Rattle.std.proofs.Math.ListN.{length}
 use Rattle.core_term.specs.Node.{Node, got, node_at, variable_n, operation_n, constant_n, name_n, list_n, if_n, lambda_n, application_n}

@@ -1,7 +1,7 @@
 -- What the checker says of words: a term, or terms in a row, that take so many words and bind so many variables, or none.
-use Rattle.std.specs.Prelude.{◌≡◌, Bool, true, List, ◌++◌, ℕ, ◌+◌, ◌-◌, ◌≤◌, length, get_or, drop}
+use Rattle.std.specs.Prelude.{◌≡◌, Bool, true, List, ◌++◌, ℕ, ◌+◌, ◌-◌, ◌≤◌, length, get_or, drop, Some, None}
+use Rattle.std.specs.declared.option.Option.{Option}
 use Rattle.core_term.specs.declared.term.Checked.{Checked}
-use Rattle.core_term.specs.declared.term.Checked.TheVariants.{Term, No}
 use Rattle.core_term.specs.Term.{Plain, Plains, count, variables, variables_all}
 use Rattle.core_term.specs.Words.{encode, encode_all}
 use Rattle.core_term.specs.Every.{Asked, every, every_term}
@@ -18,12 +18,12 @@ module _ (A : Asked (List ℕ)) (quoted : Bool) (flags : List ℕ) (b : ℕ) (ws
     pub bound : after ≡ b + variables term
 
   -- they begin with none
-  abbrev pub None : Type 0
-  None = (t : Plain) (r : List ℕ) → (quoted ≡ true → is_datum t ≡ true) → every A flags b t ≡ true → ws ≡ encode t ++ r → ⊥
+  abbrev pub NoWhole : Type 0
+  NoWhole = (t : Plain) (r : List ℕ) → (quoted ≡ true → is_datum t ≡ true) → every A flags b t ≡ true → ws ≡ encode t ++ r → ⊥
 
-  abbrev pub Shaped : Checked → Type 0
-  Shaped (Term used after) = Whole used after
-  Shaped No = None
+  abbrev pub Shaped : Option Checked → Type 0
+  Shaped (Some c) = Whole c.used c.bound
+  Shaped None = NoWhole
 
 module _ (A : Asked (List ℕ)) (quoted : Bool) (flags : List ℕ) (b : ℕ) (ws : List ℕ) (at n : ℕ) where
   -- n terms stand in a row from `at` on
@@ -40,14 +40,14 @@ module _ (A : Asked (List ℕ)) (quoted : Bool) (flags : List ℕ) (b : ℕ) (ws
   abbrev pub NoRow : Type 0
   NoRow = (ts : Plains) (r : List ℕ) → count ts ≡ n → (quoted ≡ true → are_data ts ≡ true) → every_term A flags b ts ≡ true → drop at ws ≡ encode_all ts ++ r → ⊥
 
-  abbrev pub InRow : Checked → Type 0
-  InRow (Term used after) = Row used after
-  InRow No = NoRow
+  abbrev pub InRow : Option Checked → Type 0
+  InRow (Some c) = Row c.used c.bound
+  InRow None = NoRow
 
 -- a term leaves the flags as they were
-abbrev pub Kept : Checked → List ℕ → List ℕ → Type 0
-Kept (Term used after) flags flags' = flags' ≡ flags
-Kept No flags flags' = Unit {0}
+abbrev pub Kept : Option Checked → List ℕ → List ℕ → Type 0
+Kept (Some c) flags flags' = flags' ≡ flags
+Kept None flags flags' = Unit {0}
 
 -- no flag is set of a variable that is not yet bound
 abbrev pub Clear : ℕ → ℕ → List ℕ → Type 0

@@ -1,12 +1,12 @@
 -- The checker's way with scope: the variables of a window, from base on, have a flag each, set inside their lambda.
 -- What it asks of a node is ground 19's, with the flags for the scope.
-use Rattle.std.specs.Prelude.{Bool, true, false, cond, not, ◌&&◌, ◌||◌, List, ℕ, zero, suc, ◌+◌, ◌-◌, eqb, ltb, leb, length, get_or, set}
+use Rattle.std.specs.Prelude.{Bool, true, false, cond, not, ◌&&◌, ◌||◌, List, ℕ, zero, suc, ◌+◌, ◌-◌, eqb, ltb, leb, length, get_or, set, None}
+use Rattle.std.specs.declared.option.Option.{Option}
+use Rattle.std.specs.Bool.{then_some}
 use Rattle.words.specs.Limits.{formals_most}
 use Rattle.words.specs.Lists.{all_of}
 use Rattle.datum.specs.Constant.{is_constant}
 use Rattle.datum.specs.NameTable.{has_name}
-use Rattle.core_term.specs.declared.head.Head.{Head}
-use Rattle.core_term.specs.declared.head.Head.TheVariants as H
 use Rattle.core_term.specs.Node.{Node, binds, is_datum_node, Got, got, missing, variable_n, operation_n, constant_n, name_n, list_n, if_n, lambda_n, application_n}
 use Rattle.core_term.specs.Every.{Asked}
 use Rattle.core_term.specs.Check.{small}
@@ -47,11 +47,7 @@ allowed operations name_good base flags b (application_n n) = true
 unfoldable pub window : ℕ → (ℕ → Bool) → ℕ → Asked (List ℕ)
 window operations name_good base = record { test = allowed operations name_good base; enter = λ flags b x. marked base b (binds x) 1 flags }
 
--- whether a node may stand, by a test, and how many variables are bound behind it
-unfoldable pub stands : Bool → ℕ → Head
-stands may within = cond may (H.Node within) H.No
-
--- the same of a node that was read; quoted wants a datum
-unfoldable pub head_of : Asked (List ℕ) → Bool → List ℕ → ℕ → Got Node → Head
-head_of A quoted flags b missing = H.No
-head_of A quoted flags b (got x left) = stands ((is_datum_node x || not quoted) && A.test flags b x) (b + binds x)
+-- how many variables are bound behind a node that was read, if it may stand; quoted wants a datum
+unfoldable pub head_of : Asked (List ℕ) → Bool → List ℕ → ℕ → Got Node → Option ℕ
+head_of A quoted flags b missing = None
+head_of A quoted flags b (got x left) = then_some ((is_datum_node x || not quoted) && A.test flags b x) (b + binds x)

@@ -1,5 +1,6 @@
 -- Laws of the window's flags.
 use Rattle.std.specs.Prelude.{◌≡◌, Bool, cond, ◌&&◌, List, [], ◌∷◌, eqb, ltb, leb, get_or, set, drop}
+use Rattle.std.specs.List.{list_all}
 use Rattle.std.proofs.Math.Path.{refl, sym, ap}
 use Rattle.std.proofs.Common.{◌∙◌, drop-cons, get_or-set_same, get_or-set_other, ext_get_or}
 use Rattle.std.proofs.Math.Bool.{true, false}
@@ -164,6 +165,12 @@ module _ (tabled : Bool) (table : List ℕ) (n : ℕ) where
 
     pub good-empty : l < 1 → good_name tabled table n ≡ leb 1 l
     good-empty k = good_length h e room ∙ rw (sym is, lt-leb 1 l k)
+
+-- the library's test of all
+pub list_all-all_of : (f : ℕ → Bool) (names : List ℕ) → list_all f names ≡ all_of f names
+unfolding all_of
+list_all-all_of f [] = refl
+list_all-all_of f (n ∷ names) = ap (λ (b : Bool). f n && b) (list_all-all_of f names)
 
 -- one of a lambda's names after another
 module _ (f : ℕ → Bool) (names : List ℕ) (i : ℕ) (so_far : all_of f (drop i names) ≡ all_of f names) where

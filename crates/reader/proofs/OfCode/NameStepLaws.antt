@@ -1,18 +1,16 @@
 -- What the code holds after a name: found among the names so far, new, or one too many.
-use Rattle.std.specs.Prelude.{◌≡◌, refl, ◌&&◌, List, [], ◌∷◌, ◌++◌, ℕ, suc, ◌+◌, ◌*◌, ◌-◌, ◌≤◌, ◌<◌, eqb, leb, replicate}
+use Rattle.std.specs.Prelude.{◌≡◌, refl, List, [], ◌∷◌, ◌++◌, ℕ, ◌+◌, ◌*◌, ◌-◌, ◌≤◌, ◌<◌, replicate, Result, Err}
 use Rattle.std.proofs.Common.{sym, subst, ◌∙◌}
 use Rattle.std.proofs.Math.Path.{ap, ap₂}
 use native.Mathlib.Omega.{arith}
 use Rattle.std.proofs.Math.ListN.{length, length-append}
-use borrow.Author.Tests.{lt-ltb, le-ltb, lt-leb}
-use Rattle.words.specs.Limits.{elements_most, names_most}
-use Rattle.words.specs.ListLaws.{either}
+use borrow.Author.Tests.{lt-ltb, le-ltb}
+use Rattle.words.specs.declared.ground.Ground.{Ground}
+use Rattle.words.specs.Limits.{names_most}
 use Rattle.datum.specs.Datum.{name_d, datum_items}
 use Rattle.datum.specs.NameTable.{slots}
 use Rattle.datum.specs.NameTableLaws.{length-at}
 use Rattle.reader.specs.declared.place.Place.{Place}
-use Rattle.reader.specs.declared.place.Step.{Step}
-use Rattle.reader.specs.declared.place.Step.TheVariants.{Refused}
 use Rattle.reading.specs.Meaning.{name}
 use Rattle.reading.specs.Numbering.{number_of, with_name, datum_words}
 use Rattle.reading.specs.Elements.{got, Reading, counted, named, takes}
@@ -23,7 +21,7 @@ use Rattle.reader.specs.Code.Index.{bucket_of, Indexed, linked}
 use Rattle.reader.proofs.OfCode.IndexLaws.{indexed-more}
 use Rattle.reader.specs.Code.Stored.{names_in, stored}
 use Rattle.reader.proofs.OfCode.StoredLaws.{names_in_lem, length-names-in, short-more, stored-filled, stored-length}
-use Rattle.reader.specs.Code.Placed.{Holds, Stepped, ground_at, IndexedAfter, IsToken, with_token, TokenPut, NamesSound}
+use Rattle.reader.specs.Code.Placed.{Holds, Stepped, begun_at, IndexedAfter, IsToken, with_token, TokenPut, NamesSound}
 use Rattle.words.specs.TableLaws.{filled-same}
 use Rattle.reader.specs.Code.StepLaws.{token-refused}
 
@@ -35,13 +33,6 @@ name-token n = record { one = refl; words = λ i. refl }
 -- what is found of a word in the table is at most the count of names
 pub found-most : (word table : List ℕ) (known number : ℕ) → number ≡ number_of word (names_in table 0 known) → number ≤ known
 found-most word table known number e = omega (arith, e, number-most word (names_in table 0 known), length-names-in table 0 known)
-
--- a table with one name too many
-pub names-full : (p : Place) (known depth : ℕ) → names_most < known → ground_at p known depth ≡ 0 → ⊥
-unfolding ground_at
-names-full p known depth h z =
-    either (eqb p.depth 0 && eqb p.missing 0) (λ u. omega (arith, rw u at z))
-    (λ u. either (leb (suc p.count) elements_most) (λ v. omega (arith, rw (u, v, lt-leb known names_most h) at z)) (λ v. omega (arith, rw (u, v) at z)))
 
 module _ (r : Reading) (p : Place) (words bytes : List ℕ) (h : Holds r p words bytes) where
   -- the table spells the names
@@ -72,7 +63,7 @@ module _ (r : Reading) (p : Place) (words bytes : List ℕ) (h : Holds r p words
     names-after q t = ap (λ (x : Reading). x.known) (begin-got r (named word (counted r)) q t).same
 
     -- a name known before
-    pub name-known : (words' : List ℕ) (s : Step) → number < p.known → TokenPut p 3 number 0 p.known words words' s
+    pub name-known : (words' : List ℕ) (s : Result Place Ground) → number < p.known → TokenPut p 3 number 0 p.known words words' s
         → Stepped (takes (name word) r) words' bytes s × IndexedAfter (name word) r index
     unfolding takes named counted with_token with_name
     name-known words' s l t =
@@ -88,7 +79,7 @@ module _ (r : Reading) (p : Place) (words bytes : List ℕ) (h : Holds r p words
       number-next = omega (arith, number_is, h.known, number-most word r.known)
 
       -- a new one, entered
-      pub name_new : (words' : List ℕ) (s : Step) → number < names_most → TokenPut p 3 number 0 (number + 1) words words' s
+      pub name_new : (words' : List ℕ) (s : Result Place Ground) → number < names_most → TokenPut p 3 number 0 (number + 1) words words' s
           → Stepped (takes (name word) r) words' (stored bytes number word) s × IndexedAfter (name word) r (linked index number (bucket_of word))
       unfolding takes named counted with_token with_name
       name_new words' s few t =
@@ -103,14 +94,13 @@ module _ (r : Reading) (p : Place) (words bytes : List ℕ) (h : Holds r p words
           let x = indexed-more r.known word index indexed number number-next few new in
           (rw (le-ltb _ _ new, ← number_is) u, λ q t'. rw (names-after q t', le-ltb _ _ new) x)
 
-      -- one that no number is left for
-      pub name-full : (words' bytes' : List ℕ) (g : ℕ) → number ≡ names_most → g ≡ ground_at p (number + 1) p.depth
-          → Stepped (takes (name word) r) words' bytes' (Refused g) × IndexedAfter (name word) r index
+      -- one that is refused, as where no number is left for it
+      pub name-refused : (words' bytes' : List ℕ) (g : Ground) → begun_at p (number + 1) p.depth ≡ Err g
+          → Stepped (takes (name word) r) words' bytes' (Err g) × IndexedAfter (name word) r index
       unfolding takes named counted with_token with_name
-      name-full words' bytes' g f e' =
+      name-refused words' bytes' g f =
           let more = r.known ++ (word ∷ []) in
           let k : number + 1 ≡ length more = omega (arith, number-next, length-append r.known (word ∷ [])) in
-          let z : names_most < number + 1 = omega arith in
-          let u = token-refused r p words bytes h (name_d number) 3 number 0 (name-token number) more (number + 1) k words' bytes' g e' (λ y. names-full p (number + 1) p.depth z (sym e' ∙ y)) in
-          let s : Stepped (takes (name word) r) words' bytes' (Refused g) = rw (le-ltb _ _ new, ← number_is) u in
-          (s, λ q t. absurd (subst (λ a. Stepped a words' bytes' (Refused g)) t s))
+          let u = token-refused r p words bytes h (name_d number) 3 number 0 (name-token number) more (number + 1) k words' bytes' g f in
+          let s : Stepped (takes (name word) r) words' bytes' (Err g) = rw (le-ltb _ _ new, ← number_is) u in
+          (s, λ q t. absurd (subst (λ a. Stepped a words' bytes' (Err g)) t s))

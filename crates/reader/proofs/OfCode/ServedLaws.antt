@@ -1,5 +1,5 @@
 -- Laws of the service: the loop over the tokens, and each way through the call.
-use Rattle.std.specs.Prelude.{◌≡◌, List, [], ℕ, ◌-◌, ◌≤◌, ◌<◌, length, replicate}
+use Rattle.std.specs.Prelude.{◌≡◌, List, [], ℕ, ◌-◌, ◌≤◌, ◌<◌, length, replicate, Result, Ok, Err}
 use Rattle.std.proofs.Math.Path.{refl}
 use Rattle.std.proofs.Common.{sym, subst, ◌∙◌}
 use native.Mathlib.Omega.{arith}
@@ -7,12 +7,11 @@ use borrow.Author.Tests.{lt-ltb, le-ltb}
 use Rattle.words.specs.Limits.{item_words_least, name_bytes_least, text_bytes_most}
 use Rattle.words.specs.Lists.{all_of}
 use Rattle.datum.specs.NameTable.{slots}
-use Rattle.reader.specs.declared.Reading.{Reading}
-use Rattle.reader.specs.declared.Reading.TheVariants.{Read, Refused}
+use Rattle.words.specs.Code.Ground.{number_of}
+use Rattle.words.specs.declared.ground.Ground.{Ground}
+use Rattle.words.specs.declared.ground.Ground.TheVariants as G
+use Rattle.reader.specs.declared.Counts.{Counts}
 use Rattle.reader.specs.declared.place.Place.{Place}
-use Rattle.lexer.specs.declared.token.Cursor.{Cursor}
-use Rattle.reader.specs.declared.element.Move as M
-use Rattle.reader.specs.declared.element.Move.TheVariants as MV
 use Rattle.reading.specs.Token.{tokens}
 use Rattle.reading.specs.Numbering.{base_names}
 use Rattle.reading.specs.Elements as E
@@ -33,10 +32,12 @@ use Rattle.words.specs.TableLaws.{zeros-left}
 use Rattle.reader.specs.Code.Index.{index_size}
 use Rattle.reader.proofs.OfCode.IndexLaws.{indexed-none}
 use Rattle.reader.specs.Code.Stored.{NameTable}
-use Rattle.lexer.specs.Told.{meanings_from}
-use Rattle.reader.specs.Code.Placed.{Holds, items_of, items_around, words_of, words_around, open_pair, next_item, placed}
+use Rattle.lexer.specs.Told.{meanings_from, Took}
+use Rattle.reading.specs.Meaning.{Meaning}
+use Rattle.reader.specs.Code.Placed.{Holds, Taken, items_of, items_around, words_of, words_around, open_pair, next_item, placed}
 use Rattle.words.specs.TableLaws.{filled-same}
-use Rattle.reader.specs.Code.Moved.{outcome_from, Whole, Moved, Advanced}
+use Rattle.reader.specs.Code.Moved.{counts_of, outcome_from, Whole, Outcome, Moved}
+use Rattle.reader.specs.Code.MovedLaws.{taken-moved, ended-moved}
 use Rattle.reader.specs.Served.{numbers_of, ServedElements}
 use Rattle.reader.specs.Code.Reached.{Reached}
 
@@ -70,50 +71,52 @@ module _ (wanted : ℕ) (text words bytes index : List ℕ) where
   }
 
   pub reached-first : item_words_least ≤ length words → words ≡ replicate (length words) 0 → NameTable base_names bytes index
-      → Reached wanted text words bytes index (first_place wanted) (record { at = 0 })
+      → Reached wanted text words bytes index (first_place wanted) 0
   unfolding start outcome_from meanings_from elements_of recipe_over tokens
   reached-first l z b = record { reading = start base_names wanted; holds = first_holds l z b; indexed = b.indexed; high = omega arith; same = refl }
 
-  module _ (p : Place) (c : Cursor) (r : Reached wanted text words bytes index p c) (words' bytes' index' : List ℕ) (m : M.Move)
-      (a : Advanced text c.at p words words' bytes bytes' index index' m) where
-    here : (v : M.Move) → m ≡ v → Moved text c.at r.reading words' bytes' index' v
-    here v e = subst (Moved text c.at r.reading words' bytes' index') e (a r.reading r.holds r.indexed)
+  module _ (p : Place) (at : ℕ) (r : Reached wanted text words bytes index p at) where
+    -- a token that is taken
+    module _ (m : Meaning) (next : ℕ) (t : Took text at m next) (words' bytes' index' : List ℕ) (s : Result Place Ground)
+        (a : Taken m p words words' bytes bytes' index index' s) where
+      here : (v : Result Place Ground) → s ≡ v → Moved text at r.reading next words' bytes' index' v
+      here v e =
+          let h = a r.reading r.holds r.indexed in
+          subst (Moved text at r.reading next words' bytes' index') e (taken-moved text at r.reading words' bytes' index' m next t h.1 s h.0)
 
-    pub reached-on : (q : Place) (d : Cursor) → m ≡ MV.On q d → Reached wanted text words' bytes' index' q d
-    reached-on q d e =
-        let o = here (MV.On q d) e in
-        record { reading = o.next; holds = o.holds; indexed = o.indexed; high = o.high; same = sym o.same ∙ r.same }
+      pub reached-on : (q : Place) → s ≡ Ok q → Reached wanted text words' bytes' index' q next
+      reached-on q e =
+          let o = here (Ok q) e in
+          record { reading = o.next; holds = o.holds; indexed = o.indexed; high = o.high; same = sym o.same ∙ r.same }
 
-    pub reached-later : (q : Place) (d : Cursor) → m ≡ MV.On q d → (c.at < d.at) × (d.at ≤ length text)
-    reached-later q d e = let o = here (MV.On q d) e in (o.low, o.high)
+      pub reached-refused : (g : Ground) → s ≡ Err g → elements_of wanted text ≡ refused_for begun (number_of g)
+      reached-refused g e = sym r.same ∙ here (Err g) e
 
-    pub reached-done : (i n : ℕ) → m ≡ MV.Done i n → Whole (elements_of wanted text) i n words' bytes'
-    reached-done i n e = subst (λ o. Whole o i n words' bytes') r.same (here (MV.Done i n) e)
-
-    pub reached-refused : (g : ℕ) → m ≡ MV.Refused g → elements_of wanted text ≡ refused_for begun g
-    reached-refused g e = sym r.same ∙ here (MV.Refused g) e
+    -- no token is left
+    pub reached-end : meanings_from text at ≡ [] → Outcome (elements_of wanted text) words bytes (counts_of p)
+    reached-end e = subst (λ o. Outcome o words bytes (counts_of p)) r.same (ended-moved text at r.reading p words bytes r.holds e)
 
 -- ---- the call
 
 module _ (wanted : ℕ) (text words bytes : List ℕ) where
-  served-by : (a : E.Answer Recipe) (words' bytes' : List ℕ) (r : Reading) → read_elements wanted text (length words) (length bytes) ≡ a → numbers_of r ≡ read_numbers a
+  served-by : (a : E.Answer Recipe) (words' bytes' : List ℕ) (r : Result Counts Ground) → read_elements wanted text (length words) (length bytes) ≡ a → numbers_of r ≡ read_numbers a
       → words' ≡ items_after a words → bytes' ≡ names_after a bytes → ServedElements wanted text words words' bytes bytes' r
   served-by a words' bytes' r e f i n = record { numbers = rw e f; items = rw e i; names = rw e n }
 
   -- grounds 1 and 2 change nothing
-  pub served-few-items : length words < item_words_least → ServedElements wanted text words words bytes bytes (Refused 1)
+  pub served-few-items : length words < item_words_least → ServedElements wanted text words words bytes bytes (Err G.ShortTables)
   unfolding read_elements numbers_of read_numbers items_after names_after left_at
-  served-few-items h = served-by (refused_for testing 1) words bytes (Refused 1) (rw (lt-ltb _ _ h)) refl refl refl
+  served-few-items h = served-by (refused_for testing 1) words bytes (Err G.ShortTables) (rw (lt-ltb _ _ h)) refl refl refl
 
   module _ (i : item_words_least ≤ length words) where
-    pub served-few-names : length bytes < name_bytes_least → ServedElements wanted text words words bytes bytes (Refused 1)
+    pub served-few-names : length bytes < name_bytes_least → ServedElements wanted text words words bytes bytes (Err G.ShortTables)
     unfolding read_elements numbers_of read_numbers items_after names_after left_at
-    served-few-names h = served-by (refused_for testing 1) words bytes (Refused 1) (rw (le-ltb _ _ i, lt-ltb _ _ h)) refl refl refl
+    served-few-names h = served-by (refused_for testing 1) words bytes (Err G.ShortTables) (rw (le-ltb _ _ i, lt-ltb _ _ h)) refl refl refl
 
     module _ (n : name_bytes_least ≤ length bytes) where
-      pub served-long : text_bytes_most < length text → ServedElements wanted text words words bytes bytes (Refused 2)
+      pub served-long : text_bytes_most < length text → ServedElements wanted text words words bytes bytes (Err G.LongText)
       unfolding read_elements numbers_of read_numbers items_after names_after left_at
-      served-long h = served-by (refused_for testing 2) words bytes (Refused 2) (rw (le-ltb _ _ i, le-ltb _ _ n, lt-ltb _ _ h)) refl refl refl
+      served-long h = served-by (refused_for testing 2) words bytes (Err G.LongText) (rw (le-ltb _ _ i, le-ltb _ _ n, lt-ltb _ _ h)) refl refl refl
 
       module _ (t : length text ≤ text_bytes_most) (words' bytes' : List ℕ) where
         read_is : read_elements wanted text (length words) (length bytes) ≡ elements_of wanted text
@@ -121,19 +124,19 @@ module _ (wanted : ℕ) (text words bytes : List ℕ) where
         read_is = rw (le-ltb _ _ i, le-ltb _ _ n, le-ltb _ _ t)
 
         -- an accepted text: its layout and its names, then zeros
-        pub served-read : (k m : ℕ) → Whole (elements_of wanted text) k m words' bytes' → length words' ≡ length words → length bytes' ≡ length bytes
-            → ServedElements wanted text words words' bytes bytes' (Read k m)
+        pub served-read : (c : Counts) → Whole (elements_of wanted text) c words' bytes' → length words' ≡ length words → length bytes' ≡ length bytes
+            → ServedElements wanted text words words' bytes bytes' (Ok c)
         unfolding numbers_of read_numbers items_after names_after
-        served-read k m w e f =
-            served-by (got w.recipe) words' bytes' (Read k m) (read_is ∙ w.accepted) (rw (w.item_count, w.name_count))
+        served-read c w e f =
+            served-by (got w.recipe) words' bytes' (Ok c) (read_is ∙ w.accepted) (rw (w.item_count, w.name_count))
             (w.items ∙ filled-same (item_words w.recipe) words' words e) (w.names ∙ filled-same (name_bytes w.recipe) bytes' bytes f)
 
         -- a text that is refused: both tables zeroed
-        pub served-refused : (g : ℕ) → elements_of wanted text ≡ refused_for begun g → words' ≡ replicate (length words) 0 → bytes' ≡ replicate (length bytes) 0
-            → ServedElements wanted text words words' bytes bytes' (Refused g)
+        pub served-refused : (g : Ground) → elements_of wanted text ≡ refused_for begun (number_of g) → words' ≡ replicate (length words) 0 → bytes' ≡ replicate (length bytes) 0
+            → ServedElements wanted text words words' bytes bytes' (Err g)
         unfolding numbers_of read_numbers items_after names_after left_at
         served-refused g e z y =
-            served-by (refused_for begun g) words' bytes' (Refused g) (read_is ∙ e) refl (z ∙ zeros-left words) (y ∙ zeros-left bytes)
+            served-by (refused_for begun (number_of g)) words' bytes' (Err g) (read_is ∙ e) refl (z ∙ zeros-left words) (y ∙ zeros-left bytes)
 
 -- ---- a table that was zeroed
 

@@ -4,15 +4,18 @@ use Rattle.std.proofs.Common.{sym, ap₂, subst, ◌∙◌, append_assoc, append
 use Rattle.std.proofs.Math.Path.{ap}
 use Prim.Native.Nat.{ℕ, zero, suc, ◌+◌, ◌*◌, ◌-◌, ◌≤◌, ◌<◌}
 use native.Mathlib.Omega.{arith}
-use Rattle.std.proofs.Math.Numerals.{add-one}
-use Rattle.std.proofs.Math.ListN.{length, get_or, length-drop, replicate-append-replicate}
-use Rattle.std.proofs.Math.Seq.{drop-cons, drop-length, length-take-le, get_or-take, get_or-drop, append_snoc, get_or-append_seam, take-length, drop-append-add}
+use Rattle.std.proofs.Math.ListN.{length, get_or, replicate-append-replicate}
+use Rattle.std.proofs.Math.Seq.{length-take-le, append_snoc, get_or-append_seam, take-length, drop-append-add}
 use Rattle.std.proofs.lemmas.List.Edits.{length-paste}
 use Rattle.std.proofs.lemmas.List.{set_at}
-use borrow.Author.Tests.{eq-eqb, ne_eqb, le-leb, leb-true}
+use Rattle.std.proofs.lemmas.Bool.Decides.{Decides-eqb}
+use Rattle.std.proofs.lemmas.Slice.Eq.{slice_eq-Decides}
+use Rattle.std.specs.List.{between}
+use Rattle.std.specs.Str.{bytes_eq}
+use borrow.Author.Tests.{le-leb, leb-true}
 use Rattle.words.specs.Lists.{equal, all_of, any_of}
-use Rattle.words.specs.ListLaws.{either, equal-true, all_append, valued, valued-at}
-use Rattle.words.specs.TestLaws.{and_left, and_right}
+use Rattle.words.specs.ListLaws.{equal-refl, equal-true, all_append, valued, valued-at}
+use Rattle.words.specs.TestLaws.{and_left, and_right, iff-eq}
 use Rattle.words.specs.Text.{bytes}
 use Rattle.datum.specs.NameTable.{slot, slots, length_at, name_at}
 use Rattle.datum.specs.NameTableLaws.{is_short, length-slots, slots-append, name-at}
@@ -24,39 +27,16 @@ use Rattle.reader.specs.Code.Stored.{names_in, stored, NameTable, Entered}
 
 -- ---- comparing
 
-pub unequal-lengths : (a b : List ℕ) → (length b ≡ length a → ⊥) → false ≡ equal a b
-unequal-lengths a b h = either (equal a b) (λ e. absurd (h (ap length (sym (equal-true a b e))))) (λ e. sym e)
-
-module _ (a b : List ℕ) (same : length b ≡ length a) (i : ℕ) (h : i < length a) where
-  k : i < length b
-  k = omega arith
-
-  pub equal-step : get_or b i 0 ≡ get_or a i 0 → equal (drop i a) (drop i b) ≡ equal (drop (i + 1) a) (drop (i + 1) b)
-  unfolding equal
-  equal-step e = rw (drop-cons a i 0 h, drop-cons b i 0 k, add-one, eq-eqb (get_or a i 0) (get_or b i 0) (sym e))
-
-  pub equal-stop : (get_or b i 0 ≡ get_or a i 0 → ⊥) → equal (drop i a) (drop i b) ≡ false
-  unfolding equal
-  equal-stop n = rw (drop-cons a i 0 h, drop-cons b i 0 k, ne_eqb (get_or a i 0) (get_or b i 0) (λ e. n (sym e)))
-
-pub equal-end : (a b : List ℕ) (i : ℕ) → length b ≡ length a → i ≡ length a → equal (drop i a) (drop i b) ≡ true
-unfolding equal
-equal-end a b i s e = rw (e, drop-length) (rw (← s, drop-length))
-
--- ---- a slot
-
-module _ (table : List ℕ) (n : ℕ) (room : 64 * n + 64 ≤ length table) (short : length_at table n ≤ 63) where
-  pub name-length : length (name_at table n) ≡ length_at table n
-  unfolding name_at
-  name-length =
-      let l : length_at table n ≤ length (drop (suc (64 * n)) table) = omega (arith, length-drop (suc (64 * n)) table) in
-      length-take-le (length_at table n) (drop (suc (64 * n)) table) l
-
-  pub name-byte : (i : ℕ) → i < length_at table n → get_or (name_at table n) i 0 ≡ get_or table (64 * n + 1 + i) 0
-  unfolding name_at
-  name-byte i h =
-      let e : suc (64 * n) + i ≡ 64 * n + 1 + i = omega arith in
-      get_or-take (length_at table n) (drop (suc (64 * n)) table) i 0 h ∙ get_or-drop (suc (64 * n)) table i 0 ∙ ap (λ j. get_or table j 0) e
+-- a comparison with a slot's bytes is one with the name
+pub spelled-same : (table : List ℕ) (n : ℕ) (word : List ℕ) (r : Bool) → (to : ℕ) → to ≡ 64 * n + 1 + length_at table n
+    → r ≡ bytes_eq word (between (64 * n + 1) to table) → r ≡ equal word (name_at table n)
+unfolding name_at
+spelled-same table n word r to e h =
+    let p : to - (64 * n + 1) ≡ length_at table n = omega arith in
+    let q : 64 * n + 1 ≡ suc (64 * n) = omega arith in
+    let name = take (length_at table n) (drop (suc (64 * n)) table) in
+    let d = slice_eq-Decides Decides-eqb word name r (rw (p, q) at h) in
+    iff-eq r (equal word name) (λ u. rw (d.0 u) (equal-refl name)) (λ u. d.1 (equal-true word name u))
 
 -- ---- finding
 

@@ -1,12 +1,11 @@
--- What reading does with the next token: it goes on, is done, or turns the text back, as the definition does.
-use Rattle.std.specs.Prelude.{◌≡◌, ◌&&◌, cond, List, ℕ, ◌+◌, ◌≤◌, ◌<◌, eqb, length}
+-- What reading does with the next token: it goes on or turns the text back, and at the end it is done, as the definition is.
+use Rattle.std.specs.Prelude.{◌≡◌, ◌&&◌, cond, List, ℕ, ◌+◌, ◌≤◌, ◌<◌, eqb, length, Result, Ok, Err}
+use Rattle.words.specs.Code.Ground.{number_of}
+use Rattle.words.specs.declared.ground.Ground.{Ground}
+use Rattle.words.specs.declared.ground.Ground.TheVariants as G
 use Rattle.datum.specs.Datum.{data_items}
-use Rattle.lexer.specs.declared.token.Cursor.{Cursor}
 use Rattle.reader.specs.declared.place.Place.{Place}
-use Rattle.reader.specs.declared.place.Step as S
-use Rattle.reader.specs.declared.place.Step.TheVariants as SV
-use Rattle.reader.specs.declared.element.Move.{Move}
-use Rattle.reader.specs.declared.element.Move.TheVariants.{On, Done, Refused}
+use Rattle.reader.specs.declared.Counts.{Counts}
 use Rattle.reading.specs.Elements.{Answer, got, refused_for, then, Reading, takes_all}
 use Rattle.reading.specs.Read.{Recipe, finished, item_words, name_bytes}
 use Rattle.words.specs.Tables.{filled, begun}
@@ -14,44 +13,38 @@ use Rattle.lexer.specs.Told.{meanings_from}
 use Rattle.reader.specs.Code.Index.{Indexed}
 use Rattle.reader.specs.Code.Placed.{Holds}
 
--- a step, with the cursor past its token
-abbrev pub moved_by : S.Step → Cursor → Move
-moved_by (SV.Went p) c = On p c
-moved_by (SV.Refused g) c = Refused g
-
 -- the end of the text
-unfoldable pub finish_of : Place → Move
-finish_of p = cond (eqb p.depth 0 && eqb p.missing 0) (Done (p.next + 1) p.known) (Refused 5)
+unfoldable pub counts_of : Place → Result Counts Ground
+counts_of p = cond (eqb p.depth 0 && eqb p.missing 0) (Ok (record { items = p.next + 1; names = p.known })) (Err G.Unbalanced)
 
 -- the outcome of reading on from a place in the text
 unfoldable pub outcome_from : List ℕ → ℕ → Reading → Answer Recipe
 outcome_from text at r = then (takes_all (meanings_from text at) r) finished
 
 -- it goes on, with another reading and the same outcome
-pub record Onward (text : List ℕ) (at : ℕ) (r : Reading) (p : Place) (c : Cursor) (words bytes index : List ℕ) : Type 0 where
+pub record Onward (text : List ℕ) (at : ℕ) (r : Reading) (p : Place) (to : ℕ) (words bytes index : List ℕ) : Type 0 where
   pub next : Reading
   pub holds : Holds next p words bytes
   pub indexed : Indexed next.known index
-  pub low : at < c.at
-  pub high : c.at ≤ length text
-  pub same : outcome_from text at r ≡ outcome_from text c.at next
+  pub low : at < to
+  pub high : to ≤ length text
+  pub same : outcome_from text at r ≡ outcome_from text to next
 
 -- it is done: the outcome is a recipe, whose items and names the tables hold
-pub record Whole (outcome : Answer Recipe) (i n : ℕ) (words bytes : List ℕ) : Type 0 where
+pub record Whole (outcome : Answer Recipe) (c : Counts) (words bytes : List ℕ) : Type 0 where
   pub recipe : Recipe
   pub accepted : outcome ≡ got recipe
-  pub item_count : i ≡ data_items recipe.elements
-  pub name_count : n ≡ length recipe.names
+  pub item_count : c.items ≡ data_items recipe.elements
+  pub name_count : c.names ≡ length recipe.names
   pub items : words ≡ filled (item_words recipe) words
   pub names : bytes ≡ filled (name_bytes recipe) bytes
 
--- what a move says of a reading r at a place in the text
-abbrev pub Moved : List ℕ → ℕ → Reading → List ℕ → List ℕ → List ℕ → Move → Type 0
-Moved text at r words bytes index (On p c) = Onward text at r p c words bytes index
-Moved text at r words bytes index (Done i n) = Whole (outcome_from text at r) i n words bytes
-Moved text at r words bytes index (Refused g) = outcome_from text at r ≡ refused_for begun g
+-- what the code comes to at the end, by the outcome
+abbrev pub Outcome : Answer Recipe → List ℕ → List ℕ → Result Counts Ground → Type 0
+Outcome outcome words bytes (Ok c) = Whole outcome c words bytes
+Outcome outcome words bytes (Err g) = outcome ≡ refused_for begun (number_of g)
 
--- what one call promises, for every reading that the code may hold
-abbrev pub Advanced : List ℕ → ℕ → Place → List ℕ → List ℕ → List ℕ → List ℕ → List ℕ → List ℕ → Move → Type 0
-Advanced text at p words words' bytes bytes' index index' m =
-    (r : Reading) → Holds r p words bytes → Indexed r.known index → Moved text at r words' bytes' index' m
+-- what a step says of a reading r at a place in the text, the next place being given
+abbrev pub Moved : List ℕ → ℕ → Reading → ℕ → List ℕ → List ℕ → List ℕ → Result Place Ground → Type 0
+Moved text at r next words bytes index (Ok p) = Onward text at r p next words bytes index
+Moved text at r next words bytes index (Err g) = outcome_from text at r ≡ refused_for begun (number_of g)

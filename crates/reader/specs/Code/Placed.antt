@@ -1,13 +1,14 @@
 -- What the tables hold while a text is read: the items of the elements so far, a pair with an open tail for each open list.
-use Rattle.std.specs.Prelude.{◌≡◌, true, ◌&&◌, cond, List, [], ◌∷◌, ◌++◌, ℕ, suc, ◌+◌, ◌*◌, ◌-◌, ◌≤◌, ◌<◌, eqb, leb, length, set}
+use Rattle.std.specs.Prelude.{◌≡◌, true, ◌&&◌, cond, List, [], ◌∷◌, ◌++◌, ℕ, suc, ◌+◌, ◌*◌, ◌-◌, ◌≤◌, ◌<◌, eqb, leb, length, set, Result, Ok, Err, ⊤}
+use Rattle.words.specs.Code.Ground.{number_of}
+use Rattle.words.specs.declared.ground.Ground.{Ground}
+use Rattle.words.specs.declared.ground.Ground.TheVariants as G
 use Rattle.words.specs.Limits.{item_words_least, name_bytes_least, elements_most, names_most, open_lists_most, name_length_most}
 use Rattle.words.specs.Lists.{all_of}
 use Rattle.datum.specs.Datum.{Datum, datum_items}
 use Rattle.datum.specs.NameTable.{slots, length_at}
 use Rattle.datum.specs.NameTableLaws.{is_short}
 use Rattle.reader.specs.declared.place.Place.{Place}
-use Rattle.reader.specs.declared.place.Step.{Step}
-use Rattle.reader.specs.declared.place.Step.TheVariants.{Went, Refused}
 use Rattle.reading.specs.Numbering.{datum_words}
 use Rattle.reading.specs.Meaning.{Meaning, begins, ends, name, number}
 use Rattle.reading.specs.Elements.{Answer, got, refused_for, Reading, none_open, begin, takes}
@@ -75,11 +76,11 @@ pub record Holds (r : Reading) (p : Place) (words bytes : List ℕ) : Type 0 whe
   pub enough_names : name_bytes_least ≤ length bytes
 
 -- what it does with a token, by the definition's answer
-abbrev pub Stepped : Answer Reading → List ℕ → List ℕ → Step → Type 0
-Stepped (got q) items names (Went p) = Holds q p items names
-Stepped (got q) items names (Refused g) = ⊥
-Stepped (refused_for stage g) items names (Went p) = ⊥
-Stepped (refused_for stage g) items names (Refused h) = (stage ≡ begun) × (h ≡ g)
+abbrev pub Stepped : Answer Reading → List ℕ → List ℕ → Result Place Ground → Type 0
+Stepped (got q) items names (Ok p) = Holds q p items names
+Stepped (got q) items names (Err g) = ⊥
+Stepped (refused_for stage g) items names (Ok p) = ⊥
+Stepped (refused_for stage g) items names (Err h) = (stage ≡ begun) × (number_of h ≡ g)
 
 -- ---- numbers of a place, for safety
 
@@ -99,11 +100,11 @@ pub record NamesSound (p : Place) (bytes index : List ℕ) : Type 0 where
   pub short : (n : ℕ) → n < p.known → length_at bytes n ≤ name_length_most
   pub indexed : Indexed (names_in bytes 0 p.known) index
 
--- grounds 5 and 6 at a token that begins an element, with the names and open lists that it makes; 0 where it is taken
-unfoldable pub ground_at : Place → ℕ → ℕ → ℕ
-ground_at p known depth =
-    cond (eqb p.depth 0 && eqb p.missing 0) 5
-    (cond (leb (suc p.count) elements_most && (leb known names_most && leb depth open_lists_most)) 0 6)
+-- grounds 5 and 6 at a token that begins an element, with the names and open lists that it makes
+unfoldable pub begun_at : Place → ℕ → ℕ → Result ⊤ Ground
+begun_at p known depth =
+    cond (eqb p.depth 0 && eqb p.missing 0) (Err G.Unbalanced)
+    (cond (leb (suc p.count) elements_most && (leb known names_most && leb depth open_lists_most)) (Ok tt) (Err G.TooMany))
 
 -- ---- what the code promises of a token, for every reading that it may hold
 
@@ -127,18 +128,18 @@ with_token r d names = record {
 }
 
 -- a token that is an element, whatever reading, element and names it is for
-abbrev pub TokenPut : Place → ℕ → ℕ → ℕ → ℕ → List ℕ → List ℕ → Step → Type 0
+abbrev pub TokenPut : Place → ℕ → ℕ → ℕ → ℕ → List ℕ → List ℕ → Result Place Ground → Type 0
 TokenPut p kind first second known words words' s =
     (r : Reading) (d : Datum) (names : List (List ℕ)) (bytes table : List ℕ) → Holds r p words bytes → IsToken d kind first second
     → known ≡ length names → all_of is_short names ≡ true → table ≡ filled (slots names) table → name_bytes_least ≤ length table
     → Stepped (begin r (with_token r d names)) words' table s
 
 -- a list begins
-abbrev pub ListOpened : Place → List ℕ → List ℕ → Step → Type 0
+abbrev pub ListOpened : Place → List ℕ → List ℕ → Result Place Ground → Type 0
 ListOpened p words words' s = (r : Reading) (bytes : List ℕ) → Holds r p words bytes → Stepped (takes begins r) words' bytes s
 
 -- a list ends
-abbrev pub ListClosed : Place → List ℕ → List ℕ → Step → Type 0
+abbrev pub ListClosed : Place → List ℕ → List ℕ → Result Place Ground → Type 0
 ListClosed p words words' s = (r : Reading) (bytes : List ℕ) → Holds r p words bytes → Stepped (takes ends r) words' bytes s
 
 -- the index is that of the names after a token
@@ -146,6 +147,11 @@ abbrev pub IndexedAfter : Meaning → Reading → List ℕ → Type 0
 IndexedAfter m r index = (q : Reading) → takes m r ≡ got q → Indexed q.known index
 
 -- a name is taken
-abbrev pub NamePut : Place → List ℕ → List ℕ → List ℕ → List ℕ → List ℕ → List ℕ → Step → Type 0
+abbrev pub NamePut : Place → List ℕ → List ℕ → List ℕ → List ℕ → List ℕ → List ℕ → Result Place Ground → Type 0
 NamePut p word words words' bytes bytes' index' s =
     (r : Reading) → Holds r p words bytes → Stepped (takes (name word) r) words' bytes' s × IndexedAfter (name word) r index'
+
+-- a token that means m is taken, whatever reading the code holds
+abbrev pub Taken : Meaning → Place → List ℕ → List ℕ → List ℕ → List ℕ → List ℕ → List ℕ → Result Place Ground → Type 0
+Taken m p words words' bytes bytes' index index' s =
+    (r : Reading) → Holds r p words bytes → Indexed r.known index → Stepped (takes m r) words' bytes' s × IndexedAfter m r index'

@@ -8,9 +8,9 @@ use native.Mathlib.Omega.{arith}
 use Rattle.std.proofs.Math.ListN.{length, set, length-append}
 use Rattle.std.proofs.Math.Seq.{set_at}
 use Rattle.std.proofs.lemmas.List.{get_or_at}
-use Rattle.datum.specs.Datum.{Datum, Data, constant_d, name_d, list_d, none_d, more_d, datum_items, data_items}
+use Rattle.datum.specs.Datum.{Datum, Data, list_d, none_d, more_d, datum_items, data_items}
 use Rattle.reading.specs.Numbering.{datum_words, data_words}
-use Rattle.reading.specs.NumberingLaws.{datum-length, data-length}
+use Rattle.reading.specs.NumberingLaws.{datum-length}
 use Rattle.reading.specs.Elements.{Reading, onto}
 use Rattle.words.specs.Tables.{filled}
 use Rattle.reader.specs.Code.Placed.{put3, items_of, words_of, items_around, open_pair, words_around, next_item, placed}

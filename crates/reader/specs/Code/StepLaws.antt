@@ -1,20 +1,22 @@
 -- What the code holds after a token, from what it held before: one law for each kind of token, and the grounds 5 and 6.
-use Rattle.std.specs.Prelude.{◌≡◌, Bool, true, false, ◌&&◌, cond, List, [], ◌∷◌, ◌++◌, eqb, leb, get_or, set}
+use Rattle.std.specs.Prelude.{◌≡◌, Bool, true, false, ◌&&◌, cond, List, [], ◌∷◌, ◌++◌, eqb, leb, get_or, set, Result, Ok, Err, ⊤}
 use Rattle.std.proofs.Math.Path.{refl, sym, ap, subst}
 use Rattle.std.proofs.Common.{◌∙◌, append_assoc, length-append}
 use Prim.Native.Nat.{ℕ, suc, ◌+◌, ◌*◌, ◌-◌, ◌≤◌, ◌<◌}
 use native.Mathlib.Omega.{arith}
 use Rattle.std.proofs.Math.Dec.{eqb-suc-zero}
 use Rattle.std.proofs.Math.ListN.{length, length-set}
-use borrow.Author.Tests.{le-leb, lt-leb, leb-true}
+use borrow.Author.Tests.{leb-true}
+use Rattle.words.specs.Code.Ground.{number_of}
+use Rattle.words.specs.declared.ground.Ground.{Ground}
+use Rattle.words.specs.declared.ground.Ground.TheVariants as G
 use Rattle.words.specs.Limits.{name_bytes_least, elements_most, names_most, open_lists_most}
 use Rattle.words.specs.Lists.{all_of}
-use Rattle.words.specs.ListLaws.{either}
+use Rattle.words.specs.TestLaws.{and_left, and_right}
 use Rattle.datum.specs.Datum.{Datum, list_d, none_d, datum_items, data_items}
 use Rattle.datum.specs.NameTable.{slots}
 use Rattle.datum.specs.NameTableLaws.{is_short}
 use Rattle.reader.specs.declared.place.Place.{Place}
-use Rattle.reader.specs.declared.place.Step.TheVariants.{Went, Refused}
 use Rattle.reading.specs.Numbering.{datum_words}
 use Rattle.reading.specs.Meaning.{begins, ends}
 use Rattle.reading.specs.Elements.{
@@ -47,7 +49,7 @@ use Rattle.reader.specs.Code.Placed.{
   Holds,
   Stepped,
   Sound,
-  ground_at,
+  begun_at,
   IsToken,
   with_token,
 }
@@ -74,19 +76,27 @@ pub complete-is : (r : Reading) (p : Place) (words bytes : List ℕ) → Holds r
 unfolding is_complete
 complete-is r p words bytes h = rw (none_open_lem r.around, h.depth, h.missing)
 
--- an answer by two tests, and its ground
-abbrev by : Bool → Bool → ℕ
-by c d = cond c 5 (cond d 0 6)
+-- the code's answer by two tests, and the definition's by the code's
+abbrev by : Bool → Bool → Result ⊤ Ground
+by c d = cond c (Err G.Unbalanced) (cond d (Ok tt) (Err G.TooMany))
 
-tested : (q : Reading) (a b c d : Bool) → a ≡ c → b ≡ d → (by c d ≡ 0 → ⊥) → cond a (refused_for begun 5) (cond b (got q) (refused_for begun 6)) ≡ refused_for begun (by c d)
-tested q a b true d e f h = rw e
-tested q a b false true e f h = absurd (h refl)
-tested q a b false false e f h = rw (e, f)
+abbrev answer_by : Reading → Result ⊤ Ground → Answer Reading
+answer_by q (Ok u) = got q
+answer_by q (Err g) = refused_for begun (number_of g)
 
-passed : (a b c d : Bool) → a ≡ c → b ≡ d → by c d ≡ 0 → (a ≡ false) × (b ≡ true)
-passed a b true d e f h = absurd (omega (arith, h))
-passed a b false true e f h = (e, f)
-passed a b false false e f h = absurd (omega (arith, h))
+tested : (q : Reading) (c d : Bool) → cond c (refused_for begun 5) (cond d (got q) (refused_for begun 6)) ≡ answer_by q (by c d)
+tested q true d = refl
+tested q false true = refl
+tested q false false = refl
+
+abbrev passes : Result ⊤ Ground → ℕ
+passes (Ok u) = 1
+passes (Err g) = 0
+
+passed : (c d : Bool) → passes (by c d) ≡ 1 → (c ≡ false) × (d ≡ true)
+passed true d h = absurd (omega (arith, h))
+passed false true h = (refl, refl)
+passed false false h = absurd (omega (arith, h))
 
 module _ (r : Reading) (p : Place) (words bytes : List ℕ) (h : Holds r p words bytes) (q : Reading) (known depth : ℕ)
     (k : known ≡ length q.known) (d : depth ≡ length q.around) (c : q.count ≡ suc r.count) where
@@ -97,14 +107,17 @@ module _ (r : Reading) (p : Place) (words bytes : List ℕ) (h : Holds r p words
   unfolding is_within
   same-within = rw (k, d, c, h.count)
 
-  pub ground-back : (ground_at p known depth ≡ 0 → ⊥) → begin r q ≡ refused_for begun (ground_at p known depth)
-  unfolding begin ground_at
-  ground-back n = tested q _ _ _ _ same-complete same-within n
+  same-answer : by (is_complete r) (is_within q) ≡ begun_at p known depth
+  unfolding begun_at
+  same-answer = rw (same-complete, same-within)
 
-  pub ground-passed : ground_at p known depth ≡ 0 → (is_complete r ≡ false) × Within q
-  unfolding ground_at
-  ground-passed n =
-      let t = passed (is_complete r) (is_within q) _ _ same-complete same-within n in
+  pub ground-back : (g : Ground) → begun_at p known depth ≡ Err g → begin r q ≡ refused_for begun (number_of g)
+  unfolding begin
+  ground-back g e = tested q (is_complete r) (is_within q) ∙ ap (answer_by q) (same-answer ∙ e)
+
+  pub ground-passed : (u : ⊤) → begun_at p known depth ≡ Ok u → (is_complete r ≡ false) × Within q
+  ground-passed u e =
+      let t = passed (is_complete r) (is_within q) (ap passes (same-answer ∙ e)) in
       (t.0, within-is q t.1)
 
 -- ---- tokens that are taken
@@ -274,62 +287,41 @@ module _ (r : Reading) (p : Place) (words bytes : List ℕ) (h : Holds r p words
 
 -- ---- the code's answers
 
-stepped-back : (a : Answer Reading) (words bytes : List ℕ) (g h : ℕ) → a ≡ refused_for begun g → h ≡ g → Stepped a words bytes (Refused h)
-stepped-back a words bytes g h e f = subst (λ x. Stepped x words bytes (Refused h)) (sym e) (refl, f)
+stepped-back : (a : Answer Reading) (words bytes : List ℕ) (g : Ground) → a ≡ refused_for begun (number_of g) → Stepped a words bytes (Err g)
+stepped-back a words bytes g e = subst (λ x. Stepped x words bytes (Err g)) (sym e) (refl, refl)
 
 stepped-got : (a : Answer Reading) (words bytes : List ℕ) (q : Reading) (p : Place) → a ≡ got q → Holds q p words bytes
-    → Stepped a words bytes (Went p)
-stepped-got a words bytes q p e f = subst (λ x. Stepped x words bytes (Went p)) (sym e) f
+    → Stepped a words bytes (Ok p)
+stepped-got a words bytes q p e f = subst (λ x. Stepped x words bytes (Ok p)) (sym e) f
 
--- the tests of grounds 5 and 6, way by way
-module _ (p : Place) (known depth : ℕ) where
-  pub ground-complete : eqb p.depth 0 && eqb p.missing 0 ≡ true → 5 ≡ ground_at p known depth
-  unfolding ground_at
-  ground-complete e = rw e
-
-  module _ (e : eqb p.depth 0 && eqb p.missing 0 ≡ false) where
-    pub ground-elements : elements_most ≤ p.count → 6 ≡ ground_at p known depth
-    unfolding ground_at
-    ground-elements l = let k : elements_most < suc p.count = omega arith in rw (e, lt-leb _ _ k)
-
-    pub ground-names : p.count < elements_most → names_most < known → 6 ≡ ground_at p known depth
-    unfolding ground_at
-    ground-names l n = let k : suc p.count ≤ elements_most = omega arith in rw (e, le-leb _ _ k, lt-leb _ _ n)
-
-    pub ground-lists : p.count < elements_most → known ≤ names_most → open_lists_most < depth → 6 ≡ ground_at p known depth
-    unfolding ground_at
-    ground-lists l n d = let k : suc p.count ≤ elements_most = omega arith in rw (e, le-leb _ _ k, le-leb _ _ n, lt-leb _ _ d)
-
-    pub ground-none : p.count < elements_most → known ≤ names_most → depth ≤ open_lists_most → 0 ≡ ground_at p known depth
-    unfolding ground_at
-    ground-none l n d = let k : suc p.count ≤ elements_most = omega arith in rw (e, le-leb _ _ k, le-leb _ _ n, le-leb _ _ d)
-
--- a ground that is none leaves room
-pub ground-room : (p : Place) (known depth : ℕ) → ground_at p known depth ≡ 0 → p.count < elements_most
-unfolding ground_at
-ground-room p known depth h =
-    either (leb (suc p.count) elements_most) (λ t. omega (arith, leb-true (suc p.count) elements_most t))
-    (λ t. either (eqb p.depth 0 && eqb p.missing 0) (λ u. absurd (omega (arith, rw u at h))) (λ u. absurd (omega (arith, rw (u, t) at h))))
+-- where a token begins an element there is a number for its name
+pub begun-names : (p : Place) (known depth : ℕ) (u : ⊤) → begun_at p known depth ≡ Ok u → known ≤ names_most
+unfolding begun_at
+begun-names p known depth u h =
+    let few = leb (suc p.count) elements_most in
+    let names = leb known names_most in
+    let lists = leb depth open_lists_most in
+    let t = passed (eqb p.depth 0 && eqb p.missing 0) (few && (names && lists)) (ap passes h) in
+    leb-true known names_most (and_left names lists (and_right few (names && lists) t.1))
 
 -- a token that is one element
 module _ (r : Reading) (p : Place) (words bytes : List ℕ) (h : Holds r p words bytes) (d : Datum)
     (kind first second : ℕ) (t : IsToken d kind first second) (names : List (List ℕ)) (known : ℕ) (k : known ≡ length names) where
-  pub token-refused : (words' table : List ℕ) (g : ℕ) → g ≡ ground_at p known p.depth → (g ≡ 0 → ⊥)
-      → Stepped (begin r (with_token r d names)) words' table (Refused g)
+  pub token-refused : (words' table : List ℕ) (g : Ground) → begun_at p known p.depth ≡ Err g
+      → Stepped (begin r (with_token r d names)) words' table (Err g)
   unfolding with_token
-  token-refused words' table g e n =
-      stepped-back _ words' table _ g
-      (ground-back r p words bytes h (with_token r d names) known p.depth k h.depth refl (λ z. n (e ∙ z))) e
+  token-refused words' table g e =
+      stepped-back _ words' table g (ground-back r p words bytes h (with_token r d names) known p.depth k h.depth refl g e)
 
-  pub token-went : (words' table : List ℕ) (missing : ℕ) → ground_at p known p.depth ≡ 0 → all_of is_short names ≡ true
+  pub token-went : (words' table : List ℕ) (missing : ℕ) (u : ⊤) → begun_at p known p.depth ≡ Ok u → all_of is_short names ≡ true
       → table ≡ filled (slots names) table → name_bytes_least ≤ length table
       → words' ≡ put3 (put3 words (3 * p.next) 4 (p.next + 1) (p.next + 2)) (3 * (p.next + 1)) kind first second
       → missing ≡ cond (eqb p.depth 0) (p.missing - 1) p.missing
       → Stepped (begin r (with_token r d names)) words' table
-      (Went (record { next = p.next + 2; pair = p.pair; depth = p.depth; count = p.count + 1; missing = missing; known = known }))
+      (Ok (record { next = p.next + 2; pair = p.pair; depth = p.depth; count = p.count + 1; missing = missing; known = known }))
   unfolding with_token
-  token-went words' table missing z s f b e g =
-      let w = ground-passed r p words bytes h (with_token r d names) known p.depth k h.depth refl z in
+  token-went words' table missing u z s f b e g =
+      let w = ground-passed r p words bytes h (with_token r d names) known p.depth k h.depth refl u z in
       let m : missing ≡ (with_token r d names).missing = g ∙ lacking-is r p words bytes h in
       stepped-got _ words' table (with_token r d names) _ (begin-is r (with_token r d names) w.0 w.1)
       (rw e (element-holds r p words bytes h d kind first second t.one (t.words (suc (next_item r))) names (with_token r d names).missing w.1 known missing table k s f b m))
@@ -340,45 +332,44 @@ module _ (r : Reading) (p : Place) (words bytes : List ℕ) (h : Holds r p words
   unfolding opened counted
   depth-more = omega (arith, h.depth)
 
-  pub open-refused : (words' : List ℕ) (g : ℕ) → g ≡ ground_at p p.known (p.depth + 1) → (g ≡ 0 → ⊥) → Stepped (takes begins r) words' bytes (Refused g)
+  pub open-refused : (words' : List ℕ) (g : Ground) → begun_at p p.known (p.depth + 1) ≡ Err g → Stepped (takes begins r) words' bytes (Err g)
   unfolding takes opened counted
-  open-refused words' g e n =
-      stepped-back _ words' bytes _ g
-      (ground-back r p words bytes h (opened (counted r)) p.known (p.depth + 1) h.known depth-more refl (λ z. n (e ∙ z))) e
+  open-refused words' g e =
+      stepped-back _ words' bytes g (ground-back r p words bytes h (opened (counted r)) p.known (p.depth + 1) h.known depth-more refl g e)
 
-  pub open-went : (words' : List ℕ) (missing : ℕ) → ground_at p p.known (p.depth + 1) ≡ 0
+  pub open-went : (words' : List ℕ) (missing : ℕ) (u : ⊤) → begun_at p p.known (p.depth + 1) ≡ Ok u
       → words' ≡ put3 words (3 * p.next) 4 (p.next + 1) p.pair
       → missing ≡ cond (eqb p.depth 0) (p.missing - 1) p.missing
       → Stepped (takes begins r) words' bytes
-      (Went (record { next = p.next + 1; pair = p.next; depth = p.depth + 1; count = p.count + 1; missing = missing; known = p.known }))
+      (Ok (record { next = p.next + 1; pair = p.next; depth = p.depth + 1; count = p.count + 1; missing = missing; known = p.known }))
   unfolding takes opened counted
-  open-went words' missing z e g =
+  open-went words' missing u z e g =
       let q = opened (counted r) in
-      let w = ground-passed r p words bytes h q p.known (p.depth + 1) h.known depth-more refl z in
+      let w = ground-passed r p words bytes h q p.known (p.depth + 1) h.known depth-more refl u z in
       stepped-got _ words' bytes q _ (begin-is r q w.0 w.1)
       (rw e (open-holds r p words bytes h w.1 missing (g ∙ lacking-is r p words bytes h)))
 
 -- a list ends
 close_stepped : (r : Reading) (p : Place) (words bytes : List ℕ) → Holds r p words bytes → (a : List (List Datum)) → r.around ≡ a → (p.depth ≡ 0 → ⊥)
     → Stepped (closed a r) (set words (3 * p.pair + 2) (p.next + 1)) bytes
-    (Went (record { next = p.next + 1; pair = get_or words (3 * p.pair + 2) 0; depth = p.depth - 1; count = p.count; missing = p.missing; known = p.known }))
+    (Ok (record { next = p.next + 1; pair = get_or words (3 * p.pair + 2) 0; depth = p.depth - 1; count = p.count; missing = p.missing; known = p.known }))
 unfolding closed
 close_stepped r p words bytes h [] e n = absurd (n (h.depth ∙ ap length e))
 close_stepped r p words bytes h (l ∷ ls) e n = close-holds r p words bytes h l ls e
 
-close_refused : (r : Reading) (words bytes : List ℕ) (a : List (List Datum)) → length a ≡ 0 → Stepped (closed a r) words bytes (Refused 5)
+close_refused : (r : Reading) (words bytes : List ℕ) (a : List (List Datum)) → length a ≡ 0 → Stepped (closed a r) words bytes (Err G.Unbalanced)
 unfolding closed
 close_refused r words bytes [] e = (refl, refl)
 close_refused r words bytes (l ∷ ls) e = absurd (omega arith)
 
 module _ (r : Reading) (p : Place) (words bytes : List ℕ) (h : Holds r p words bytes) where
-  pub close-refused : (words' : List ℕ) → p.depth ≡ 0 → Stepped (takes ends r) words' bytes (Refused 5)
+  pub close-refused : (words' : List ℕ) → p.depth ≡ 0 → Stepped (takes ends r) words' bytes (Err G.Unbalanced)
   unfolding takes
   close-refused words' e = close_refused r words' bytes r.around (sym h.depth ∙ e)
 
   pub close-went : (p.depth ≡ 0 → ⊥)
       → Stepped (takes ends r) (set words (3 * p.pair + 2) (p.next + 1)) bytes
-      (Went (record { next = p.next + 1; pair = get_or words (3 * p.pair + 2) 0; depth = p.depth - 1; count = p.count; missing = p.missing; known = p.known }))
+      (Ok (record { next = p.next + 1; pair = get_or words (3 * p.pair + 2) 0; depth = p.depth - 1; count = p.count; missing = p.missing; known = p.known }))
   unfolding takes
   close-went n = close_stepped r p words bytes h r.around refl n
 

@@ -1,9 +1,6 @@
 -- `bind::inner_second`: the cell's own, where it is an ellipsis and none is known.
 use Rattle.environments.proofs.bind.inner_second.Statement.{statement}
 use Rattle.environments.proofs.bind.inner_second.Tie as tie
-use Rattle.environments.proofs.bind.inner_second.Reads as reads
-use Rattle.environments.proofs.bind.inner_second.Lts as lts
-use Rattle.std.proofs.Common.{sym, refl, ap, ◌∙◌, arith, rules}
 use Rattle.environments.specs.BindLaws.{inner-plain, inner-known, inner-own}
 
 returns : tie.Need-returns-then-tag-ne-ELLIPSIS

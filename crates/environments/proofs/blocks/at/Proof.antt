@@ -2,8 +2,6 @@
 use Rattle.std.proofs.Common.{rules}
 use Rattle.environments.proofs.blocks.at.Statement.{statement}
 use Rattle.environments.proofs.blocks.at.Tie as tie
-use Rattle.environments.proofs.blocks.at.Reads as reads
-use Rattle.environments.proofs.blocks.at.Lts as lts
 use Rattle.environments.specs.BlockLaws.{word-past}
 
 mul-result : tie.Need-offset_bounds-work-i

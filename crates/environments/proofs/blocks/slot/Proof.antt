@@ -1,11 +1,7 @@
 -- `blocks::slot`: the word of a row, 0 past the last.
-use Rattle.std.proofs.Common.{ℕ, ◌+◌, ◌*◌, ◌^◌, ◌<◌, ◌≤◌, length, sym, ap, ◌∙◌, subst, ap₂, arith, rules}
+use Rattle.std.proofs.Common.{ℕ, ◌+◌, ◌*◌, ◌≤◌, length, ap, ◌∙◌, subst, arith, rules}
 use Rattle.environments.proofs.blocks.slot.Statement.{statement}
 use Rattle.environments.proofs.blocks.slot.Tie as tie
-use Rattle.environments.proofs.blocks.slot.Reads as reads
-use Rattle.environments.proofs.blocks.slot.Lts as lts
-use Rattle.environments.proofs.blocks.at.Reads as at_reads
-use Rattle.environments.proofs.blocks.count.Reads as count-reads
 use Rattle.environments.specs.Blocks.{word_in}
 use Rattle.environments.specs.BlockLaws.{slot-past, slot-in, slot-far, product-fits}
 

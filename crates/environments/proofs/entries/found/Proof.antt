@@ -2,9 +2,6 @@
 use Rattle.std.proofs.Common.{refl, rules, ne_eqb}
 use Rattle.environments.proofs.entries.found.Statement.{statement}
 use Rattle.environments.proofs.entries.found.Tie as tie
-use Rattle.environments.proofs.entries.found.Reads as reads
-use Rattle.environments.proofs.entries.found.Lts as lts
-use Rattle.environments.proofs.blocks.at.Reads as at_reads
 use Rattle.environments.specs.Columns.{found}
 
 cast-at : tie.Need-overflow_cast-x

@@ -2,8 +2,6 @@
 use Rattle.std.proofs.Common.{refl, rules}
 use Rattle.environments.proofs.entries.get.Statement.{statement}
 use Rattle.environments.proofs.entries.get.Tie as tie
-use Rattle.environments.proofs.entries.get.Reads as reads
-use Rattle.environments.proofs.entries.get.Lts as lts
 use Rattle.environments.specs.Columns.{entry_of}
 
 returns : tie.Need-returns

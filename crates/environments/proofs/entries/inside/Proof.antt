@@ -2,9 +2,6 @@
 use Rattle.std.proofs.Common.{refl, rules, ne_eqb}
 use Rattle.environments.proofs.entries.inside.Statement.{statement}
 use Rattle.environments.proofs.entries.inside.Tie as tie
-use Rattle.environments.proofs.entries.inside.Reads as reads
-use Rattle.environments.proofs.entries.inside.Lts as lts
-use Rattle.environments.proofs.blocks.at.Reads as at_reads
 use Rattle.environments.specs.Columns.{inside}
 
 cast-at : tie.Need-overflow_cast-x

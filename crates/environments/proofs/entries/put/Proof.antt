@@ -2,8 +2,6 @@
 use Rattle.std.proofs.Common.{arith, length-set, rules}
 use Rattle.environments.proofs.entries.put.Statement.{statement}
 use Rattle.environments.proofs.entries.put.Tie as tie
-use Rattle.environments.proofs.entries.put.Reads as reads
-use Rattle.environments.proofs.entries.put.Lts as lts
 use Rattle.environments.specs.ColumnLaws.{entry-stored}
 
 slice-write-env-2 : tie.Need-bounds-env-i-2

@@ -2,10 +2,6 @@
 use Rattle.std.proofs.Common.{◌≡◌, sym, ap, ◌∙◌, rules}
 use Rattle.environments.proofs.entries.set.Statement.{statement}
 use Rattle.environments.proofs.entries.set.Tie as tie
-use Rattle.environments.proofs.entries.set.Reads as reads
-use Rattle.environments.proofs.entries.set.Lts as lts
-use Rattle.environments.proofs.entries.get.Reads as get-reads
-use Rattle.environments.proofs.entries.put.Reads as put_reads
 use Rattle.environments.specs.declared.entries.Entry.{Entry}
 use Rattle.environments.specs.ColumnLaws.{set_past, set-kept, set-stored}
 

@@ -2,10 +2,6 @@
 use Rattle.std.proofs.Common.{refl, arith, rules}
 use Rattle.environments.proofs.environment.copies.Statement.{statement}
 use Rattle.environments.proofs.environment.copies.Tie as tie
-use Rattle.environments.proofs.environment.copies.Reads as reads
-use Rattle.environments.proofs.environment.copies.Lts as lts
-use Rattle.environments.proofs.environment.next_level.Reads as next-level-reads
-use Rattle.environments.proofs.shares.share.Reads as share-reads
 use Rattle.environments.specs.EntryLaws.{next-most, copies-out, copies-flat, copies-in}
 
 returns : tie.Need-returns-then-k-ge-VARIABLES

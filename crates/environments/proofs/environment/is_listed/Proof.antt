@@ -2,10 +2,6 @@
 use Rattle.std.proofs.Common.{arith, rules}
 use Rattle.environments.proofs.environment.is_listed.Statement.{statement}
 use Rattle.environments.proofs.environment.is_listed.Tie as tie
-use Rattle.environments.proofs.environment.is_listed.Reads as reads
-use Rattle.environments.proofs.environment.is_listed.Lts as lts
-use Rattle.arena.proofs.cells.reference.Reads as reference-reads
-use Rattle.arena.proofs.cells.word.Reads as word-reads
 use mathlib.Core.Bool.{false≢true}
 use Rattle.environments.specs.EntryLaws.{listed-is}
 

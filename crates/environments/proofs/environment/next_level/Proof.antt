@@ -1,9 +1,6 @@
 -- `environment::next_level`: the first list, or the second.
 use Rattle.environments.proofs.environment.next_level.Statement.{statement}
 use Rattle.environments.proofs.environment.next_level.Tie as tie
-use Rattle.environments.proofs.environment.next_level.Reads as reads
-use Rattle.environments.proofs.environment.next_level.Lts as lts
-use Rattle.std.proofs.Common.{sym, refl, ap, ◌∙◌, arith, rules}
 use Rattle.environments.specs.EntryLaws.{level-first, level-second}
 
 returns : tie.Need-returns-then-d-eq0

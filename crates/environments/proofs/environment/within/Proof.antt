@@ -2,11 +2,6 @@
 use Rattle.std.proofs.Common.{rules}
 use Rattle.environments.proofs.environment.within.Statement.{statement}
 use Rattle.environments.proofs.environment.within.Tie as tie
-use Rattle.environments.proofs.environment.within.Reads as reads
-use Rattle.environments.proofs.environment.within.Lts as lts
-use Rattle.arena.proofs.cells.reference.Reads as reference-reads
-use Rattle.arena.proofs.lists.first.Reads as first_reads
-use Rattle.environments.proofs.parts.part.Reads as part-reads
 use Rattle.environments.specs.EntryLaws.{within-flat, within-part}
 
 returns : tie.Need-returns-then-q-eq0

@@ -1,5 +1,5 @@
 -- The proof of the cycle {slots}. The measure is the pattern's reference.
-use Rattle.std.proofs.Common.{ℕ, ◌<◌, sym, ◌∙◌, arith, rules}
+use Rattle.std.proofs.Common.{ℕ, ◌<◌, arith, rules}
 use borrow.Fn.Kinds.{In}
 use borrow.Fn.PlainCycle.{Measures, is, falls, and}
 use Rattle.environments.proofs.fill.slots.Reads as slots

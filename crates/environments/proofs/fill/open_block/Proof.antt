@@ -2,11 +2,6 @@
 use Rattle.std.proofs.Common.{arith, length-set, rules}
 use Rattle.environments.proofs.fill.open_block.Statement.{statement}
 use Rattle.environments.proofs.fill.open_block.Tie as tie
-use Rattle.environments.proofs.fill.open_block.Reads as reads
-use Rattle.environments.proofs.fill.open_block.Lts as lts
-use Rattle.arena.proofs.cells.reference.Reads as reference-reads
-use Rattle.environments.proofs.fill.slots.Reads as slots-reads
-use Rattle.environments.proofs.shares.share.Reads as share-reads
 use Rattle.environments.specs.FillLaws.{opened-none, opened-slots, opened-room, opened_some}
 
 returns : tie.Need-returns-then-c-eq0

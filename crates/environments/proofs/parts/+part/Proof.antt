@@ -1,6 +1,6 @@
 -- The proof of the cycle {part}. The loop's invariant: what is found further on is what is looked for. The measure is the pattern's
 -- reference.
-use Rattle.std.proofs.Common.{ℕ, ◌<◌, ◌≤◌, sym, refl, ap, ◌∙◌, arith, rules}
+use Rattle.std.proofs.Common.{ℕ, ◌<◌, ◌≤◌, sym, ◌∙◌, arith, rules}
 use borrow.Fn.Kinds.{In}
 use borrow.Fn.PlainCycle.{Measures, is, falls, and}
 use Rattle.environments.proofs.parts.part.Reads as part

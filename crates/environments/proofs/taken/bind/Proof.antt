@@ -2,11 +2,6 @@
 use Rattle.std.proofs.Common.{arith, rules}
 use Rattle.environments.proofs.taken.bind.Statement.{statement}
 use Rattle.environments.proofs.taken.bind.Tie as tie
-use Rattle.environments.proofs.taken.bind.Reads as reads
-use Rattle.environments.proofs.taken.bind.Lts as lts
-use Rattle.environments.proofs.columns.columns.Reads as columns-reads
-use Rattle.environments.proofs.fill.fill.Reads as fill-reads
-use Rattle.environments.proofs.fill.slots.Reads as slots-reads
 use Rattle.environments.specs.BindingLaws.{bind-small, bind-fillable, bind-words, bound-to}
 
 slots-requires : tie.Need-slots-width-requires

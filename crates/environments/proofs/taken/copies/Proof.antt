@@ -2,11 +2,6 @@
 use Rattle.std.proofs.Common.{sym, ◌∙◌, subst, arith, rules}
 use Rattle.environments.proofs.taken.copies.Statement.{statement}
 use Rattle.environments.proofs.taken.copies.Tie as tie
-use Rattle.environments.proofs.taken.copies.Reads as reads
-use Rattle.environments.proofs.taken.copies.Lts as lts
-use Rattle.environments.proofs.blocks.count.Reads as count-reads
-use Rattle.environments.proofs.blocks.slot.Reads as slot-reads
-use Rattle.environments.proofs.entries.get.Reads as get-reads
 use Rattle.environments.specs.Columns.{EntryStands}
 use Rattle.environments.specs.BindingLaws.{copies-tree, copies-list, copies-trees, copies-past, copies-inner}
 

@@ -1,12 +1,7 @@
 -- `taken::taken`: by the number of ellipses.
-use Rattle.std.proofs.Common.{sym, ◌∙◌, subst, arith, rules}
+use Rattle.std.proofs.Common.{sym, subst, arith, rules}
 use Rattle.environments.proofs.taken.taken.Statement.{statement}
 use Rattle.environments.proofs.taken.taken.Tie as tie
-use Rattle.environments.proofs.taken.taken.Reads as reads
-use Rattle.environments.proofs.taken.taken.Lts as lts
-use Rattle.environments.proofs.blocks.count.Reads as count-reads
-use Rattle.environments.proofs.blocks.slot.Reads as slot-reads
-use Rattle.environments.proofs.entries.get.Reads as get-reads
 use Rattle.environments.specs.Columns.{EntryStands}
 use Rattle.environments.specs.BindingLaws.{read-unset, read-other, read_whole, read_one, read_past, read-two}
 

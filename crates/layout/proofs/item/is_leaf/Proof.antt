@@ -2,10 +2,6 @@
 use borrow.Author.Rules.{rules}
 use Rattle.layout.proofs.item.is_leaf.Statement.{statement}
 use Rattle.layout.proofs.item.is_leaf.Tie as tie
-use Rattle.layout.proofs.item.are_places.Reads as are-places-reads
-use Rattle.layout.proofs.item.head.Reads as head-reads
-use Rattle.layout.proofs.item.kind.Reads as kind-reads
-use Rattle.layout.proofs.item.tail.Reads as tail-reads
 use mathlib.Core.Path.{◌≡◌, ap, sym, ◌∙◌}
 use Prim.Native.Nat.{◌<◌}
 use native.Mathlib.Omega.{arith}

@@ -7,7 +7,7 @@ use mathlib.Core.Path.{refl}
 use mathlib.Core.Bool.{true, false}
 use mathlib.Core.List.{[], ◌∷◌}
 use mathlib.Core.Logic.{⊎_elim}
-use borrow.Author.Tests.{leb-true, leb-false}
+use borrow.Author.Tests.{leb-true}
 use Rattle.words.specs.Lists.{within, any_of}
 use Rattle.words.specs.ListLaws.{valued, valued-at, any-neither}
 use Rattle.words.specs.Text.{bytes}

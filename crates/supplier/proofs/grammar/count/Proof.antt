@@ -1,9 +1,5 @@
 use Rattle.supplier.proofs.grammar.count.Statement.{statement}
 use Rattle.supplier.proofs.grammar.count.Tie as tie
-use Rattle.supplier.proofs.grammar.count.Reads as reads
-use Rattle.supplier.proofs.grammar.count.Lts as lts
-use Rattle.layout.proofs.item.kind.Reads as kind-reads
-use Rattle.layout.proofs.item.tail.Reads as tail-reads
 use native.Mathlib.Omega.{arith}
 use Prim.Native.Nat.{◌-◌, ◌≤◌}
 use lib.ListN.{length}

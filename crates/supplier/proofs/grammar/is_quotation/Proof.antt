@@ -1,11 +1,6 @@
 use borrow.Author.Rules.{rules}
 use Rattle.supplier.proofs.grammar.is_quotation.Statement.{statement}
 use Rattle.supplier.proofs.grammar.is_quotation.Tie as tie
-use Rattle.supplier.proofs.grammar.is_quotation.Reads as reads
-use Rattle.supplier.proofs.grammar.is_quotation.Lts as lts
-use Rattle.layout.proofs.item.head.Reads as head-reads
-use Rattle.layout.proofs.item.kind.Reads as kind-reads
-use Rattle.supplier.proofs.grammar.count.Reads as count-reads
 use Rattle.supplier.specs.ItemsLaws.{held_in, all_in}
 use Rattle.supplier.specs.ListLaws.{quotes-other, one-held, quotes-at-name, quotes-at-empty, quotes-at-pair, quotes-at-constant}
 

@@ -15,24 +15,25 @@ use Rattle.layout.proofs.item.is_list_kind.Reads as is-list-kind-reads
 use Rattle.supplier.proofs.front.constant.Reads as constant-reads
 use Rattle.supplier.proofs.grammar.list.Reads as list-reads
 use Rattle.supplier.proofs.walk.joined.Reads as joined-reads
+use Rattle.supplier.proofs.walk.left.Reads as left-reads
 use Rattle.supplier.proofs.walk.quoted_name.Reads as quoted-name-reads
 use Rattle.supplier.proofs.walk.reference.Reads as reference-reads
 use Rattle.supplier.proofs.walk.+all_expression.{statement}
 use Rattle.supplier.proofs.walk.+all_expression.Tie.{close}
+use Rattle.std.proofs.Common.{Ok}
 use mathlib.Core.Path.{◌≡◌, refl, sym, ◌∙◌}
 use native.Mathlib.Omega.{arith}
 use lib.ListN.{length}
 use borrow.Author.Rules.{rules}
 use borrow.Author.Tests.{not-true, not-false}
-use Rattle.words.specs.ListLaws.{rest-is}
 use Rattle.supplier.specs.Items.{HeldAll}
 use Rattle.supplier.specs.ItemsLaws.{held_in, all_in, name-held, head-held, tail-held}
 use Rattle.supplier.specs.Scope.{Kept}
-use Rattle.supplier.specs.Told.{found_of, Stands}
+use Rattle.supplier.specs.Told.{found_of, Within}
 use Rattle.supplier.specs.StartLaws.{Walking, walking_start, walking-next, walking-end, next-within, walks-name, walks-quoted, walks-constant, list_held, start-held, walks-list}
 
 abbrev μ-all : Measures 6 all_kinds.ps ℕ
-μ-all κs a = 2 * (length a.0.now - a.1.1.1.1.1.1.0.i)
+μ-all κs a = 2 * (length a.0.now - a.1.1.1.1.1.1.0.place.i)
 
 abbrev μ-expression : Measures 6 expression-kinds.ps ℕ
 μ-expression κs a = 2 * (length a.0.now - a.1.1.1.1.1.1.0.i) + 1
@@ -51,14 +52,14 @@ expression-below t = and 6 expression-kinds.ps (falls 6 expression-kinds.ps ◌<
 
 abbrev all-Inv-loop : all-lts.invariant-loop-from
 all-Inv-loop items words theirs ours operations scope₀ from j₀ found₀ scope j found =
-    HeldAll items j × Walking theirs ours operations items from.quoted scope₀ from.top from.i j (found_of words from.rank from.taken) (found_of words found.rank found.taken) × Stands words found.rank found.taken
-    × Kept from.top scope₀ scope × (length scope ≡ length scope₀) × (from.i ≤ j)
+    HeldAll items j × Walking theirs ours operations items from.place.quoted scope₀ from.place.top from.place.i j (found_of words from.found) (found_of words found) × Within words found
+    × Kept from.place.top scope₀ scope × (length scope ≡ length scope₀) × (from.place.i ≤ j)
 
 abbrev all-μ-loop : all-lts.decreases-loop-from
 all-μ-loop items words theirs ours operations scope₀ from j₀ found₀ scope j found = length items - j
 
 abbrev all-claims : ℕ → all-lts.Claims
-all-claims t = (kind-reads.Asked, kind-reads.Learnt, head-reads.Asked, head-reads.Learnt, expression-below t, expression.Post, joined-reads.Asked, joined-reads.Learnt, tail-reads.Asked, tail-reads.Learnt)
+all-claims t = (kind-reads.Asked, kind-reads.Learnt, head-reads.Asked, head-reads.Learnt, left-reads.Asked, left-reads.Learnt, expression-below t, expression.Post, joined-reads.Asked, joined-reads.Learnt, tail-reads.Asked, tail-reads.Learnt)
 
 abbrev expression-claims : ℕ → expression-lts.Claims
 expression-claims t = (kind-reads.Asked, kind-reads.Learnt, head-reads.Asked, head-reads.Learnt, quoted-name-reads.Asked, quoted-name-reads.Learnt, reference-reads.Asked, reference-reads.Learnt, is-list-kind-reads.Asked, is-list-kind-reads.Learnt, tail-reads.Asked, tail-reads.Learnt, constant-reads.Asked, constant-reads.Learnt, list-reads.Asked, list-reads.Learnt, all-below t, all.Post)
@@ -75,21 +76,9 @@ all-head-requires : (t : ℕ) → all-lts.Need-head-requires (all-claims t) (all
 all-head-requires t c κs =
     all_in _ _ c.loop-from.invariant.0
 
-all-mul-expression : (t : ℕ) → all-lts.Need-offset_bounds-words-taken (all-claims t) (all-at t) all.Post all-Inv-loop all-μ-loop
-all-mul-expression t c =
-    omega (arith, c.loop-from.invariant.2.within, c.well_formed)
-
-all-sub-expression : (t : ℕ) → all-lts.Need-slice_bounds-expression-count (all-claims t) (all-at t) all.Post all-Inv-loop all-μ-loop
-all-sub-expression t c =
-    omega (arith, c.loop-from.invariant.2.within)
-
-all-part-expression-start : (t : ℕ) → all-lts.Need-slice_bounds-expression-start (all-claims t) (all-at t) all.Post all-Inv-loop all-μ-loop
-all-part-expression-start t c =
-    omega (arith, c.loop-from.invariant.2.within)
-
-all-part-expression-end : (t : ℕ) → all-lts.Need-slice_bounds-expression-end (all-claims t) (all-at t) all.Post all-Inv-loop all-μ-loop
-all-part-expression-end t c =
-    omega (arith, c.loop-from.invariant.2.within)
+all-left-requires : (t : ℕ) → all-lts.Need-left-rest-requires (all-claims t) (all-at t) all.Post all-Inv-loop all-μ-loop
+all-left-requires t c κs =
+    c.loop-from.invariant.2
 
 all-expression-requires : (t : ℕ) → all-lts.Need-expression-next-requires (all-claims t) (all-at t) all.Post all-Inv-loop all-μ-loop
 all-expression-requires t c κs =
@@ -98,7 +87,7 @@ all-expression-requires t c κs =
 
 all-joined-requires : (t : ℕ) → all-lts.Need-joined-found-requires (all-claims t) (all-at t) all.Post all-Inv-loop all-μ-loop
 all-joined-requires t c κs =
-    (c.loop-from.invariant.2.within, next-within _ _ _ _ _ _ _ _ _ _ _ _ c.loop-from.invariant.1 _ c.kind.ensures c.loop-from-test.true _ c.head.ensures c.loop-from.invariant.2 _ c.loop-from.invariant.3 _ (rest-is c.loop-from.found.taken c.args.words.now) _ c.expression-next.ensures.0 (head-held _ _ _ c.kind.ensures c.loop-from-test.true c.loop-from.invariant.0 _ c.head.ensures).0)
+    (c.loop-from.invariant.2, next-within _ _ _ _ _ _ _ _ _ _ _ _ c.loop-from.invariant.1 _ c.kind.ensures c.loop-from-test.true _ c.head.ensures _ c.loop-from.invariant.3 _ c.left-rest.ensures _ c.expression-next.ensures.0 (head-held _ _ _ c.kind.ensures c.loop-from-test.true c.loop-from.invariant.0 _ c.head.ensures).0)
 
 all-tail-requires : (t : ℕ) → all-lts.Need-tail-j-requires (all-claims t) (all-at t) all.Post all-Inv-loop all-μ-loop
 all-tail-requires t c κs =
@@ -110,7 +99,7 @@ all-loop-less t c =
 
 all-loop-again : (t : ℕ) → all-lts.Need-loop-from-preserved (all-claims t) (all-at t) all.Post all-Inv-loop all-μ-loop
 all-loop-again t c =
-    let n = tail-held _ _ _ c.kind.ensures c.loop-from-test.true c.loop-from.invariant.0 _ c.tail-j.ensures in (n.0, walking-next _ _ _ _ _ _ _ _ _ _ _ _ c.loop-from.invariant.1 _ c.kind.ensures c.loop-from-test.true _ c.head.ensures c.loop-from.invariant.2 _ c.loop-from.invariant.3 _ (rest-is c.loop-from.found.taken c.args.words.now) _ c.expression-next.ensures.0 _ c.joined-found.ensures _ c.tail-j.ensures, (c.joined-found.ensures _ refl).1, (λ k l. c.expression-next.ensures.1 k l ∙ c.loop-from.invariant.3 k l), c.expression-next.auto.scope ∙ c.loop-from.invariant.4, omega (arith, c.loop-from.invariant.5, n.1))
+    let n = tail-held _ _ _ c.kind.ensures c.loop-from-test.true c.loop-from.invariant.0 _ c.tail-j.ensures in (n.0, walking-next _ _ _ _ _ _ _ _ _ _ _ _ c.loop-from.invariant.1 _ c.kind.ensures c.loop-from-test.true _ c.head.ensures _ c.loop-from.invariant.3 _ c.left-rest.ensures _ c.expression-next.ensures.0 _ c.joined-found.ensures _ c.tail-j.ensures, c.joined-found.ensures.within, (λ k l. c.expression-next.ensures.1 k l ∙ c.loop-from.invariant.3 k l), c.expression-next.auto.scope ∙ c.loop-from.invariant.4, omega (arith, c.loop-from.invariant.5, n.1))
 
 all-same-length : (t : ℕ) → all-lts.Need-shape_of-scope (all-claims t) (all-at t) all.Post all-Inv-loop all-μ-loop
 all-same-length t c =
@@ -160,11 +149,11 @@ expression-returns-3 t c =
 
 expression-list-requires : (t : ℕ) → expression-lts.Need-list-from-requires (expression-claims t) (expression-at t) expression.Post
 expression-list-requires t c κs =
-    (list_held c.args.theirs.now c.args.ours.now c.args.operations.now _ c.args.words.now c.args.at.quoted c.args.scope.now c.args.at.top _ _ c.kind-k.ensures (record { rank = 0; taken = 0 }) (sym c.is_list_kind.ensures ∙ not-false _ c.if-not-is_list_kind.false-raw) c.requires.1.0, c.requires.1.1)
+    (list_held c.args.theirs.now c.args.ours.now c.args.operations.now _ c.args.words.now c.args.at.quoted c.args.scope.now c.args.at.top _ _ c.kind-k.ensures (Ok 0) (sym c.is_list_kind.ensures ∙ not-false _ c.if-not-is_list_kind.false-raw) c.requires.1.0, c.requires.1.1)
 
 expression-all-requires : (t : ℕ) → expression-lts.Need-all-requires (expression-claims t) (expression-at t) expression.Post
 expression-all-requires t c κs =
-    let s = c.list-from.ensures in (omega (arith, c.requires.0, s.1.later), (start-held c.args.theirs.now c.args.ours.now c.args.operations.now _ c.args.words.now c.args.at.quoted c.args.scope.now c.args.at.top _ _ c.kind-k.ensures (record { rank = 0; taken = 0 }) (sym c.is_list_kind.ensures ∙ not-false _ c.if-not-is_list_kind.false-raw) c.args.at refl refl refl _ _ s c.requires.1.0, (s.1.room, c.requires.1.1.1, omega (arith, c.requires.1.1.2, c.list-from.auto.scope)), c.requires.1.2, s.1.stands))
+    let s = c.list-from.ensures in (omega (arith, c.requires.0, s.1.later), (start-held c.args.theirs.now c.args.ours.now c.args.operations.now _ c.args.words.now c.args.at.quoted c.args.scope.now c.args.at.top _ _ c.kind-k.ensures (Ok 0) (sym c.is_list_kind.ensures ∙ not-false _ c.if-not-is_list_kind.false-raw) c.args.at refl refl refl _ _ s c.requires.1.0, (s.1.room, c.requires.1.1.1, omega (arith, c.requires.1.1.2, c.list-from.auto.scope)), c.requires.1.2, s.1.within))
 
 expression-same-length-2 : (t : ℕ) → expression-lts.Need-shape_of-scope (expression-claims t) (expression-at t) expression.Post
 expression-same-length-2 t c =
@@ -185,10 +174,7 @@ pub +all_expression_spec : {M : Type 1} → statement M
     (all-loop-holds t)
     (all-kind-requires t)
     (all-head-requires t)
-    (all-mul-expression t)
-    (all-sub-expression t)
-    (all-part-expression-start t)
-    (all-part-expression-end t)
+    (all-left-requires t)
     (all-expression-requires t)
     (all-joined-requires t)
     (all-tail-requires t)

@@ -1,0 +1,5 @@
+-- The proof of the recursion of `drivers`. The measure is the template's reference.
+use Rattle.environments.proofs.lengths.+drivers.Given as goal
+
+abbrev pub decreases-drivers : goal.decreases-drivers
+decreases-drivers l = l.t

@@ -1,0 +1,7 @@
+-- The measure is what the table lacks to be the larger one, which is never full.
+use Rattle.std.proofs.Common.{◌+◌, ◌*◌, ◌-◌, length}
+use Rattle.arena.specs.Arena.{step_limit}
+use Rattle.resolution.proofs.names.+summary_grown.Given as goal
+
+abbrev pub decreases-summary_grown : goal.decreases-summary_grown
+decreases-summary_grown l = (3 * step_limit + 1) - length l.table.now
