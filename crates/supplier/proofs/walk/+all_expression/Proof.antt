@@ -99,7 +99,18 @@ all-loop-less t c =
 
 all-loop-again : (t : ℕ) → all-lts.Need-loop-from-preserved (all-claims t) (all-at t) all.Post all-Inv-loop all-μ-loop
 all-loop-again t c =
-    let n = tail-held _ _ _ c.kind.ensures c.loop-from-test.true c.loop-from.invariant.0 _ c.tail-j.ensures in (n.0, walking-next _ _ _ _ _ _ _ _ _ _ _ _ c.loop-from.invariant.1 _ c.kind.ensures c.loop-from-test.true _ c.head.ensures _ c.loop-from.invariant.3 _ c.left-rest.ensures _ c.expression-next.ensures.0 _ c.joined-found.ensures _ c.tail-j.ensures, c.joined-found.ensures.within, (λ k l. c.expression-next.ensures.1 k l ∙ c.loop-from.invariant.3 k l), c.expression-next.auto.scope ∙ c.loop-from.invariant.4, omega (arith, c.loop-from.invariant.5, n.1))
+    let k = c.kind.ensures in
+    let again = c.loop-from-test.true in
+    let stays = c.loop-from.invariant in
+    let n = tail-held _ _ _ k again stays.0 _ c.tail-j.ensures in (
+      n.0,
+      walking-next _ _ _ _ _ _ _ _ _ _ _ _ stays.1 _ k again _ c.head.ensures _ stays.3 _ c.left-rest.ensures _
+          c.expression-next.ensures.0 _ c.joined-found.ensures _ c.tail-j.ensures,
+      c.joined-found.ensures.within,
+      (λ m l. c.expression-next.ensures.1 m l ∙ stays.3 m l),
+      c.expression-next.auto.scope ∙ stays.4,
+      omega (arith, stays.5, n.1),
+    )
 
 all-same-length : (t : ℕ) → all-lts.Need-shape_of-scope (all-claims t) (all-at t) all.Post all-Inv-loop all-μ-loop
 all-same-length t c =
