@@ -1,12 +1,14 @@
 -- Laws of counting references (ground 7): every item but item 0 is referred to by exactly one word.
 use Rattle.std.specs.Prelude.{◌≡◌, Bool, true, false, cond, ◌&&◌, ◌||◌, set, replicate}
 use Rattle.std.proofs.Math.Path.{refl}
-use Rattle.std.proofs.Common.{sym, ap, ◌∙◌, add-one, get_or-set_same, get_or-set_other, eqb-true, ne_eqb}
+use Rattle.std.proofs.Common.{sym, ap, ◌∙◌, add-one, get_or-set_same, get_or-set_other, eqb-true, eq-eqb, ne_eqb}
 use Rattle.std.proofs.Math.Bool.{and-true, and_assoc}
 use mathlib.Core.List.{List, [], ◌∷◌}
 use Prim.Native.Nat.{ℕ, zero, suc, ◌+◌, ◌-◌, ◌*◌, ◌<◌, ◌≤◌}
 use native.Mathlib.Omega.{arith}
 use Rattle.std.specs.List.{between, list_all}
+use Rattle.std.specs.Int.Bits.{bit_or, or_add_and, bit_xor, xor_add_and, xor_self}
+use Rattle.std.proofs.lemmas.Nat.{and_le_l, and_le_r}
 use Rattle.std.proofs.Math.Seq.{take-suc}
 use Rattle.std.proofs.lemmas.Grind.{get_or_after_one}
 use Rattle.std.proofs.lemmas.List.Folds.{list_all-append}
@@ -15,6 +17,7 @@ use Rattle.std.proofs.Math.ListN.{length, get_or, take, drop, drop_of_length-le}
 use Rattle.std.proofs.lemmas.List.{length-replicate, get_or-replicate, length-drop}
 use Rattle.std.proofs.lemmas.Bool.{eqb-false}
 use Rattle.words.specs.Lists.{all_of}
+use Rattle.words.specs.TestLaws.{iff-eq, and_parts, and_both}
 use Rattle.recipe.specs.Table.{Item, items, references, occurrences, kind_at, is_item, is_referred_once}
 use Rattle.recipe.specs.ItemLaws.{item_at, items-length, items-drop}
 use Rattle.recipe.specs.TreeFrom.{head_at, tail_at}
@@ -146,6 +149,33 @@ module _ (ws : List ℕ) (n : ℕ) (e : length ws ≡ 3 * n) where
       omega (arith, s)
 
 -- ---- the test of each count
+
+-- no bit is set in either of two numbers only where both are 0
+bit_or-zero : (a b : ℕ) → eqb (bit_or a b) 0 ≡ (eqb a 0 && eqb b 0)
+bit_or-zero a b = iff-eq (eqb (bit_or a b) 0) (eqb a 0 && eqb b 0) (λ e. apart (eqb-true (bit_or a b) 0 e)) (λ e. together (and_parts (eqb a 0) (eqb b 0) e))
+  where
+    apart : bit_or a b ≡ 0 → (eqb a 0 && eqb b 0) ≡ true
+    apart e =
+        let p : a ≡ 0 = omega (arith, or_add_and a b, and_le_r a b) in
+        let q : b ≡ 0 = omega (arith, or_add_and a b, and_le_l a b) in
+        and_both (eqb a 0) (eqb b 0) (eq-eqb a 0 p) (eq-eqb b 0 q)
+
+    together : (eqb a 0 ≡ true) × (eqb b 0 ≡ true) → eqb (bit_or a b) 0 ≡ true
+    together p = rw (eqb-true a 0 p.0, eqb-true b 0 p.1)
+
+-- no bit differs only where two numbers are equal
+bit_xor-zero : (a b : ℕ) → eqb (bit_xor a b) 0 ≡ eqb a b
+bit_xor-zero a b =
+    iff-eq (eqb (bit_xor a b) 0) (eqb a b)
+    (λ e. let z : bit_xor a b ≡ 0 = eqb-true (bit_xor a b) 0 e in eq-eqb a b (omega (arith, xor_add_and a b, and_le_l a b, and_le_r a b)))
+    (λ e. rw (eqb-true a b e) (eq-eqb (bit_xor b b) 0 (xor_self b)))
+
+-- the bits by which the counts passed are wrong, and of one count more
+pub ones-more : (wrong i : ℕ) (counts : List ℕ) → 0 < i → eqb wrong 0 ≡ are_ones counts i → eqb (bit_or wrong (bit_xor (get_or counts i 0) 1)) 0 ≡ are_ones counts (i + 1)
+unfolding are_ones
+ones-more wrong i counts z e =
+    let nz : i ≡ 0 → ⊥ = λ q. omega arith in
+    rw (add-one, bit_or-zero, bit_xor-zero, e, ne_eqb i 0 nz)
 
 -- all counts but the first, as a part of the table
 ones-behind : (counts : List ℕ) (m : ℕ) → m < length counts → are_ones counts (suc m) ≡ list_all (λ x. eqb x 1) (take m (drop 1 counts))

@@ -51,12 +51,16 @@ fn items_fit(table: &[u32], n: usize, counts: &mut [u16]) -> bool
     true
 }
 
-// Every count of the n but the first is 1.
+// Every count of the n but the first is 1. No early exit: the loop is vectorised.
 fn ones(counts: &[u16], n: usize) -> bool
     requires { (0 < n) × (n ≤ length counts.now) }
     ensures { result ≡ are_ones counts.now n }
 {
-    counts[1..n].iter().all(|count| *count == 1)
+    let mut wrong = 0;
+    for i in 1..n {
+        wrong |= counts[i] ^ 1;
+    }
+    wrong == 0
 }
 
 // Both tests, by a table of zeros with a count for each item.

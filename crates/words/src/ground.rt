@@ -1,5 +1,5 @@
 // The grounds on which a service turns its input back, each with its number.
-ghost use Rattle.std.specs.Prelude.{◌≡◌};
+ghost use Rattle.std.specs.Prelude.{◌≡◌, Some, decimal};
 ghost use Rattle.words.specs.Code.Ground.{number_of};
 
 use std::fmt;
@@ -70,7 +70,10 @@ impl Ground {
     }
 }
 
+// Its number is what is printed of it.
 impl fmt::Display for Ground {
+    ghost output = { λ ground. Some (decimal (number_of ground)) };
+
     fn fmt<W: fmt::Write>(&self, f: &mut fmt::Formatter<W>) -> fmt::Result {
         let number = self.number();
         write!(f, "{number}")
