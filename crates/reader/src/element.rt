@@ -11,6 +11,7 @@ use crate::place::{Place, close_list, open_list, put_token};
 use datum::kinds;
 use lexer::token::{Lexeme, Token};
 use words::ground::Ground;
+use words::signed::to_word;
 
 // A name, by the number it has or the next one.
 fn put_name(
@@ -73,7 +74,7 @@ pub fn take(
                 items,
                 place,
                 kind,
-                n.value.cast_unsigned(),
+                to_word(n.value),
                 n.places,
                 place.known,
             )

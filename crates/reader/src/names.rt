@@ -68,7 +68,9 @@ fn store(names: &mut [u8], number: usize, word: &[u8])
     let start = words::SLOT * number;
     let from = start + 1;
     names[start] = word.len() as u8;
-    names[from..from + word.len()].copy_from_slice(word);
+    for i in 0..word.len() {
+        names[from + i] = word[i];
+    }
 }
 
 // A name more: its word in its slot, and its number in the index.

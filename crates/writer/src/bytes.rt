@@ -16,7 +16,8 @@ pub fn byte(b: u8, out: &mut [u8], at: usize, ink: bool) -> Option<usize>
     Some(at + 1)
 }
 
-// The place behind the bytes, if the output is long enough.
+// The place behind the bytes, if the output is long enough. They are laid by a loop, most being few; `copy_from_slice` would call `memmove`,
+// which who links the services for C need not have.
 pub fn copy(src: &[u8], out: &mut [u8], at: usize, ink: bool) -> Option<usize>
     requires { at ≤ length out.old }
     ensures { Left ink src.now at out.old out.new result }
@@ -26,7 +27,9 @@ pub fn copy(src: &[u8], out: &mut [u8], at: usize, ink: bool) -> Option<usize>
     }
     let to = at + src.len();
     if ink {
-        out[at..to].copy_from_slice(src);
+        for i in 0..src.len() {
+            out[at + i] = src[i];
+        }
     }
     Some(to)
 }

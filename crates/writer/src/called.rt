@@ -18,7 +18,9 @@ fn put(names: &[u32], table: &mut [u32], at: usize)
     requires { at + length names.now ≤ length table.old }
     ensures { table.new ≡ paste table.old at names.now (length names.now) }
 {
-    table[at..at + names.len()].copy_from_slice(names);
+    for i in 0..names.len() {
+        table[at + i] = names[i];
+    }
 }
 
 // The names that the words' lambdas hold, one after another: all of them, of which there are so many.

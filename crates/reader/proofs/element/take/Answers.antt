@@ -27,8 +27,8 @@ returns-in-Boolean c =
 
 pub returns-in-Number : goal.returns-in-Number
 returns-in-Number c =
-    let same : c.cast_unsigned.result ≡ of_z w32 c.in-Number.n.value = search rules in
+    let same : c.to_word.result ≡ of_z w32 c.in-Number.n.value = search rules in
     rw (c.in_ok-lexeme.was, c.in-Number.is)
-    (constant-taken c.args.place c.args.items.now c.put_token-in-Number.new.items c.args.names.now c.args.index.now _ c.number_kind-kind.result c.cast_unsigned.result
+    (constant-taken c.args.place c.args.items.now c.put_token-in-Number.new.items c.args.names.now c.args.index.now _ c.number_kind-kind.result c.to_word.result
     c.in-Number.n.places _
     (rw same (c.number_kind-kind.ensures _)) c.put_token-in-Number.ensures)

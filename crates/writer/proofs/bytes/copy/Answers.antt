@@ -1,5 +1,7 @@
-use Rattle.std.proofs.Common.{refl, sym, arith}
-use Rattle.std.proofs.lemmas.Slice.{put_mid-paste}
+use Rattle.std.specs.Prelude.{List, ℕ, ◌+◌, set, get_or}
+use Rattle.std.proofs.Common.{refl, sym, ap, ◌∙◌, arith, length-set}
+use Rattle.std.proofs.Math.Seq.{paste-zero}
+use Rattle.words.specs.ListLaws.{paste_more}
 use Rattle.writer.specs.Laid.{done, full}
 use Rattle.writer.specs.LaidLaws.{laid-dry, copy_done}
 use Rattle.writer.proofs.bytes.copy.Goals as goal
@@ -10,8 +12,21 @@ returns-then-out-at c = full (omega arith) (λ h. refl)
 pub returns-else-ink : goal.returns-else-ink
 returns-else-ink c = done refl (omega arith) (sym (laid-dry c.args.ink _ _ _ c.if-ink.false))
 
-pub returns-then-ink : goal.returns-then-ink
-returns-then-ink c =
+pub loop-i-init : goal.loop-i-init
+loop-i-init c =
+    (refl, omega arith, paste-zero c.args.out.now c.args.at c.args.src.now)
+
+pub loop-i-preserved : goal.loop-i-preserved
+loop-i-preserved c =
     let a = c.args in
-    done refl (omega arith)
-    (copy_done a.out.now a.at a.src.now _ _ a.ink refl c.if-ink.true (put_mid-paste a.at _ a.out.now _ a.src.now _ c.copy_from_slice.ensures.after (omega arith) refl))
+    let i = c.loop-i.i in
+    (
+      length-set c.loop-i.out (a.at + i) (get_or a.src.now i 0) ∙ c.loop-i.invariant.0,
+      omega arith,
+      ap (λ (l : List ℕ). set l (a.at + i) (get_or a.src.now i 0)) c.loop-i.invariant.2 ∙ paste_more a.out.now a.at a.src.now i (omega arith) (omega arith),
+    )
+
+pub returns-after-loop-i : goal.returns-after-loop-i
+returns-after-loop-i c =
+    let a = c.args in
+    done refl (omega arith) (copy_done a.out.now a.at a.src.now _ c.loop-i.i a.ink (omega arith) c.if-ink.true c.loop-i.invariant.2)
