@@ -38,9 +38,12 @@ pub fn name_good(n: usize, names: &[u8], tabled: bool) -> bool
 fn names_good(formals: &[u32], names: &[u8], tabled: bool) -> bool
     ensures { result ≡ all_of (good_name tabled names.now) formals.now }
 {
-    formals
-        .iter()
-        .all(|n| name_good(*n as usize, names, tabled))
+    for i in 0..formals.len() {
+        if !name_good(formals[i] as usize, names, tabled) {
+            return false;
+        }
+    }
+    true
 }
 
 // How many variables are bound behind the node at the beginning of words, if it may stand: inside quote a datum, a variable in scope,

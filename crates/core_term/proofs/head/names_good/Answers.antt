@@ -1,13 +1,20 @@
 -- One name after another.
-use Rattle.std.proofs.Common.{rules, tests, ◌∙◌}
-use Rattle.std.proofs.lemmas.Iterator.{YieldsList-from_slice}
-use Rattle.std.proofs.lemmas.Iterator.Search.{all_from_yields_List}
+use Rattle.std.proofs.Common.{refl, sym, ap, ◌∙◌, arith}
 use Rattle.core_term.specs.Code.Window.{good_name}
-use Rattle.core_term.specs.Code.WindowLaws.{list_all-all_of}
+use Rattle.core_term.specs.Code.WindowLaws.{names-next, names-bad, names-end}
 use Rattle.core_term.proofs.head.names_good.Goals as goal
+
+pub loop-i-init : goal.loop-i-init
+loop-i-init c = (omega arith, refl)
+
+pub returns-then-not-name_good : goal.returns-then-not-name_good
+returns-then-not-name_good c =
+    names-bad _ c.args.formals.now _ c.loop-i.invariant.1 (omega arith) (sym c.if-not-name_good.ensures)
+
+pub loop-i-preserved : goal.loop-i-preserved
+loop-i-preserved c =
+    (omega arith, names-next _ c.args.formals.now _ c.loop-i.invariant.1 (omega arith) (sym c.if-not-name_good.ensures))
 
 pub returns : goal.returns
 returns c =
-    let good = good_name c.args.tabled c.args.names.now in
-    all_from_yields_List good _ _ c.all.result c.all.ensures.ran (YieldsList-from_slice c.args.formals.now cc) (λ x b q k. search (rules, tests))
-    ∙ list_all-all_of good c.args.formals.now
+    names-end _ c.args.formals.now c.loop-i.i c.loop-i.invariant.1 (omega arith)
