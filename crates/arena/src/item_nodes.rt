@@ -14,7 +14,10 @@ fn node_of(count: u32, item: u32) -> u32
     requires { count ≤ items_most }
     ensures { result ≡ node_of count item }
 {
-    3 * count.saturating_sub(item)
+    if count < item {
+        return 0;
+    }
+    3 * (count - item)
 }
 
 // The node of the item before those that are laid out; answers the new top.

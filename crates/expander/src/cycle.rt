@@ -88,7 +88,10 @@ fn operands(
     let mut reached = from;
     while cells::word(work, list, cells::KIND) == cells::PAIR {
         let head = cells::reference(work, list, cells::HEAD);
-        reached = operand(work, core, known, operations, fuel, head, wrap, reached)?;
+        match operand(work, core, known, operations, fuel, head, wrap, reached) {
+            Ok(next) => reached = next,
+            Err(refused) => return Err(refused),
+        }
         list = cells::reference(work, list, cells::TAIL);
     }
     Ok(reached)

@@ -1,7 +1,8 @@
 -- Laws of quoting, one for each way through the code.
-use Rattle.std.specs.Prelude.{◌≡◌, true, List, [], ◌∷◌, ◌++◌, ℕ, suc, ◌+◌, ◌≤◌, ◌<◌, length, take, drop}
+use Rattle.std.specs.Prelude.{◌≡◌, true, List, [], ◌∷◌, ◌++◌, ℕ, suc, ◌+◌, ◌≤◌, ◌<◌, length, take, drop, set}
 use Rattle.std.proofs.Math.Path.{refl, sym}
 use Rattle.std.proofs.Common.{ap, ap₂, subst, ◌∙◌, append_assoc, append-nil, arith, add-one, length-append, take-append-drop, take_at, drop_at, drop-drop, length-take-le}
+use Rattle.std.proofs.lemmas.List.Edits.{sets-eq}
 use Rattle.datum.specs.Constant.{Constant, decimal_kind, constant_words}
 use Rattle.datum.specs.ConstantLaws.{made, kind-most, words-decimal, words-other}
 use Rattle.datum.specs.Datum as D
@@ -47,6 +48,9 @@ written_then at d c b e g n r l p q =
       words = q.words ∙ rw (e1, e2) (simp append_assoc);
     }
 
+pub written-two : (d : List ℕ) (at a b : ℕ) → at + 2 ≤ length d → Written (a ∷ b ∷ []) d (set (set d at a) (at + 1) b) at (at + 2)
+written-two d at a b h = record { end = refl; words = rw (add-one at) (sets-eq (a ∷ b ∷ []) d at h) }
+
 -- a constant's words, with its places where it is a decimal
 module _ (d : List ℕ) (at kind first second : ℕ) (h : at + length (constant_words (made kind first second)) ≤ length d) where
   pub decimal-room : kind ≡ decimal_kind → at + 3 ≤ length d
@@ -54,6 +58,12 @@ module _ (d : List ℕ) (at kind first second : ℕ) (h : at + length (constant_
 
   pub other-room : (kind ≡ decimal_kind → ⊥) → at + 2 ≤ length d
   other-room n = omega (arith, ap length (words-other (made kind first second) n))
+
+  pub decimal-stored : kind ≡ decimal_kind → Written (constant_words (made kind first second)) d (set (set (set d at 9) (at + 1) first) (at + 2) second) at (at + 3)
+  decimal-stored e =
+      let w = words-decimal (made kind first second) e in
+      let two : at + 2 ≡ suc (suc at) = omega arith in
+      rw w (record { end = refl; words = rw (add-one at, two) (sets-eq (9 ∷ first ∷ second ∷ []) d at (decimal-room e)) })
 
   pub written-decimal : kind ≡ decimal_kind → (e : List ℕ) (r : ℕ) → Written (9 ∷ first ∷ second ∷ []) d e at r → Written (constant_words (made kind first second)) d e at r
   written-decimal k e r w = rw (words-decimal (made kind first second) k) w

@@ -11,14 +11,15 @@ use core_term::codes;
 use datum::constants;
 use resolution::names;
 
-// Words from `at`; answers where the next stand.
+// Words from `at`; answers where the next stand. One by one: a few words copied as a slice would go through memory.
 pub fn put(core: &mut [u32], at: usize, words: &[u32]) -> usize
     requires { at + length words.now ≤ length core.old }
     ensures { Written words.now core.old core.new at result }
 {
-    let end = at + words.len();
-    core[at..end].copy_from_slice(words);
-    end
+    for i in 0..words.len() {
+        core[at + i] = words[i];
+    }
+    at + words.len()
 }
 
 // The words of a constant: its code and its value, and a decimal's places.

@@ -10,13 +10,17 @@ ghost use Rattle.rule_cells.specs.Made.{Five, Made, MadeLiteral, MadeConstant, M
 
 use crate::cells;
 
-// Five words at the top; answers the new top, which is the cell's reference.
+// Five words at the top; answers the new top, which is the cell's reference. One by one: copied as a slice they would go through memory.
 fn put(work: &mut [u32], top: u32, a: u32, b: u32, c: u32, d: u32, tag: u32) -> u32
     requires { Room work.old top 5 }
     ensures { Five a b c d tag work.old work.new top result }
 {
     let at = top as usize;
-    work[at..at + 5].copy_from_slice(&[a, b, c, d, tag]);
+    work[at] = a;
+    work[at + 1] = b;
+    work[at + 2] = c;
+    work[at + 3] = d;
+    work[at + 4] = tag;
     top + 5
 }
 

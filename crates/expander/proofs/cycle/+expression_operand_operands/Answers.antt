@@ -135,11 +135,10 @@ operands-operand-requires t c =
     let asks = operand-asks o c.args.fuel _ _ _ _ _ _ _ (c.loop-work.invariant o lent) c.requires.2 _ c.word.ensures c.loop-work-test.true _ c.reference-head.ensures in
     (omega (arith, c.decreases, asks.0), (c.requires.0, asks.1, asks.2))
 
-pub operands-returns-in_err-reached : goal.operands-returns-in_err-reached
-operands-returns-in_err-reached t c =
+pub operands-returns-in-Err : goal.operands-returns-in-Err
+operands-returns-in-Err t c =
     let after = tables c.operand.new.work c.operand.new.core c.operand.new.known in
-    let p = err_from_is_err_and c.from_residual.result c.from_residual.ensures.1 in
-    λ o lent. rw (p.1, p.2) (operand-refused o c.args.fuel _ _ _ _ _ _ _ (c.loop-work.invariant o lent) c.requires.2 _ c.word.ensures c.loop-work-test.true _ c.reference-head.ensures after c.operand.result (c.operand.ensures o lent) _ c.in_err-reached.was)
+    λ o lent. operand-refused o c.args.fuel _ _ _ _ _ _ _ (c.loop-work.invariant o lent) c.requires.2 _ c.word.ensures c.loop-work-test.true _ c.reference-head.ensures after c.operand.result (c.operand.ensures o lent) _ c.in-Err.is
 
 pub operands-loop-work-smaller : goal.operands-loop-work-smaller
 operands-loop-work-smaller t c =
@@ -147,12 +146,12 @@ operands-loop-work-smaller t c =
     let o = lends.operations in
     let lent = lends.lent in
     let after = tables c.operand.new.work c.operand.new.core c.operand.new.known in
-    next-falls o c.args.fuel _ _ _ _ _ _ _ (c.loop-work.invariant o lent) c.requires.2 _ c.word.ensures c.loop-work-test.true _ c.reference-head.ensures after c.operand.result (c.operand.ensures o lent) _ c.in_ok-reached.was _ c.reference-list.ensures
+    next-falls o c.args.fuel _ _ _ _ _ _ _ (c.loop-work.invariant o lent) c.requires.2 _ c.word.ensures c.loop-work-test.true _ c.reference-head.ensures after c.operand.result (c.operand.ensures o lent) _ c.in-Ok.is _ c.reference-list.ensures
 
 pub operands-loop-work-preserved : goal.operands-loop-work-preserved
 operands-loop-work-preserved t c =
     let after = tables c.operand.new.work c.operand.new.core c.operand.new.known in
-    λ o lent. operand-walking o c.args.fuel _ _ _ _ _ _ _ (c.loop-work.invariant o lent) c.requires.2 _ c.word.ensures c.loop-work-test.true _ c.reference-head.ensures after c.operand.result (c.operand.ensures o lent) _ c.in_ok-reached.was _ c.reference-list.ensures
+    λ o lent. operand-walking o c.args.fuel _ _ _ _ _ _ _ (c.loop-work.invariant o lent) c.requires.2 _ c.word.ensures c.loop-work-test.true _ c.reference-head.ensures after c.operand.result (c.operand.ensures o lent) _ c.in-Ok.is _ c.reference-list.ensures
 
 pub operands-shape_of-work : goal.operands-shape_of-work
 operands-shape_of-work t c =
