@@ -88,13 +88,12 @@ pub fn gather(
     requires { (length marks.now ≡ mark_words) × (level < depth_most) × (n ≤ pattern_variables_most) }
     ensures { Gathers work.now env.now marks.now level n (Ok before) result }
 {
-    if n == 0 {
-        return Ok(before);
+    let mut so_far = before;
+    for i in 0..n {
+        let k = n - 1 - i;
+        if marks[place(k, level)] == 1 {
+            so_far = lengths::also(Ok(so_far), environment::copies(work, env, k, level))?;
+        }
     }
-    let k = n - 1;
-    if marks[place(k, level)] == 1 {
-        let more = lengths::also(Ok(before), environment::copies(work, env, k, level))?;
-        return gather(work, env, marks, level, k, more);
-    }
-    gather(work, env, marks, level, k, before)
+    Ok(so_far)
 }
