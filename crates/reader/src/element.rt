@@ -70,14 +70,7 @@ pub fn take(
         }
         Token::Number(n) => {
             let kind = number_kind(n.places);
-            put_token(
-                items,
-                place,
-                kind,
-                to_word(n.value),
-                n.places,
-                place.known,
-            )
+            put_token(items, place, kind, to_word(n.value), n.places, place.known)
         }
         Token::Name => put_name(items, names, index, place, &text[lexeme.from..lexeme.next]),
     }

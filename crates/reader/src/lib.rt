@@ -48,7 +48,10 @@ fn read_text(
         known: words::BASE_NAMES,
     };
     while let Some(lexeme) = token_from(text, at) {
-        place = take(text, lexeme, place, items, names, index)?;
+        match take(text, lexeme, place, items, names, index) {
+            Ok(next) => place = next,
+            Err(ground) => return Err(ground),
+        }
         at = lexeme.next;
     }
     place.counts()

@@ -1,5 +1,4 @@
 use Rattle.std.proofs.Common.{arith, refl, ◌∙◌}
-use Rattle.std.proofs.lemmas.Result.{err_from_is_err_and}
 use Rattle.lexer.specs.AnsweredLaws.{answered-told, answered-range, answered-short}
 use Rattle.reader.specs.Code.StepLaws.{holds-sound}
 use Rattle.reader.proofs.OfCode.NameStepLaws.{holds-names}
@@ -25,15 +24,13 @@ take-requires c =
       names_sound = holds-names r.reading c.loop-lexeme.place c.loop-lexeme.items c.loop-lexeme.names r.holds c.loop-lexeme.index r.indexed;
     }
 
-pub returns-in_err-place : goal.returns-in_err-place
-returns-in_err-place c =
+pub returns-in-Err : goal.returns-in-Err
+returns-in-Err c =
     let r = c.loop-lexeme.invariant.3 in
     let l = c.in-Some.lexeme in
     let told = answered-told c.args.text.now c.loop-lexeme.at _ c.token_from.ensures r.high _ c.in-Some.is in
-    let p = err_from_is_err_and c.from_residual.result c.from_residual.ensures.1 in
-    rw (p.1, p.2)
-    (reached-refused c.args.wanted c.args.text.now c.loop-lexeme.items c.loop-lexeme.names c.loop-lexeme.index c.loop-lexeme.place c.loop-lexeme.at r
-    _ l.next told.1 c.take.new.items c.take.new.names c.take.new.index c.take.result c.take.ensures _ c.in_err-place.was)
+    reached-refused c.args.wanted c.args.text.now c.loop-lexeme.items c.loop-lexeme.names c.loop-lexeme.index c.loop-lexeme.place c.loop-lexeme.at r
+    _ l.next told.1 c.take.new.items c.take.new.names c.take.new.index c.take.result c.take.ensures _ c.in-Err.is
 
 pub loop-lexeme-smaller : goal.loop-lexeme-smaller
 loop-lexeme-smaller c =
@@ -50,7 +47,7 @@ loop-lexeme-preserved c =
       c.take.auto.names ∙ c.loop-lexeme.invariant.1,
       c.take.auto.index ∙ c.loop-lexeme.invariant.2,
       reached-on c.args.wanted c.args.text.now c.loop-lexeme.items c.loop-lexeme.names c.loop-lexeme.index c.loop-lexeme.place c.loop-lexeme.at r
-          _ l.next told.1 c.take.new.items c.take.new.names c.take.new.index c.take.result c.take.ensures _ c.in_ok-place.was,
+          _ l.next told.1 c.take.new.items c.take.new.names c.take.new.index c.take.result c.take.ensures _ c.in-Ok.is,
     )
 
 pub returns : goal.returns

@@ -12,8 +12,7 @@ loop-i-init c =
 pub loop-i-preserved : goal.loop-i-preserved
 loop-i-preserved c =
     let a = c.args in
-    let i = c.loop-i.i in
-    (
+    let i = c.loop-i.i in (
       length-set c.loop-i.core (a.at + i) (get_or a.words.now i 0) ∙ c.loop-i.invariant.0,
       omega arith,
       ap (λ (l : List ℕ). set l (a.at + i) (get_or a.words.now i 0)) c.loop-i.invariant.2 ∙ paste_more a.core.now a.at a.words.now i (omega (arith, c.requires)) (omega arith),

@@ -19,8 +19,7 @@ loop-i-init c =
 pub loop-i-preserved : goal.loop-i-preserved
 loop-i-preserved c =
     let a = c.args in
-    let i = c.loop-i.i in
-    (
+    let i = c.loop-i.i in (
       length-set c.loop-i.out (a.at + i) (get_or a.src.now i 0) ∙ c.loop-i.invariant.0,
       omega arith,
       ap (λ (l : List ℕ). set l (a.at + i) (get_or a.src.now i 0)) c.loop-i.invariant.2 ∙ paste_more a.out.now a.at a.src.now i (omega arith) (omega arith),
